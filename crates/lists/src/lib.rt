@@ -1,0 +1,1 @@
+// Laws of lists stand in specs/. There is no code here.

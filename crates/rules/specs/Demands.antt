@@ -1,0 +1,119 @@
+-- The three demands, as statements about any functions that stand for what the calls answer and write.
+-- Theorems.antt proves them of the very functions that the calls' contracts cite.
+use mathlib.Core.Path.{_≡_}
+use mathlib.Core.Logic.{_↔_}
+use mathlib.Core.List.{List, [], _∷_, _++_}
+use Prim.Native.Nat.{ℕ, _+_, _-_, _*_, _≤_, _<_}
+use lib.ListN.{length, getD}
+use lib.IntN.{ℤ, pos}
+use lib.Signed.{_≤ℤ_}
+use Rattle.lists.specs.Every.{Every}
+use Rattle.rules.specs.Rule.{Rule, size}
+use Rattle.rules.specs.Grammar.{Says}
+use Rattle.rules.specs.Table.{Node, Good, tableBytes, nodesOf, ruleAt, root}
+use Rattle.rules.specs.Truth.{Holds, endless, bitAt, TruthByte, TruthBytes}
+use Rattle.rules.specs.Rows.{Row, Meets, valueAt, atomVariable, rowsOf, rowsBytes, rowsIn, goalRow}
+use Rattle.rules.specs.Judge.{Lowest, None, Verdict, Judged}
+use Rattle.rules.specs.Refusals.{SlotsAllowed, RunGood, TextRefused, ReadRefused, EvaluateRefused, RowsRefused, JudgeRefused}
+
+-- What a call answers: "A refusal returns its number and changes no byte."
+pub data Answer (A : Type 0) : Type 0 where
+  refused : ℕ → Answer A
+  answered : A → Answer A
+
+-- A result, and the bytes written from the start of the lent buffer: "On success, bytes past the output keep their content."
+pub data Written : Type 0 where
+  wrote : ℕ → List ℕ → Written
+
+-- Demands 1 and 2. "Where several apply, the lowest wins, and none is returned otherwise": refused with k exactly when k is the lowest
+-- that applies, and answered exactly when none does, with what `Is` says.
+pub record Exact {A : Type 0} (Refused : ℕ → Type 0) (Is : A → Type 0) (answer : Answer A) : Type 0 where
+  pub refuses : (k : ℕ) → (answer ≡ refused k) ↔ Lowest Refused k
+  pub answers : (x : A) → (answer ≡ answered x) ↔ (None Refused × Is x)
+
+abbrev pub ReaderExact : ((M : ℕ) (text : List ℕ) (room : ℕ) → Answer Written) → Type 0
+ReaderExact read =
+    (M : ℕ) (text : List ℕ) (room : ℕ) →
+    Exact (ReadRefused M text room) (λ w. (p : Rule) × Says text p × (w ≡ wrote (size p) (tableBytes (nodesOf p)))) (read M text room)
+
+-- "It accepts exactly the grammar, by one reading."
+abbrev pub OneReading : Type 0
+OneReading = (text : List ℕ) (p q : Rule) → Says text p → Says text q → p ≡ q
+
+-- "Its result is the root's truth at slot 1."
+abbrev pub EvaluatorExact : ((T M : ℕ) (table run : List ℕ) (room : ℕ) → Answer Written) → Type 0
+EvaluatorExact evaluate =
+    (T M : ℕ) (table run : List ℕ) (room : ℕ) →
+    Exact (EvaluateRefused T M table run room)
+    (λ w. (ns : List Node) × (v : ℕ) × (bytes : List ℕ) × Good M table ns × TruthBytes T run ns bytes × TruthByte (Holds (endless T run) (ruleAt ns (root ns)) 1) v × (w ≡ wrote v bytes))
+    (evaluate T M table run room)
+
+-- "The result is the row count."
+abbrev pub RowsExact : ((T M : ℕ) (table : List ℕ) (room : ℕ) → Answer Written) → Type 0
+RowsExact rows =
+    (T M : ℕ) (table : List ℕ) (room : ℕ) →
+    Exact (RowsRefused T M table room)
+    (λ w. (ns : List Node) × Good M table ns × (w ≡ wrote (length (rowsOf T M ns)) (rowsBytes (rowsOf T M ns))))
+    (rows T M table room)
+
+abbrev pub JudgeExact : ((T M : ℕ) (table : List ℕ) (figures : List ℤ) (tolerance : ℤ) → Answer Verdict) → Type 0
+JudgeExact judge =
+    (T M : ℕ) (table : List ℕ) (figures : List ℤ) (tolerance : ℤ) →
+    Exact (JudgeRefused T M table figures tolerance)
+    (λ v. (ns : List Node) × (e : ℕ) × Good M table ns × (tolerance ≡ pos e) × Judged T M e ns figures v)
+    (judge T M table figures tolerance)
+
+-- ---- demand 3
+
+-- "an atom's variable at slot t has the numerator D when its bit in the run's number for t is set, otherwise 0"
+pub record AtomNumerators (T M D : ℕ) (run : List ℕ) (atoms : List ℤ) : Type 0 where
+  pub count : length atoms ≡ M * T
+  pub at : (a t : ℕ) → a < M → 1 ≤ t → t ≤ T → valueAt atoms (atomVariable T a t) ≡ pos (bitAt run t a * D)
+
+-- One way to give each slack a whole numerator that meets the limits and the rows: "A slack meets the limits when its numerator is from 0 to D."
+pub record Fits (D count : ℕ) (atoms : List ℤ) (rows : List Row) (slacks : List ℤ) : Type 0 where
+  pub counted : length slacks ≡ count
+  pub limits : (v : ℕ) → v < length slacks → (pos 0 ≤ℤ valueAt slacks v) × (valueAt slacks v ≤ℤ pos D)
+  pub meets : Every (Meets D (atoms ++ slacks)) rows
+
+-- Of the nodes ns, all rows but the goal row, and the goal row: "exactly one meets the limits and every row but the goal row; in it each part
+-- of the rule has 1 where it holds and 0 where not; it meets the goal row exactly when the rule holds at slot 1".
+-- "A part has 1 at a slot when its numerator there is D, and 0 when it is 0."
+pub record OnlyTheTruth (T M D : ℕ) (run : List ℕ) (ns : List Node) (rows : List Row) (goal : Row) : Type 0 where
+  pub atoms : List ℤ
+  pub atoms-are : AtomNumerators T M D run atoms
+  pub slacks : List ℤ
+  pub fits : Fits D (length ns * T) atoms rows slacks
+  pub only : (others : List ℤ) → Fits D (length ns * T) atoms rows others → others ≡ slacks
+  pub one : (n t : ℕ) → n < length ns → 1 ≤ t → t ≤ T → Holds (endless T run) (ruleAt ns n) t → valueAt slacks (n * T + (t - 1)) ≡ pos D
+  pub zero : (n t : ℕ) → n < length ns → 1 ≤ t → t ≤ T → (Holds (endless T run) (ruleAt ns n) t → ⊥) → valueAt slacks (n * T + (t - 1)) ≡ pos 0
+  pub goal-met : Meets D (atoms ++ slacks) goal ↔ Holds (endless T run) (ruleAt ns (root ns)) 1
+
+-- The bytes that the three calls write, for the rule p: the table is p's, its rows are read back from the row writer's bytes,
+-- and the evaluator's bytes are the numerators over D.
+pub record Demand3At (T M D : ℕ) (run : List ℕ) (p : Rule) (table : List ℕ) (count : ℕ) (written : List ℕ) (answer : ℕ) (truth : List ℕ) : Type 0 where
+  pub table-is : table ≡ tableBytes (nodesOf p)
+  pub root-is : ruleAt (nodesOf p) (root (nodesOf p)) ≡ p
+  pub rows : List Row
+  pub goal : Row
+  pub rows-read : rowsIn count written ≡ rows ++ (goal ∷ [])
+  pub truthful : OnlyTheTruth T M D run (nodesOf p) rows goal
+  pub evaluated : (n t : ℕ) → n < size p → 1 ≤ t → t ≤ T → valueAt (truthful .slacks) (n * T + (t - 1)) ≡ pos (getD truth (n * T + (t - 1)) 0 * D)
+  pub answered : (answer ≡ 1) ↔ Holds (endless T run) p 1
+
+-- "A text gives no ground to refuse when no refusal of the reader on M or the text applies. Every output buffer is taken to be long enough
+-- for its output, and the table handed on is the reader's output alone."
+abbrev pub Demand3 :
+    ((M : ℕ) (text : List ℕ) (room : ℕ) → Answer Written) →
+    ((T M : ℕ) (table : List ℕ) (room : ℕ) → Answer Written) →
+    ((T M : ℕ) (table run : List ℕ) (room : ℕ) → Answer Written) → Type 0
+Demand3 read rows evaluate =
+    (M : ℕ) (text : List ℕ) → None (TextRefused M text) →
+    (T D : ℕ) (run : List ℕ) → SlotsAllowed T → RunGood T M run → 1 ≤ D →
+    (p : Rule) × Says text p ×
+    ((room₁ room₂ room₃ : ℕ) → 5 * size p ≤ room₁ → 14 * length (rowsOf T M (nodesOf p)) ≤ room₂ → size p * T ≤ room₃ →
+    (table written truth : List ℕ) × (count answer : ℕ) ×
+    (read M text room₁ ≡ answered (wrote (size p) table)) ×
+    (rows T M table room₂ ≡ answered (wrote count written)) ×
+    (evaluate T M table run room₃ ≡ answered (wrote answer truth)) ×
+    Demand3At T M D run p table count written answer truth)

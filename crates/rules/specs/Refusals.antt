@@ -1,0 +1,57 @@
+-- "Refusals by number": which refusals apply to a call, a constructor for each line of the table.
+use mathlib.Core.Path.{_≡_}
+use mathlib.Core.List.{List}
+use Prim.Native.Nat.{ℕ, _+_, _*_, _^_, _≤_, _<_}
+use lib.ListN.{length, getD}
+use lib.IntN.{ℤ, pos}
+use Rattle.rules.specs.Rule.{Rule, size, AtomsBelow}
+use Rattle.rules.specs.Grammar.{Says}
+use Rattle.rules.specs.Table.{Node, Good}
+use Rattle.rules.specs.Rows.{rowsOf}
+
+-- "Horizon T: slots 1 to 64."
+abbrev pub SlotsAllowed : ℕ → Type 0
+SlotsAllowed T = (1 ≤ T) × (T ≤ 64)
+
+-- "Atom count M: 1 to 16."
+abbrev pub AtomsAllowed : ℕ → Type 0
+AtomsAllowed M = (1 ≤ M) × (M ≤ 16)
+
+-- "run not T numbers, or a bit at M or above set"
+pub record RunGood (T M : ℕ) (run : List ℕ) : Type 0 where
+  pub numbers : length run ≡ T
+  pub bits : (i : ℕ) → i < length run → getD run i 0 < 2 ^ M
+
+-- read, on M or the text; `text` is at most 1,024 bytes and its rule has at most 128 nodes
+pub data TextRefused (M : ℕ) (text : List ℕ) : ℕ → Type 0 where
+  atoms : (AtomsAllowed M → ⊥) → TextRefused M text 2
+  long : 1024 < length text → TextRefused M text 3
+  no-rule : ((p : Rule) → Says text p → ⊥) → TextRefused M text 4
+  atom-high : {p : Rule} → Says text p → (AtomsBelow M p → ⊥) → TextRefused M text 5
+  nodes : {p : Rule} → Says text p → 128 < size p → TextRefused M text 6
+
+-- read; `room` is the length of the lent buffer
+pub data ReadRefused (M : ℕ) (text : List ℕ) (room : ℕ) : ℕ → Type 0 where
+  text-refused : {k : ℕ} → TextRefused M text k → ReadRefused M text room k
+  short : {p : Rule} → Says text p → room < 5 * size p → ReadRefused M text room 11
+
+-- all but read, on T, M and the table
+pub data TableRefused (T M : ℕ) (table : List ℕ) : ℕ → Type 0 where
+  slots : (SlotsAllowed T → ⊥) → TableRefused T M table 1
+  atoms : (AtomsAllowed M → ⊥) → TableRefused T M table 2
+  not-good : ((ns : List Node) → Good M table ns → ⊥) → TableRefused T M table 7
+
+pub data EvaluateRefused (T M : ℕ) (table run : List ℕ) (room : ℕ) : ℕ → Type 0 where
+  table-refused : {k : ℕ} → TableRefused T M table k → EvaluateRefused T M table run room k
+  run-bad : (RunGood T M run → ⊥) → EvaluateRefused T M table run room 8
+  short : {ns : List Node} → Good M table ns → room < length ns * T → EvaluateRefused T M table run room 11
+
+pub data RowsRefused (T M : ℕ) (table : List ℕ) (room : ℕ) : ℕ → Type 0 where
+  table-refused : {k : ℕ} → TableRefused T M table k → RowsRefused T M table room k
+  short : {ns : List Node} → Good M table ns → room < 14 * length (rowsOf T M ns) → RowsRefused T M table room 11
+
+-- `tolerance` as it is passed: any whole number
+pub data JudgeRefused (T M : ℕ) (table : List ℕ) (figures : List ℤ) (tolerance : ℤ) : ℕ → Type 0 where
+  table-refused : {k : ℕ} → TableRefused T M table k → JudgeRefused T M table figures tolerance k
+  miscounted : {ns : List Node} → Good M table ns → (length figures ≡ (M + length ns) * T → ⊥) → JudgeRefused T M table figures tolerance 9
+  tolerance-bad : ((e : ℕ) → e ≤ 1000 → tolerance ≡ pos e → ⊥) → JudgeRefused T M table figures tolerance 10

@@ -1,0 +1,54 @@
+-- "Truth", over a run that repeats its last slot for good (a finite trace that stutters in its last state).
+use mathlib.Core.Path.{_≡_}
+use mathlib.Core.Logic.{_⊎_}
+use mathlib.Core.List.{List}
+use Prim.Native.Nat.{ℕ, _+_, _-_, _*_, _/_, _%_, _^_, _≤_, _<_, min}
+use lib.ListN.{length, getD}
+use Rattle.rules.specs.Rule.{Unary, Binary, Rule}
+use Rattle.rules.specs.Rule.Unary.{not, eventually, always}
+use Rattle.rules.specs.Rule.Binary.{and, or, implies, until}
+use Rattle.rules.specs.Rule.Rule.{atom, unary, binary}
+use Rattle.rules.specs.Table.{Node, ruleAt}
+
+-- "Run: T numbers of 16 bits, one per slot; bit a (value 2 to the power a) is the truth of atom a." "Slot numbers start at 1."
+abbrev pub bitAt : List ℕ → ℕ → ℕ → ℕ
+bitAt run t a = getD run (t - 1) 0 / 2 ^ a % 2
+
+-- "A slot after T has the atoms of slot T."
+abbrev pub slotOf : ℕ → ℕ → ℕ
+slotOf T k = min k T
+
+-- An endless run: whether atom a is true at time k.
+abbrev pub Endless : Type 1
+Endless = ℕ → ℕ → Type 0
+
+abbrev pub endless : ℕ → List ℕ → Endless
+endless T run k a = bitAt run (slotOf T k) a ≡ 1
+
+-- "F p holds at t when p holds at some k ≥ t. G p: at every k ≥ t."
+abbrev pub HoldsUnary : Unary → (ℕ → Type 0) → ℕ → Type 0
+HoldsUnary not P t = P t → ⊥
+HoldsUnary eventually P t = (k : ℕ) × (t ≤ k) × P k
+HoldsUnary always P t = (k : ℕ) → t ≤ k → P k
+
+-- "p U q: q holds at some k ≥ t and p at each j with t ≤ j < k. The rest as usual."
+abbrev pub HoldsBinary : Binary → (ℕ → Type 0) → (ℕ → Type 0) → ℕ → Type 0
+HoldsBinary and P Q t = P t × Q t
+HoldsBinary or P Q t = P t ⊎ Q t
+HoldsBinary implies P Q t = P t → Q t
+HoldsBinary until P Q t = (k : ℕ) × (t ≤ k) × Q k × ((j : ℕ) → t ≤ j → j < k → P j)
+
+abbrev pub Holds : Endless → Rule → ℕ → Type 0
+Holds w (atom a) t = w t a
+Holds w (unary u p) t = HoldsUnary u (Holds w p) t
+Holds w (binary o p q) t = HoldsBinary o (Holds w p) (Holds w q) t
+
+-- "one byte, 0 or 1": 1 where P holds and 0 where not
+pub data TruthByte (P : Type 0) : ℕ → Type 0 where
+  true : P → TruthByte P 1
+  false : (P → ⊥) → TruthByte P 0
+
+-- "The evaluator writes one byte, 0 or 1, for node n and slot t at place n·T + t − 1."
+pub record TruthBytes (T : ℕ) (run : List ℕ) (ns : List Node) (bytes : List ℕ) : Type 0 where
+  pub count : length bytes ≡ length ns * T
+  pub at : (n t : ℕ) → n < length ns → 1 ≤ t → t ≤ T → TruthByte (Holds (endless T run) (ruleAt ns n) t) (getD bytes (n * T + (t - 1)) 0)
