@@ -1,2 +1,4 @@
+pub mod Tests
+pub mod All
 pub mod Every
 pub mod Tabulate
