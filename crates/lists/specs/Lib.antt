@@ -1,4 +1,5 @@
 pub mod Tests
 pub mod All
 pub mod Every
+pub mod First
 pub mod Tabulate

@@ -64,6 +64,11 @@ bitSet run t a = eqb (bitAt run t a) 1
 unfoldable pub truth : ℕ → List ℕ → Rule → ℕ → Bool
 truth T run p t = truthFrom (λ d. bitSet run (T - d)) p (T - t)
 
+-- a truth as a byte
+abbrev pub bitOf : Bool → ℕ
+bitOf true = 1
+bitOf false = 0
+
 -- ---- operators kind by kind: P is a part's truth at every time, f its test by the distance from the last slot
 
 module _ (T : ℕ) (P : ℕ → Type 0) (f : ℕ → Bool) (e : (k : ℕ) → P k ↔ Is (f (T - k))) where
