@@ -1,0 +1,25 @@
+-- What an answer says: "Where an answer is an enum, a definition gives this paper's number and values for each of its cases."
+use Prim.Native.Nat.{ℕ}
+use Rattle.rules.specs.Demands
+use Rattle.answers.specs.declared.Refusal.{Refusal}
+use Rattle.answers.specs.declared.Refusal.the-variants.{Slots, Atoms, LongText, Grammar, AtomNumber, Nodes, Table, Run, Figures, Tolerance, Room}
+use Rattle.answers.specs.declared.Answer.{Answer}
+use Rattle.answers.specs.declared.Answer.the-variants.{Value, Refused}
+
+-- "Refusals by number"
+abbrev pub numberOf : Refusal → ℕ
+numberOf Slots = 1
+numberOf Atoms = 2
+numberOf LongText = 3
+numberOf Grammar = 4
+numberOf AtomNumber = 5
+numberOf Nodes = 6
+numberOf Table = 7
+numberOf Run = 8
+numberOf Figures = 9
+numberOf Tolerance = 10
+numberOf Room = 11
+
+abbrev pub told : Answer → Demands.Answer ℕ
+told (Value n) = Demands.Answer.answered n
+told (Refused r) = Demands.Answer.refused (numberOf r)

@@ -1,0 +1,43 @@
+// What the calls answer: a result, or a refusal.
+ghost use mathlib.Core.Path.{_≡_};
+ghost use Rattle.answers.specs.Told.{numberOf};
+
+// The refusals of document 01, in the order of their numbers, 1 to 11.
+pub enum Refusal {
+    Slots,
+    Atoms,
+    LongText,
+    Grammar,
+    AtomNumber,
+    Nodes,
+    Table,
+    Run,
+    Figures,
+    Tolerance,
+    Room,
+}
+
+// A result, or the refusal.
+pub enum Answer {
+    Value(usize),
+    Refused(Refusal),
+}
+
+// Document 01's number of a refusal.
+pub fn number(r: Refusal) -> u32
+    ensures { λ n. ⌜ n ≡ numberOf r ⌝ }
+{
+    match r {
+        Refusal::Slots => 1,
+        Refusal::Atoms => 2,
+        Refusal::LongText => 3,
+        Refusal::Grammar => 4,
+        Refusal::AtomNumber => 5,
+        Refusal::Nodes => 6,
+        Refusal::Table => 7,
+        Refusal::Run => 8,
+        Refusal::Figures => 9,
+        Refusal::Tolerance => 10,
+        Refusal::Room => 11,
+    }
+}
