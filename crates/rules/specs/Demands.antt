@@ -12,7 +12,7 @@ use Rattle.rules.specs.Rule.{Rule, size}
 use Rattle.rules.specs.Grammar.{Says}
 use Rattle.rules.specs.Table.{Node, Good, tableBytes, nodesOf, ruleAt, root}
 use Rattle.rules.specs.Truth.{Holds, endless, bitAt, TruthByte, TruthBytes}
-use Rattle.rules.specs.Rows.{Row, Meets, valueAt, atomVariable, rowsOf, rowsBytes, rowsIn, goalRow}
+use Rattle.rules.specs.Rows.{Row, Meets, valueAt, atomVariable, rowsOf, rowsBytes, rowsIn}
 use Rattle.rules.specs.Judge.{Lowest, None, Verdict, Judged}
 use Rattle.rules.specs.Refusals.{SlotsAllowed, RunGood, TextRefused, ReadRefused, EvaluateRefused, RowsRefused, JudgeRefused}
 

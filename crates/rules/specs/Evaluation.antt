@@ -1,13 +1,12 @@
 -- The truth of a rule at a slot, computed from the last slot backwards, and that it is the truth of Truth.antt.
-use mathlib.Core.Path.{_≡_, refl, sym, ap, ap₂, subst, _∙_}
+use mathlib.Core.Path.{_≡_, refl, sym, ap, subst, _∙_}
 use mathlib.Core.Bool.{Bool, true, false, not as notb, cond, _&&_, _||_}
-use mathlib.Core.Logic.{_↔_, _⊎_, inl, inr, ⊎-elim, ⊎-map}
+use mathlib.Core.Logic.{_↔_, ⊎-elim, ⊎-map}
 use mathlib.Core.List.{List}
-use Prim.Native.Nat.{ℕ, zero, suc, _+_, _-_, _≤_, _<_, pred, min}
+use Prim.Native.Nat.{ℕ, zero, suc, _+_, _-_, _≤_, _<_, pred}
 use native.Mathlib.Nat.{add-zero, add-suc, suc-add, eq-or-lt-of-le}
-use native.Mathlib.Numerals.{add-one}
 use native.Mathlib.Omega.{arith}
-use lib.Dec.{T as Is, eqb, ltb, ltb→lt, nltb→le, eqb→eq, eqb-refl}
+use lib.Dec.{T as Is, eqb, ltb, ltb→lt, nltb→le, eqb→eq}
 use lib.ListN.{length}
 use Rattle.lists.specs.Tests.{or-cases, or-left, or-right, and-left, and-right, and-both, not-iff, imp-iff}
 use Rattle.rules.specs.Rule.{Unary, Binary, Rule}
@@ -184,11 +183,13 @@ from-holds T w on h (unary u p) k = unary-holds T (Holds w p) (truthFrom on p) (
 from-holds T w on h (binary o p q) k =
     binary-holds T (Holds w p) (Holds w q) (truthFrom on p) (truthFrom on q) (from-holds T w on h p) (from-holds T w on h q) o k
 
+bit-iff : (x : ℕ) → (x ≡ 1) ↔ Is (eqb x 1)
+bit-iff x = (λ h. rw h tt, λ t. eqb→eq x 1 t)
+
 bit-at : (T : ℕ) (run : List ℕ) (k a : ℕ) → endless T run k a ↔ Is (bitSet run (T - (T - k)) a)
-bit-at T run k a = subst (λ (s : ℕ). endless T run k a ↔ Is (bitSet run s a)) slot (λ h. rw h tt, λ t. eqb→eq (bitAt run (slotOf T k) a) 1 t)
-  where
-    slot : min k T ≡ T - (T - k)
-    slot = omega arith
+bit-at T run k a =
+    let slot : slotOf T k ≡ T - (T - k) = omega arith in
+    subst (λ (s : ℕ). endless T run k a ↔ Is (bitSet run s a)) slot (bit-iff (bitAt run (slotOf T k) a))
 
 -- the computed truth is the truth
 pub truth-holds : (T : ℕ) (run : List ℕ) (p : Rule) (t : ℕ) → Holds (endless T run) p t ↔ Is (truth T run p t)

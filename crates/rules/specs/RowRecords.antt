@@ -1,12 +1,12 @@
 -- Row records: their length, and that reading the records of a table's rows back gives the rows.
-use mathlib.Core.Path.{_≡_, refl, sym, ap, ap₂, _∙_}
+use mathlib.Core.Path.{_≡_, refl, ap, ap₂, _∙_}
 use mathlib.Core.Bool.{Bool, true, false, cond}
 use mathlib.Core.List.{List, [], _∷_, _++_}
-use Prim.Native.Nat.{ℕ, zero, suc, _+_, _-_, _*_, _/_, _%_, _≤_, _<_}
+use Prim.Native.Nat.{ℕ, zero, suc, _+_, _-_, _*_, _≤_, _<_}
 use native.Mathlib.Omega.{arith}
 use lib.Dec.{ltb}
 use borrow.Author.Tests.{lt-ltb, le-ltb}
-use lib.ListN.{length, take, drop, replicate, length-append, length-replicate}
+use lib.ListN.{length, replicate, length-append, length-replicate}
 use lib.Seq.{take-at, drop-at}
 use lib.IntN.{ℤ, pos, negsuc}
 use Rattle.lists.specs.Every.{Every, every-append}
@@ -15,7 +15,7 @@ use Rattle.rules.specs.Rule.Unary.{not, eventually, always}
 use Rattle.rules.specs.Rule.Binary.{and, or, implies, until}
 use Rattle.rules.specs.Table.{Node}
 use Rattle.rules.specs.Table.Node.{atom, unary, binary}
-use Rattle.rules.specs.Rows.{Relation, Term, Row, signedByte, signedIn, relationByte, relationIn, termBytes, termsBytes, termsIn, rowBytes, rowIn, rowsBytes, rowsIn, unaryRows, binaryRows, rowsAt, slotsRows, nodesRows, slackRows, goalRow, rowsOf}
+use Rattle.rules.specs.Rows.{Relation, Term, Row, signedByte, signedIn, relationByte, relationIn, termsBytes, termsIn, rowBytes, rowIn, rowsBytes, rowsIn, unaryRows, binaryRows, rowsAt, slotsRows, nodesRows, slackRows, goalRow, rowsOf}
 use Rattle.rules.specs.Rows.Relation.{at-least, equal}
 
 -- ---- a record

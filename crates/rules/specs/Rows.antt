@@ -57,32 +57,19 @@ notRows P p = eq (plus P ∷ plus p ∷ []) (pos 1) ∷ []
 
 -- "p − P ≥ 0; q − P ≥ 0; P − p − q ≥ −1"
 abbrev pub andRows : (P p q : ℕ) → List Row
-andRows P p q =
-    ge (plus p ∷ minus P ∷ []) (pos 0) ∷
-    ge (plus q ∷ minus P ∷ []) (pos 0) ∷
-    ge (plus P ∷ minus p ∷ minus q ∷ []) (negsuc 0) ∷ []
+andRows P p q = ge (plus p ∷ minus P ∷ []) (pos 0) ∷ ge (plus q ∷ minus P ∷ []) (pos 0) ∷ ge (plus P ∷ minus p ∷ minus q ∷ []) (negsuc 0) ∷ []
 
 -- "P − p ≥ 0; P − q ≥ 0; p + q − P ≥ 0"
 abbrev pub orRows : (P p q : ℕ) → List Row
-orRows P p q =
-    ge (plus P ∷ minus p ∷ []) (pos 0) ∷
-    ge (plus P ∷ minus q ∷ []) (pos 0) ∷
-    ge (plus p ∷ plus q ∷ minus P ∷ []) (pos 0) ∷ []
+orRows P p q = ge (plus P ∷ minus p ∷ []) (pos 0) ∷ ge (plus P ∷ minus q ∷ []) (pos 0) ∷ ge (plus p ∷ plus q ∷ minus P ∷ []) (pos 0) ∷ []
 
 -- "P + p ≥ 1; P − q ≥ 0; q − p − P ≥ −1"
 abbrev pub impliesRows : (P p q : ℕ) → List Row
-impliesRows P p q =
-    ge (plus P ∷ plus p ∷ []) (pos 1) ∷
-    ge (plus P ∷ minus q ∷ []) (pos 0) ∷
-    ge (plus q ∷ minus p ∷ minus P ∷ []) (negsuc 0) ∷ []
+impliesRows P p q = ge (plus P ∷ plus p ∷ []) (pos 1) ∷ ge (plus P ∷ minus q ∷ []) (pos 0) ∷ ge (plus q ∷ minus p ∷ minus P ∷ []) (negsuc 0) ∷ []
 
 -- "P − q ≥ 0; p + q − P ≥ 0; q + P' − P ≥ 0; P − p − P' ≥ −1"
 abbrev pub untilRows : (P p q P′ : ℕ) → List Row
-untilRows P p q P′ =
-    ge (plus P ∷ minus q ∷ []) (pos 0) ∷
-    ge (plus p ∷ plus q ∷ minus P ∷ []) (pos 0) ∷
-    ge (plus q ∷ plus P′ ∷ minus P ∷ []) (pos 0) ∷
-    ge (plus P ∷ minus p ∷ minus P′ ∷ []) (negsuc 0) ∷ []
+untilRows P p q P′ = ge (plus P ∷ minus q ∷ []) (pos 0) ∷ ge (plus p ∷ plus q ∷ minus P ∷ []) (pos 0) ∷ ge (plus q ∷ plus P′ ∷ minus P ∷ []) (pos 0) ∷ ge (plus P ∷ minus p ∷ minus P′ ∷ []) (negsuc 0) ∷ []
 
 -- Kinds 2, 6 and 7; `inner` is whether t < T. At t < T kind 6 has the rows of "or" over p and P', kind 7 those of "and". "6 and 7, t = T: P − p = 0".
 abbrev pub unaryRows : Unary → (inner : Bool) → (P p P′ : ℕ) → List Row

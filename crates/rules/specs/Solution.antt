@@ -3,3 +3,4 @@ pub mod Integers
 pub mod Families
 pub mod Ranked
 pub mod Truths
+pub mod Bytes

@@ -1,12 +1,12 @@
 -- The rules that a table's nodes stand for; the table of a rule is good, and its root stands for the rule.
 use mathlib.Core.Path.{_≡_, refl, sym, ap, ap₂, subst, _∙_}
-use mathlib.Core.List.{List, [], _∷_, _++_, append-assoc}
+use mathlib.Core.List.{List, [], _∷_, _++_}
 use Prim.Native.Nat.{ℕ, zero, suc, _+_, _-_, _≤_, _<_}
 use native.Mathlib.Decide.{decLt}
 use native.Mathlib.Omega.{arith}
-use lib.ListN.{length, getD, length-append, List·getD-append}
+use lib.ListN.{length, length-append, List·getD-append}
 use lib.Seq.{getD-append-add}
-use Rattle.rules.specs.Rule.{Unary, Binary, Rule, size, AtomsBelow}
+use Rattle.rules.specs.Rule.{Rule, size, AtomsBelow}
 use Rattle.rules.specs.Rule.Rule.{atom, unary, binary}
 use Rattle.rules.specs.Table.{Node, NodeGood, Good, tableBytes, nodesFrom, nodesOf, nodeAt, grow, ruleTo, ruleAt, root}
 
@@ -114,7 +114,7 @@ module _ (M : ℕ) (ns : List Node) (good : NodesGood M ns) where
       ap (ruleAt ns) (omega arith)
       ∙ last-is (k + size p + size q) top (has-right ns (k + size p) (size q) (nodesFrom (k + size p) q) (top ∷ []) (length-nodesFrom (k + size p) q) right) (omega arith)
       ∙ ap₂ (binary o) (stands p k (has-left ns k (nodesFrom k p) behind h) (omega arith))
-        (stands q (k + size p) (has-left ns (k + size p) (nodesFrom (k + size p) q) (top ∷ []) right) (omega arith))
+      (stands q (k + size p) (has-left ns (k + size p) (nodesFrom (k + size p) q) (top ∷ []) right) (omega arith))
 
 pub root-is : (M : ℕ) (p : Rule) → AtomsBelow M p → ruleAt (nodesOf p) (root (nodesOf p)) ≡ p
 root-is M p h =

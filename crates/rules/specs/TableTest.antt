@@ -1,14 +1,13 @@
 -- Whether bytes are a good table, as a test of each record in turn, and the nodes that they are the records of.
-use mathlib.Core.Path.{_≡_, refl, sym, ap, ap₂, subst, _∙_}
-use mathlib.Core.Logic.{_↔_}
+use mathlib.Core.Path.{_≡_, refl, sym, ap, subst, _∙_}
 use mathlib.Core.Bool.{Bool, true, false, cond, _&&_}
 use mathlib.Core.List.{List, [], _∷_, _++_}
 use mathlib.Core.Option.{Option, none, some}
-use Prim.Native.Nat.{ℕ, zero, suc, _+_, _-_, _*_, _/_, _%_, _≤_, _<_}
-use native.Mathlib.Nat.{add-zero, zero-add}
+use Prim.Native.Nat.{ℕ, zero, suc, _+_, _*_, _/_, _%_, _<_}
+use native.Mathlib.Nat.{zero-add}
 use native.Mathlib.Omega.{arith}
 use lib.Dec.{T as Is, leb, ltb, eqb, leb→le, le→leb, ltb→lt, lt→ltb, eqb→eq, eqb-refl}
-use lib.ListN.{length, getD, drop, length-append, length-drop}
+use lib.ListN.{length, getD}
 use lib.Seq.{ext-getD, getD-append-add}
 use Rattle.lists.specs.Tests.{and-left, and-right, and-both}
 use Rattle.lists.specs.All.{all, all-iff}
@@ -175,8 +174,7 @@ record-sound M bytes n t =
     let b : ℕ → ℕ = byteAt bytes n in
     let marks = and-left (eqb (b 0) 0x4E && eqb (b 1) 0x44) (someGood M n (b 4) (nodeIn (b 2) (b 3) (b 4))) t in
     let rest = and-right (eqb (b 0) 0x4E && eqb (b 1) 0x44) (someGood M n (b 4) (nodeIn (b 2) (b 3) (b 4))) t in
-    let f = some-fields M n (b 2) (b 3) (b 4) (nodeIn (b 2) (b 3) (b 4)) refl rest in
-    (
+    let f = some-fields M n (b 2) (b 3) (b 4) (nodeIn (b 2) (b 3) (b 4)) refl rest in (
       record {
         is = five (λ i. byteAt bytes n i ≡ getD (nodeBytes (nodeFrom bytes n)) i 0)
             (eqb→eq (b 0) 0x4E (and-left (eqb (b 0) 0x4E) (eqb (b 1) 0x44) marks)) (eqb→eq (b 1) 0x44 (and-right (eqb (b 0) 0x4E) (eqb (b 1) 0x44) marks))
@@ -189,7 +187,7 @@ record-complete : (M : ℕ) (bytes : List ℕ) (n : ℕ) (nd : Node) → RecordA
 unfolding recordGood
 record-complete M bytes n nd r h =
     let e : nodeIn (byteAt bytes n 2) (byteAt bytes n 3) (byteAt bytes n 4) ≡ some nd =
-        rw (r .is 2 (omega arith), r .is 3 (omega arith), r .is 4 (omega arith)) (node-back nd) in
+    rw (r .is 2 (omega arith), r .is 3 (omega arith), r .is 4 (omega arith)) (node-back nd) in
     (rw (e, r .is 0 (omega arith), r .is 1 (omega arith), r .is 4 (omega arith)) (good-test M n nd h), ap orAtom e)
 
 -- ---- all records
@@ -249,7 +247,7 @@ module _ (M : ℕ) (bytes : List ℕ) where
       let hi = leb→le N 128 (and-right (leb 1 N) (leb N 128) b) in
       let l = length-nodesIn in
       let each : (n : ℕ) → n < N → RecordAt bytes n (nodeFrom bytes n) × NodeGood M n (nodeFrom bytes n) =
-          λ n h. record-sound M bytes n (all-iff (recordGood M bytes) N .0 (and-right sizes (all (recordGood M bytes) N) t) n h) in
+      λ n h. record-sound M bytes n (all-iff (recordGood M bytes) N .0 (and-right sizes (all (recordGood M bytes) N) t) n h) in
       record {
         records = bytes-are bytes (nodesIn bytes) (sym w ∙ ap (λ (k : ℕ). 5 * k) (sym l)) (λ n h. let k : n < N = omega arith in rw (node-is n k) (each n k .0));
         some = omega arith;

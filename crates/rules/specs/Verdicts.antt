@@ -1,10 +1,10 @@
 -- The verdict, computed: the first variable outside, the first atom variable that is not binary, the first broken row. It is the verdict of Judge.antt.
-use mathlib.Core.Path.{_≡_, refl, sym, ap, subst, _∙_}
-use mathlib.Core.Bool.{Bool, true, false, _&&_, _||_}
-use mathlib.Core.Logic.{_↔_, _⊎_, inl, inr, ⊎-elim}
+use mathlib.Core.Path.{_≡_, refl, ap}
+use mathlib.Core.Bool.{Bool, _&&_, _||_}
+use mathlib.Core.Logic.{_↔_, inl, inr, ⊎-elim}
 use mathlib.Core.List.{List}
 use mathlib.Core.Option.{Option, none, some}
-use Prim.Native.Nat.{ℕ, zero, suc, _+_, _-_, _*_, _≤_, _<_}
+use Prim.Native.Nat.{ℕ, _+_, _*_, _<_}
 use native.Mathlib.Omega.{arith}
 use native.Mathlib.Decide.{decLt}
 use lib.Dec.{T as Is, ltb, ltb→lt, lt→ltb}
@@ -12,11 +12,11 @@ use lib.ListN.{length, getD}
 use lib.IntN.{ℤ, pos, negℤ, _-ℤ_, _*ℤ_, natAbs}
 use lib.Signed.{ltZ, _<ℤ_}
 use Rattle.lists.specs.Tests.{or-cases, or-left, or-right, and-left, and-right, and-both}
-use Rattle.lists.specs.First.{first, first-found, Found, FirstAt}
+use Rattle.lists.specs.First.{first, first-found, Found}
 use Rattle.rules.specs.Table.{Node}
 use Rattle.rules.specs.Rows.{Relation, Row, valueAt, sumOf, rowsOf, goalRow}
 use Rattle.rules.specs.Rows.Relation.{at-least, equal}
-use Rattle.rules.specs.Judge.{one, Apart, Outside, NotBinary, BrokenBy, Broken, Lowest, None, Verdict, OutsideAt, NotBinaryAt, BrokenAt, Judged}
+use Rattle.rules.specs.Judge.{one, Apart, Outside, NotBinary, BrokenBy, Lowest, None, Verdict, OutsideAt, NotBinaryAt, BrokenAt, Judged}
 use Rattle.rules.specs.Judge.Verdict.{outside, not-binary, broken, passed}
 use Rattle.rules.specs.Judge.Judged.{is-outside, is-not-binary, is-broken, is-passed}
 
@@ -47,8 +47,7 @@ apart-iff e b x = (lt→ltb e (natAbs (x -ℤ b)), ltb→lt e (natAbs (x -ℤ b)
 outside-iff : (e : ℕ) (x : ℤ) → Outside e x ↔ Is (isOutside e x)
 outside-iff e x =
     let a = ltZ x (negℤ (pos e)) in
-    let b = ltZ (pos (one + e)) x in
-    (
+    let b = ltZ (pos (one + e)) x in (
       ⊎-elim (λ h. or-left a b (h .lt)) (λ h. or-right a b (h .lt)),
       λ t. ⊎-elim (λ s. inl (below-iff x (negℤ (pos e)) .1 s)) (λ s. inr (below-iff (pos (one + e)) x .1 s)) (or-cases a b t),
     )
@@ -56,8 +55,7 @@ outside-iff e x =
 not-binary-iff : (e : ℕ) (x : ℤ) → NotBinary e x ↔ Is (isNotBinary e x)
 not-binary-iff e x =
     let a = apart e (pos 0) x in
-    let b = apart e (pos one) x in
-    (
+    let b = apart e (pos one) x in (
       λ h. and-both a b (apart-iff e (pos 0) x .0 (h .0)) (apart-iff e (pos one) x .0 (h .1)),
       λ t. (apart-iff e (pos 0) x .1 (and-left a b t), apart-iff e (pos one) x .1 (and-right a b t)),
     )

@@ -1,35 +1,32 @@
 -- The rows of a good table are such a system: slack n·T + t − 1 is node n at slot t, and its rank is n·T + (T − t).
-use mathlib.Core.Path.{_≡_, refl, sym, ap, ap₂, subst, _∙_}
+use mathlib.Core.Path.{_≡_, refl, ap, ap₂, subst, _∙_}
 use mathlib.Core.Logic.{_↔_, _⊎_, inl, inr, Iff·trans, Iff·symm}
 use mathlib.Core.Bool.{Bool, true, false}
 use mathlib.Core.List.{List, [], _∷_, _++_}
 use Prim.Native.Nat.{ℕ, zero, suc, _+_, _-_, _*_, _/_, _%_, _^_, _≤_, _<_}
-use native.Mathlib.Nat.{add-zero, zero-add, add-suc, suc-add, eq-or-lt-of-le, mul-le-mul-right, div-lt-iff-lt-mul, mod-lt, div-add-mod', div-eq-of-lt, mod-eq-of-lt, mul-add-div-right, mul-add-mod-self-right}
-use native.Mathlib.Numerals.{add-one}
+use native.Mathlib.Nat.{add-zero, zero-add, eq-or-lt-of-le, mul-le-mul-right, div-lt-iff-lt-mul, mod-lt, div-add-mod', div-eq-of-lt, mod-eq-of-lt, mul-add-div-right, mul-add-mod-self-right}
 use native.Mathlib.Omega.{arith}
-use lib.Dec.{T as Is, eqb, ltb, ltb→lt}
-use borrow.Author.Tests.{eq-eqb}
+use lib.Dec.{T as Is, eqb, ltb→lt}
 use lib.ListN.{length, getD}
 use lib.IntN.{ℤ, pos, natAbs}
 use Rattle.lists.specs.Every.{Every, every-append}
 use Rattle.lists.specs.Tabulate.{tabulate, length-tabulate, getD-tabulate}
-use Rattle.rules.specs.Rule.{Rule}
 use Rattle.rules.specs.Table.{Node, nodeAt, ruleAt, root}
 use Rattle.rules.specs.TableRules.{NodesGood}
-use Rattle.rules.specs.Truth.{Holds, endless, bitAt}
+use Rattle.rules.specs.Truth.{bitAt}
 use Rattle.rules.specs.Rows.{Row, Meets, valueAt, plus, eq, atomVariable, slack, rowsAt, slotsRows, nodesRows, slackRows, goalRow}
-use Rattle.rules.specs.Demands.{AtomNumerators, Fits, OnlyTheTruth}
-use Rattle.rules.specs.Evaluation.{bitSet, truth, truth-holds, truth-now, nodeNow}
+use Rattle.rules.specs.Demands.{AtomNumerators, OnlyTheTruth}
+use Rattle.rules.specs.Evaluation.{bitSet, truth, truth-holds, truth-now}
 use Rattle.rules.specs.Solution.Integers.{Met}
-use Rattle.rules.specs.Solution.Families.{scale, scale-le, pin-node}
+use Rattle.rules.specs.Solution.Families.{scale, pin-node}
 use Rattle.rules.specs.Solution.Ranked.{System, low-tabulate, truths, truths-at, truths-fit, truths-only, goal-is}
 
 -- ---- places
 
-place-div : (T n t : ℕ) → 1 ≤ t → t ≤ T → (n * T + (t - 1)) / T ≡ n
+pub place-div : (T n t : ℕ) → 1 ≤ t → t ≤ T → (n * T + (t - 1)) / T ≡ n
 place-div T n t l h = mul-add-div-right {m = T} (omega arith) n (t - 1) ∙ rw (div-eq-of-lt {n = t - 1} {m = T} (omega arith)) (add-zero n)
 
-place-mod : (T n t : ℕ) → 1 ≤ t → t ≤ T → suc ((n * T + (t - 1)) % T) ≡ t
+pub place-mod : (T n t : ℕ) → 1 ≤ t → t ≤ T → suc ((n * T + (t - 1)) % T) ≡ t
 place-mod T n t l h = ap suc (mul-add-mod-self-right n T (t - 1) ∙ mod-eq-of-lt (omega arith)) ∙ omega arith
 
 pub place-lt : (T N n t : ℕ) → n < N → 1 ≤ t → t ≤ T → n * T + (t - 1) < N * T
@@ -63,9 +60,10 @@ module _ (P : Row → Type 0) (T M : ℕ) where
   nodes-every : (l : List Node) (m : ℕ) → ((i : ℕ) → i < length l → Every P (slotsRows T M (m + i) (nodeAt l i) T 1)) → Every P (nodesRows T M m l)
   nodes-every [] m h = tt
   nodes-every (nd ∷ l) m h =
-      every-append P (slotsRows T M m nd T 1) (nodesRows T M (m + 1) l) .1
-      (rw add-zero at (h 0 (omega arith)),
-        nodes-every l (m + 1) (λ i u. subst (λ (j : ℕ). Every P (slotsRows T M j (nodeAt l i) T 1)) (omega arith) (h (suc i) (omega arith))))
+      every-append P (slotsRows T M m nd T 1) (nodesRows T M (m + 1) l) .1 (
+        rw add-zero at (h 0 (omega arith)),
+        nodes-every l (m + 1) (λ i u. subst (λ (j : ℕ). Every P (slotsRows T M j (nodeAt l i) T 1)) (omega arith) (h (suc i) (omega arith))),
+      )
 
   pub every-row : (ns : List Node) → Every P (slackRows T M ns) ↔ ((n t : ℕ) → n < length ns → 1 ≤ t → t ≤ T → Every P (rowsAt T M n (nodeAt ns n) t))
   every-row ns = (
