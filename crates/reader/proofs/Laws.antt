@@ -1,0 +1,270 @@
+-- The laws that the proofs of the levels cite: each case of a level, what it told, and what a next call asks.
+use mathlib.Core.Path.{_≡_, refl, sym, ap, _∙_, subst}
+use mathlib.Core.Bool.{Bool, cond}
+use mathlib.Core.Option.{Option, none, some}
+use mathlib.Core.List.{List, [], _∷_, _++_}
+use Prim.Native.Nat.{ℕ, zero, suc, _+_, _-_, _*_, max, _≤_, _<_}
+use native.Mathlib.Omega.{arith}
+use native.Mathlib.Nat.{add-zero, add-suc, suc-add}
+use lib.ListN.{length, set}
+use lib.Seq.{sets}
+use borrow.Author.Tests.{ne-eqb}
+use Rattle.rules.specs.Rule.{Unary, Binary, Rule, size}
+use Rattle.rules.specs.Rule.Unary.{not, eventually, always}
+use Rattle.rules.specs.Rule.Binary.{implies}
+use Rattle.rules.specs.Grammar.{tighter, sign}
+use Rattle.rules.specs.Grammar.Level.{of, single}
+use Rattle.rules.specs.Table.{unaryKind, binaryKind}
+use Rattle.rules.specs.Reading.Lexer
+use Rattle.rules.specs.Reading.Lexer.{tokenAt, signAt, Ends, token-ends, sign-ends}
+use Rattle.rules.specs.Reading.Parser
+use Rattle.rules.specs.Reading.Parser.{Parsed, Start, unaryOf, startOf, starting, pair, goOn, apply, begin, lead, measure, parsed, size-positive, parsed-within, single-law, pair-law}
+use Rattle.lexer.specs.declared.Token.{Token}
+use Rattle.lexer.specs.declared.Token.the-variants.{Other, Sign, Atom}
+use Rattle.lexer.specs.Capped.{capped, none-of, sign-of, atom-of}
+use Rattle.reader.specs.declared.Step.{Step}
+use Rattle.reader.specs.declared.Step.the-variants.{Fail, Part}
+use Rattle.reader.specs.Records.{top, entry, records, length-records}
+use Rattle.reader.specs.Steps.{Ready, Told, Room, joined, joinedIn, applied, appliedIn, prefixKind, closed, closedAt}
+
+-- ---- a run of stores in two halves
+
+sets-append : (l : List ℕ) (i : ℕ) (xs ys : List ℕ) → sets l i (xs ++ ys) ≡ sets (sets l i xs) (i + length xs) ys
+sets-append l i [] ys = ap (λ (k : ℕ). sets l k ys) (sym (add-zero i))
+sets-append l i (x ∷ xs) ys =
+    sets-append (set l i x) (suc i) xs ys
+    ∙ ap (λ (k : ℕ). sets (sets (set l i x) (suc i) xs) k ys) (suc-add i (length xs) ∙ sym (add-suc i (length xs)))
+
+-- the records of a rule, and what stands behind them
+behind : (out : List ℕ) (n : ℕ) (p : Rule) (ys : List ℕ) → sets out (5 * n) (records n p ++ ys) ≡ sets (sets out (5 * n) (records n p)) (5 * (n + size p)) ys
+behind out n p ys =
+    sets-append out (5 * n) (records n p) ys
+    ∙ ap (λ (k : ℕ). sets (sets out (5 * n) (records n p)) k ys) (omega (arith, length-records n p))
+
+binary-wrote : (out out₁ out₂ : List ℕ) (n nodes : ℕ) (o : Binary) (p q : Rule) → out₁ ≡ sets out (5 * n) (records n p) → nodes ≡ n + size p → out₂ ≡ sets out₁ (5 * nodes) (records nodes q)
+    → sets out₂ (5 * (nodes + size q)) (entry (binaryKind o) (nodes - 1) (nodes + size q - 1)) ≡ sets out (5 * n) (records n (Rule.binary o p q))
+unfolding records
+binary-wrote out out₁ out₂ n nodes o p q e c f = rw (f, e, c) (sym (behind out n p _ ∙ behind (sets out (5 * n) (records n p)) (n + size p) q _))
+
+unary-wrote : (out out₁ : List ℕ) (n nodes : ℕ) (u : Unary) (p : Rule) → out₁ ≡ sets out (5 * n) (records n p) → nodes ≡ n + size p
+    → sets out₁ (5 * nodes) (entry (unaryKind u) (nodes - 1) 0) ≡ sets out (5 * n) (records n (Rule.unary u p))
+unfolding records
+unary-wrote out out₁ n nodes u p e c = rw (e, c) (sym (behind out n p _))
+
+-- ---- what a level told, by its step
+
+pub record Got (x : Parsed) (n : ℕ) (before after : List ℕ) (next nodes high : ℕ) : Type 0 where
+  pub rule : Rule
+  pub is : x ≡ Parsed.part rule next
+  pub count : nodes ≡ n + size rule
+  pub highest : high ≡ top rule
+  pub wrote : after ≡ sets before (5 * n) (records n rule)
+
+never : {A : Type 0} (r : Step) (next nodes high : ℕ) → r ≡ Fail → r ≡ Part next nodes high → A
+never r next nodes high p q = let z : _≡_ {A = ℕ} 0 1 = cc in absurd (omega arith)
+
+pub got : (x : Parsed) (n : ℕ) (before after : List ℕ) (r : Step) (next nodes high : ℕ) → Told x n before after r → r ≡ Part next nodes high → Got x n before after next nodes high
+got Parsed.fail n before after r next nodes high h e = never r next nodes high h e
+got (Parsed.part p y) n before after r next nodes high h e =
+    let f : r ≡ Part y (n + size p) (top p) = h .0 in
+    let y-is : y ≡ next = cc in
+    record { rule = p; is = ap (Parsed.part p) y-is; count = cc; highest = cc; wrote = h .1 }
+
+pub failed : (x : Parsed) (n : ℕ) (before after : List ℕ) (r : Step) → Told x n before after r → r ≡ Fail → x ≡ Parsed.fail
+failed Parsed.fail n before after r h e = refl
+failed (Parsed.part p y) n before after r h e = never r y (n + size p) (top p) e (h .0)
+
+told-as : (x y : Parsed) (n : ℕ) (before after : List ℕ) (r : Step) → x ≡ y → Told y n before after r → Told x n before after r
+told-as x y n before after r e h = rw e h
+
+-- ---- the cases of a level of an operator
+
+sign-past : (s : List ℕ) (at b q : ℕ) → q ≡ signAt s at b → (q ≡ 0 → ⊥) → (at < q) × (q ≤ length s)
+sign-past s at b zero e ne = absurd (ne refl)
+sign-past s at b (suc q) e ne = sign-ends s at b q (sym e)
+
+pair-as : (o : Binary) (s : List ℕ) (at : ℕ) (x : Parsed) → parsed (tighter o) s at ≡ x → parsed (of o) s at ≡ pair o s x (parsed (of o) s)
+pair-as o s at x e = pair-law o s at ∙ ap (λ (y : Parsed). pair o s y (parsed (of o) s)) e
+
+pair-more : (o : Binary) (s : List ℕ) (at : ℕ) (p : Rule) (next q : ℕ) → parsed (tighter o) s at ≡ Parsed.part p next → q ≡ signAt s next (sign o) → (q ≡ 0 → ⊥) → parsed (of o) s at ≡ Parser.join o p (parsed (of o) s q)
+pair-more o s at p next zero e f ne = absurd (ne refl)
+pair-more o s at p next (suc q) e f ne = pair-as o s at (Parsed.part p next) e ∙ ap (λ (x : ℕ). goOn o p next x (parsed (of o) s)) (sym f)
+
+-- the tighter level failed
+pub level-fail : (o : Binary) (s : List ℕ) (at n : ℕ) (before after : List ℕ) (r : Step) → Told (parsed (tighter o) s at) n before after r → r ≡ Fail → Told (parsed (of o) s at) n before after Fail
+level-fail o s at n before after r h e =
+    told-as (parsed (of o) s at) Parsed.fail n before after Fail (pair-as o s at Parsed.fail (failed (parsed (tighter o) s at) n before after r h e)) refl
+
+module _ (o : Binary) (s : List ℕ) (at n : ℕ) (out out₁ : List ℕ) (r : Step) (next nodes high q : ℕ)
+    (told : Told (parsed (tighter o) s at) n out out₁ r) (part-is : r ≡ Part next nodes high) (sign-is : q ≡ signAt s next (sign o)) where
+  left : Got (parsed (tighter o) s at) n out out₁ next nodes high
+  left = got (parsed (tighter o) s at) n out out₁ r next nodes high told part-is
+
+  -- no sign of the operator follows
+  pub level-alone : q ≡ 0 → Told (parsed (of o) s at) n out out₁ (Part next nodes high)
+  level-alone z =
+      let g = left in
+      told-as (parsed (of o) s at) (Parsed.part (g .rule) next) n out out₁ (Part next nodes high)
+      (pair-as o s at (Parsed.part (g .rule) next) (g .is) ∙ ap (λ (x : ℕ). goOn o (g .rule) next x (parsed (of o) s)) (sym sign-is ∙ z))
+      (ap (λ (m : ℕ). Part next m high) (g .count) ∙ ap (Part next (n + size (g .rule))) (g .highest), g .wrote)
+
+  module _ (ready : Ready s at n) (ne : q ≡ 0 → ⊥) where
+    -- the next call of the level
+    pub level-next : (measure (of o) s q < measure (of o) s at) × Ready s q nodes
+    level-next =
+        let g = left in
+        let w = parsed-within (tighter o) s at (g .rule) next (g .is) in
+        let e = sign-past s next (sign o) q sign-is ne in
+        let p = size-positive (g .rule) in
+        (omega arith, record { short = ready .short; few = omega arith })
+
+    module _ (out₂ : List ℕ) (right : Step) (told₂ : Told (parsed (of o) s q) nodes out₁ out₂ right) where
+      room-at : (x : Parsed) → parsed (of o) s q ≡ x → Told x nodes out₁ out₂ right → Room right
+      room-at Parsed.fail e h = rw h tt
+      room-at (Parsed.part p end) e h =
+          let k = h .0 in
+          let g = left in
+          let w = parsed-within (tighter o) s at (g .rule) next (g .is) in
+          let v = parsed-within (of o) s q p end e in
+          let b = sign-past s next (sign o) q sign-is ne in
+          rw k (omega (arith, size-positive p, ready .short, ready .few), omega (arith, size-positive p, ready .short, ready .few))
+
+      pub level-room : (1 ≤ nodes) × Room right
+      level-room =
+          let g = left in
+          (omega (arith, size-positive (g .rule)), room-at (parsed (of o) s q) refl told₂)
+
+      module _ (out₃ : List ℕ) (r₃ : Step) (step-is : r₃ ≡ joined high right) (wrote : out₃ ≡ joinedIn right (binaryKind o) nodes out₂) where
+        joined-at : (x : Parsed) → parsed (of o) s q ≡ x → Told x nodes out₁ out₂ right → Told (Parser.join o (left .rule) x) n out out₃ r₃
+        joined-at Parsed.fail e h = step-is ∙ ap (joined high) h
+        joined-at (Parsed.part p end) e h =
+            let g = left in (
+              step-is ∙ ap (joined high) (h .0) ∙ ap (λ (m : ℕ). Part end m (max high (top p))) (omega (arith, g .count))
+                  ∙ ap (λ (x : ℕ). Part end (n + size (Rule.binary o (g .rule) p)) (max x (top p))) (g .highest),
+              wrote ∙ ap (λ (x : Step). joinedIn x (binaryKind o) nodes out₂) (h .0) ∙ binary-wrote out out₁ out₂ n nodes o (g .rule) p (g .wrote) (g .count) (h .1),
+            )
+
+        pub level-joined : Told (parsed (of o) s at) n out out₃ r₃
+        level-joined =
+            told-as (parsed (of o) s at) (Parser.join o (left .rule) (parsed (of o) s q)) n out out₃ r₃ (pair-more o s at (left .rule) next q (left .is) sign-is ne)
+            (joined-at (parsed (of o) s q) refl told₂)
+
+-- ---- the cases of Single
+
+single-as : (s : List ℕ) (at : ℕ) (t : Lexer.Token) → tokenAt s at ≡ t → parsed single s at ≡ lead s t (parsed single s) (parsed (of implies) s)
+single-as s at t e = single-law s at ∙ ap (λ (y : Lexer.Token). lead s y (parsed single s) (parsed (of implies) s)) e
+
+ends-as : (s : List ℕ) (at : ℕ) (t : Lexer.Token) → tokenAt s at ≡ t → Ends s at t
+ends-as s at t e = subst (Ends s at) e (token-ends s at)
+
+-- no token
+pub single-none : (s : List ℕ) (at n : ℕ) (out : List ℕ) (x : Token) → x ≡ capped (tokenAt s at) → x ≡ Other → Told (parsed single s at) n out out Fail
+single-none s at n out x e f = told-as (parsed single s at) Parsed.fail n out out Fail (single-as s at Lexer.Token.none (none-of (tokenAt s at) x e f)) refl
+
+-- an atom
+module _ (s : List ℕ) (at n : ℕ) (x : Token) (a next : ℕ) (token-is : x ≡ capped (tokenAt s at)) (atom-is : x ≡ Atom a next) where
+  pub atom-room : Ready s at n → 5 * n + 5 ≤ 5120
+  atom-room ready =
+      let g = atom-of (tokenAt s at) x a next token-is atom-is in
+      let b = ends-as s at (Lexer.Token.atom (g .number) next) (g .is) in
+      omega (arith, b, ready .short, ready .few)
+
+  pub single-atom : (out out₁ : List ℕ) → out₁ ≡ sets out (5 * n) (entry 1 a 0) → Told (parsed single s at) n out out₁ (Part next (n + 1) a)
+  unfolding records
+  single-atom out out₁ w =
+      let g = atom-of (tokenAt s at) x a next token-is atom-is in
+      told-as (parsed single s at) (Parsed.part (Rule.atom (g .number)) next) n out out₁ (Part next (n + 1) a)
+      (single-as s at (Lexer.Token.atom (g .number) next) (g .is))
+      (ap (Part next (n + 1)) (g .cut), w ∙ ap (λ (y : ℕ). sets out (5 * n) (entry 1 y 0)) (g .cut))
+
+module _ (s : List ℕ) (at n : ℕ) (out : List ℕ) (x : Token) (b next : ℕ) (token-is : x ≡ capped (tokenAt s at)) (sign-is : x ≡ Sign b next) where
+  found : tokenAt s at ≡ Lexer.Token.sign b next
+  found = sign-of (tokenAt s at) x b next token-is sign-is
+
+  begun : (y : Start) → startOf b ≡ y → parsed single s at ≡ begin s next y (parsed single s) (parsed (of implies) s)
+  begun y e = single-as s at (Lexer.Token.sign b next) found ∙ ap (λ (z : Start). begin s next z (parsed single s) (parsed (of implies) s)) e
+
+  -- the call behind the sign
+  pub sign-next : Ready s at n → ((measure single s next < measure single s at) × (measure (of implies) s next < measure single s at)) × Ready s next n
+  sign-next ready =
+      let h = ends-as s at (Lexer.Token.sign b next) found in
+      (omega (arith, h), record { short = ready .short; few = omega (arith, h, ready .few) })
+
+  -- a bracket
+  module _ (open-is : b ≡ 40) (out₁ : List ℕ) (r r₁ : Step) (told : Told (parsed (of implies) s next) n out out₁ r) (closed-is : r₁ ≡ closed s r) where
+    closed-as : (p : Rule) (y : ℕ) → out₁ ≡ sets out (5 * n) (records n p) → r₁ ≡ closedAt (n + size p) (top p) y → Told (Parser.closeAt p y) n out out₁ r₁
+    closed-as p zero w e = e
+    closed-as p (suc q) w e = (e, w)
+
+    inside : (y : Parsed) → Told y n out out₁ r → Told (Parser.close s y) n out out₁ r₁
+    inside Parsed.fail h = closed-is ∙ ap (closed s) h
+    inside (Parsed.part p end) h = closed-as p (signAt s end 41) (h .1) (closed-is ∙ ap (closed s) (h .0))
+
+    pub single-bracket : Told (parsed single s at) n out out₁ r₁
+    single-bracket =
+        told-as (parsed single s at) (Parser.close s (parsed (of implies) s next)) n out out₁ r₁ (begun Start.bracket (ap startOf open-is))
+        (inside (parsed (of implies) s next) told)
+
+  -- an operator of one side
+  module _ (not-open : b ≡ 40 → ⊥) (kind : ℕ) (kind-is : kind ≡ prefixKind (unaryOf b)) where
+    start-is : startOf b ≡ starting (unaryOf b)
+    start-is = ap (λ (c : Bool). cond c Start.bracket (starting (unaryOf b))) (ne-eqb b 40 not-open)
+
+    none-at : (y : Option Unary) → unaryOf b ≡ y → kind ≡ prefixKind y → kind ≡ 0 → Told (parsed single s at) n out out Fail
+    none-at none e k z = told-as (parsed single s at) Parsed.fail n out out Fail (begun Start.nothing (start-is ∙ ap starting e)) refl
+    none-at (some not) e k z = absurd (omega arith)
+    none-at (some eventually) e k z = absurd (omega arith)
+    none-at (some always) e k z = absurd (omega arith)
+
+    pub single-fail : kind ≡ 0 → Told (parsed single s at) n out out Fail
+    single-fail = none-at (unaryOf b) refl kind-is
+
+    module _ (ready : Ready s at n) (out₁ : List ℕ) (inner : Step) (told : Told (parsed single s next) n out out₁ inner) where
+      room-over : (y : Parsed) → parsed single s next ≡ y → Told y n out out₁ inner → Room inner
+      room-over Parsed.fail e h = rw h tt
+      room-over (Parsed.part p end) e h =
+          let k = h .0 in
+          let v = parsed-within single s next p end e in
+          let w = ends-as s at (Lexer.Token.sign b next) found in
+          rw k (omega (arith, size-positive p), omega (arith, w, ready .short, ready .few))
+
+      pub cap-room : Room inner
+      cap-room = room-over (parsed single s next) refl told
+
+      module _ (some-kind : kind ≡ 0 → ⊥) (out₂ : List ℕ) (r : Step) (step-is : r ≡ applied inner) (wrote : out₂ ≡ appliedIn inner kind out₁) where
+        over : (u : Unary) (y : Parsed) → kind ≡ unaryKind u → Told y n out out₁ inner → Told (apply u y) n out out₂ r
+        over u Parsed.fail k h = step-is ∙ ap applied h
+        over u (Parsed.part p end) k h = (
+          step-is ∙ ap applied (h .0) ∙ ap (λ (m : ℕ). Part end m (top p)) (omega arith),
+          wrote ∙ ap (λ (y : Step). appliedIn y kind out₁) (h .0) ∙ ap (λ (y : ℕ). sets out₁ (5 * (n + size p)) (entry y (n + size p - 1) 0)) k ∙ unary-wrote out out₁ n (n + size p) u p (h .1) refl,
+        )
+
+        prefix-at : (y : Option Unary) → unaryOf b ≡ y → kind ≡ prefixKind y → Told (parsed single s at) n out out₂ r
+        prefix-at none e k = absurd (some-kind k)
+        prefix-at (some u) e k =
+            told-as (parsed single s at) (apply u (parsed single s next)) n out out₂ r (begun (Start.operator u) (start-is ∙ ap starting e))
+            (over u (parsed single s next) k told)
+
+        pub single-prefix : Told (parsed single s at) n out out₂ r
+        single-prefix = prefix-at (unaryOf b) refl kind-is
+
+-- ---- the functions below the levels
+
+pub close-none : (s : List ℕ) (inner : Step) (next m b past : ℕ) → inner ≡ Part next m b → past ≡ signAt s next 41 → past ≡ 0 → Fail ≡ closed s inner
+close-none s inner next m b past e f z = sym (ap (closed s) e ∙ ap (closedAt m b) (sym f ∙ z))
+
+past-at : (m b past : ℕ) → (past ≡ 0 → ⊥) → closedAt m b past ≡ Part past m b
+past-at m b zero ne = absurd (ne refl)
+past-at m b (suc q) ne = refl
+
+pub close-past : (s : List ℕ) (inner : Step) (next m b past : ℕ) → inner ≡ Part next m b → past ≡ signAt s next 41 → (past ≡ 0 → ⊥) → Part past m b ≡ closed s inner
+close-past s inner next m b past e f ne = sym (ap (closed s) e ∙ ap (closedAt m b) (sym f) ∙ past-at m b past ne)
+
+pub room-of : (r : Step) (next m b : ℕ) → r ≡ Part next m b → Room r → (1 ≤ m) × (5 * m + 5 ≤ 5120)
+room-of r next m b e h = rw e at h
+
+pub join-told : (r : Step) (next m b k a t c : ℕ) (out out₁ : List ℕ) → r ≡ Part next m b → c ≡ max t b → out₁ ≡ sets out (5 * m) (entry k (a - 1) (m - 1)) → (Part next (m + 1) c ≡ joined t r) × (out₁ ≡ joinedIn r k a out)
+join-told r next m b k a t c out out₁ e f h = (ap (Part next (m + 1)) f ∙ sym (ap (joined t) e), h ∙ sym (ap (λ (y : Step). joinedIn y k a out) e))
+
+pub cap-told : (r : Step) (next m b k : ℕ) (out out₁ : List ℕ) → r ≡ Part next m b → out₁ ≡ sets out (5 * m) (entry k (m - 1) 0) → (Part next (m + 1) b ≡ applied r) × (out₁ ≡ appliedIn r k out)
+cap-told r next m b k out out₁ e h = (sym (ap applied e), h ∙ sym (ap (λ (y : Step). appliedIn y k out) e))

@@ -1,0 +1,80 @@
+-- What the contracts of the reader's levels say.
+use mathlib.Core.Path.{_≡_}
+use mathlib.Core.Option.{Option, none, some}
+use mathlib.Core.List.{List}
+use Prim.Native.Nat.{ℕ, zero, suc, _+_, _-_, _*_, max, _≤_}
+use lib.ListN.{length}
+use lib.Seq.{sets}
+use Rattle.rules.specs.Rule.{Unary, size}
+use Rattle.rules.specs.Rule.Binary.{and, or, implies, until}
+use Rattle.rules.specs.Grammar.{Level}
+use Rattle.rules.specs.Grammar.Level.{of, single}
+use Rattle.rules.specs.Table.{unaryKind}
+use Rattle.rules.specs.Reading.Lexer.{signAt}
+use Rattle.rules.specs.Reading.Parser.{Parsed}
+use Rattle.reader.specs.declared.Step.{Step}
+use Rattle.reader.specs.declared.Step.the-variants.{Fail, Part}
+use Rattle.reader.specs.Records.{top, entry, records}
+
+-- 01's levels: Rule, Or, And, Until and Single
+abbrev pub ruleLevel : Level
+ruleLevel = of implies
+
+abbrev pub orLevel : Level
+orLevel = of or
+
+abbrev pub andLevel : Level
+andLevel = of and
+
+abbrev pub untilLevel : Level
+untilLevel = of until
+
+abbrev pub singleLevel : Level
+singleLevel = single
+
+-- what a level asks: the text is short, and there are no more nodes so far than bytes before `at`, so that each node has room
+pub record Ready (text : List ℕ) (at n : ℕ) : Type 0 where
+  pub short : length text ≤ 1024
+  pub few : n ≤ at
+
+-- what a level tells of what it parsed: its step, and the records of the nodes from n on
+abbrev pub Told : Parsed → (n : ℕ) → (before after : List ℕ) → Step → Type 0
+Told Parsed.fail n before after r = r ≡ Fail
+Told (Parsed.part p next) n before after r = (r ≡ Part next (n + size p) (top p)) × (after ≡ sets before (5 * n) (records n p))
+
+-- there is a last node, and room for one more
+abbrev pub Room : Step → Type 0
+Room Fail = Unit {0}
+Room (Part next m b) = (1 ≤ m) × (5 * m + 5 ≤ 5120)
+
+-- one node more, over two parts: the last node of the left part is a - 1, and t its highest atom
+abbrev pub joined : (t : ℕ) → Step → Step
+joined t Fail = Fail
+joined t (Part next m b) = Part next (m + 1) (max t b)
+
+abbrev pub joinedIn : Step → (kind a : ℕ) → List ℕ → List ℕ
+joinedIn Fail kind a out = out
+joinedIn (Part next m b) kind a out = sets out (5 * m) (entry kind (a - 1) (m - 1))
+
+-- one node more, over one part
+abbrev pub applied : Step → Step
+applied Fail = Fail
+applied (Part next m b) = Part next (m + 1) b
+
+abbrev pub appliedIn : Step → (kind : ℕ) → List ℕ → List ℕ
+appliedIn Fail kind out = out
+appliedIn (Part next m b) kind out = sets out (5 * m) (entry kind (m - 1) 0)
+
+-- the kind of an operator of one side, and 0 for none
+abbrev pub prefixKind : Option Unary → ℕ
+prefixKind none = 0
+prefixKind (some u) = unaryKind u
+
+-- a part in a bracket: x is the position past the closing one, or 0
+abbrev pub closedAt : (m b x : ℕ) → Step
+closedAt m b zero = Fail
+closedAt m b (suc q) = Part (suc q) m b
+
+abbrev pub closed : List ℕ → Step → Step
+closed text Fail = Fail
+closed text (Part next m b) = closedAt m b (signAt text next 41)

@@ -1,0 +1,264 @@
+// A rule text read into its node table: five levels of the grammar that call each other in a cycle.
+ghost use mathlib.Core.Path.{_≡_};
+ghost use Prim.Native.Nat.{_+_, _*_, max, _≤_};
+ghost use lib.ListN.{length};
+ghost use lib.Seq.{sets};
+ghost use Rattle.rules.specs.Reading.Parser.{parsed, unaryOf};
+ghost use Rattle.rules.specs.Outcome.{result, buffer, readOutcome};
+ghost use Rattle.answers.specs.Told.{told};
+ghost use Rattle.reader.specs.Records.{entry};
+ghost use Rattle.reader.specs.Steps.{ruleLevel, orLevel, andLevel, untilLevel, singleLevel, Ready, Told, Room, joined, joinedIn, applied, appliedIn, prefixKind, closed};
+
+// The mark of a node record.
+pub const MARK: [u8; 2] = *b"ND";
+
+// No phrase, or one that ends before `next`: `nodes` nodes are written so far, and `top` is the phrase's highest atom number.
+pub enum Step {
+    Fail,
+    Part {
+        next: usize,
+        nodes: usize,
+        top: usize,
+    },
+}
+
+fn larger(a: usize, b: usize) -> usize
+    ensures { λ r. ⌜ r ≡ max a b ⌝ }
+{
+    if a < b { b } else { a }
+}
+
+// Writes node `n`'s record.
+fn put(out: &mut [u8; 5120], n: usize, kind: u8, left: usize, right: usize)
+    requires { ⌜ 5 * n + 5 ≤ 5120 ⌝ }
+    ensures { λ _. ⌜ now (out .exit) ≡ sets (now (out .entry)) (5 * n) (entry kind left right) ⌝ }
+{
+    let i = 5 * n;
+    let mark = MARK;
+    out[i] = mark[0];
+    out[i + 1] = mark[1];
+    out[i + 2] = kind;
+    out[i + 3] = (left % 256) as u8;
+    out[i + 4] = (right % 256) as u8;
+}
+
+// The node over the left part, whose last node is `nodes` - 1, and the right part.
+fn join(out: &mut [u8; 5120], kind: u8, nodes: usize, top: usize, right: Step) -> Step
+    requires { ⌜ (1 ≤ nodes) × Room right ⌝ }
+    ensures { λ r. ⌜ (r ≡ joined top right) × (now (out .exit) ≡ joinedIn right kind nodes (now (out .entry))) ⌝ }
+{
+    match right {
+        Step::Fail => Step::Fail,
+        Step::Part {
+            next,
+            nodes: m,
+            top: b,
+        } => {
+            put(out, m, kind, nodes - 1, m - 1);
+            let t = larger(top, b);
+            Step::Part {
+                next,
+                nodes: m + 1,
+                top: t,
+            }
+        }
+    }
+}
+
+// The node over one part.
+fn cap(out: &mut [u8; 5120], kind: u8, inner: Step) -> Step
+    requires { ⌜ Room inner ⌝ }
+    ensures { λ r. ⌜ (r ≡ applied inner) × (now (out .exit) ≡ appliedIn inner kind (now (out .entry))) ⌝ }
+{
+    match inner {
+        Step::Fail => Step::Fail,
+        Step::Part {
+            next,
+            nodes: m,
+            top,
+        } => {
+            put(out, m, kind, m - 1, 0);
+            Step::Part {
+                next,
+                nodes: m + 1,
+                top,
+            }
+        }
+    }
+}
+
+// The kind of an operator of one side, and 0 where `byte` is none.
+fn prefix_kind(byte: u8) -> u8
+    ensures { λ r. ⌜ r ≡ prefixKind (unaryOf byte) ⌝ }
+{
+    if byte == b'!' {
+        return 2;
+    }
+    if byte == b'F' {
+        return 6;
+    }
+    if byte == b'G' {
+        return 7;
+    }
+    0
+}
+
+// The part in a bracket, with the position past the closing one.
+fn close(text: &[u8], inner: Step) -> Step
+    ensures { λ r. ⌜ r ≡ closed (now (text .entry)) inner ⌝ }
+{
+    match inner {
+        Step::Fail => Step::Fail,
+        Step::Part { next, nodes, top } => {
+            let past = lexer::sign_at(text, next, b')');
+            if past == 0 {
+                return Step::Fail;
+            }
+            Step::Part {
+                next: past,
+                nodes,
+                top,
+            }
+        }
+    }
+}
+
+// Rule: Or, or Or > Rule.
+fn rule(text: &[u8], at: usize, n: usize, out: &mut [u8; 5120]) -> Step
+    requires { ⌜ Ready (now text) at n ⌝ }
+    ensures { λ r. ⌜ Told (parsed ruleLevel (now (text .entry)) at) n (now (out .entry)) (now (out .exit)) r ⌝ }
+{
+    match or(text, at, n, out) {
+        Step::Fail => Step::Fail,
+        Step::Part { next, nodes, top } => {
+            let after = lexer::sign_at(text, next, b'>');
+            if after == 0 {
+                return Step::Part { next, nodes, top };
+            }
+            let right = rule(text, after, nodes, out);
+            join(out, 5, nodes, top, right)
+        }
+    }
+}
+
+// Or: And, or And | Or.
+fn or(text: &[u8], at: usize, n: usize, out: &mut [u8; 5120]) -> Step
+    requires { ⌜ Ready (now text) at n ⌝ }
+    ensures { λ r. ⌜ Told (parsed orLevel (now (text .entry)) at) n (now (out .entry)) (now (out .exit)) r ⌝ }
+{
+    match and(text, at, n, out) {
+        Step::Fail => Step::Fail,
+        Step::Part { next, nodes, top } => {
+            let after = lexer::sign_at(text, next, b'|');
+            if after == 0 {
+                return Step::Part { next, nodes, top };
+            }
+            let right = or(text, after, nodes, out);
+            join(out, 4, nodes, top, right)
+        }
+    }
+}
+
+// And: Until, or Until & And.
+fn and(text: &[u8], at: usize, n: usize, out: &mut [u8; 5120]) -> Step
+    requires { ⌜ Ready (now text) at n ⌝ }
+    ensures { λ r. ⌜ Told (parsed andLevel (now (text .entry)) at) n (now (out .entry)) (now (out .exit)) r ⌝ }
+{
+    match until(text, at, n, out) {
+        Step::Fail => Step::Fail,
+        Step::Part { next, nodes, top } => {
+            let after = lexer::sign_at(text, next, b'&');
+            if after == 0 {
+                return Step::Part { next, nodes, top };
+            }
+            let right = and(text, after, nodes, out);
+            join(out, 3, nodes, top, right)
+        }
+    }
+}
+
+// Until: Single, or Single U Until.
+fn until(text: &[u8], at: usize, n: usize, out: &mut [u8; 5120]) -> Step
+    requires { ⌜ Ready (now text) at n ⌝ }
+    ensures { λ r. ⌜ Told (parsed untilLevel (now (text .entry)) at) n (now (out .entry)) (now (out .exit)) r ⌝ }
+{
+    match single(text, at, n, out) {
+        Step::Fail => Step::Fail,
+        Step::Part { next, nodes, top } => {
+            let after = lexer::sign_at(text, next, b'U');
+            if after == 0 {
+                return Step::Part { next, nodes, top };
+            }
+            let right = until(text, after, nodes, out);
+            join(out, 8, nodes, top, right)
+        }
+    }
+}
+
+// Single: ! Single, or F Single, or G Single, or an atom, or ( Rule ).
+fn single(text: &[u8], at: usize, n: usize, out: &mut [u8; 5120]) -> Step
+    requires { ⌜ Ready (now text) at n ⌝ }
+    ensures { λ r. ⌜ Told (parsed singleLevel (now (text .entry)) at) n (now (out .entry)) (now (out .exit)) r ⌝ }
+{
+    match lexer::token_at(text, at) {
+        lexer::Token::Atom { number, next } => {
+            put(out, n, 1, number, 0);
+            Step::Part {
+                next,
+                nodes: n + 1,
+                top: number,
+            }
+        }
+        lexer::Token::Sign { byte, next } => {
+            if byte == b'(' {
+                let inner = rule(text, next, n, out);
+                return close(text, inner);
+            }
+            let kind = prefix_kind(byte);
+            if kind == 0 {
+                return Step::Fail;
+            }
+            let inner = single(text, next, n, out);
+            cap(out, kind, inner)
+        }
+        lexer::Token::Other => Step::Fail,
+    }
+}
+
+// The text's node table into `out`, and its node count; or the lowest refusal, with `out` as it was.
+pub fn read(text: &[u8], m: usize, out: &mut [u8]) -> answers::Answer
+    ensures { λ r. ⌜ told r ≡ result (readOutcome m (now (text .entry)) (length (now (out .entry)))) ⌝ }
+    ensures { λ _. ⌜ now (out .exit) ≡ buffer (readOutcome m (now (text .entry)) (length (now (out .entry)))) (now (out .entry)) ⌝ }
+{
+    if m < 1 {
+        return answers::Answer::Refused(answers::Refusal::Atoms);
+    }
+    if 16 < m {
+        return answers::Answer::Refused(answers::Refusal::Atoms);
+    }
+    if 1024 < text.len() {
+        return answers::Answer::Refused(answers::Refusal::LongText);
+    }
+    let mut scratch = [0u8; 5120];
+    match rule(text, 0, 0, &mut scratch) {
+        Step::Fail => answers::Answer::Refused(answers::Refusal::Grammar),
+        Step::Part { next, nodes, top } => {
+            let end = lexer::skip(text, next);
+            if end < text.len() {
+                return answers::Answer::Refused(answers::Refusal::Grammar);
+            }
+            if m <= top {
+                return answers::Answer::Refused(answers::Refusal::AtomNumber);
+            }
+            if 128 < nodes {
+                return answers::Answer::Refused(answers::Refusal::Nodes);
+            }
+            let k = 5 * nodes;
+            if out.len() < k {
+                return answers::Answer::Refused(answers::Refusal::Room);
+            }
+            bytes::copy(&scratch[..k], out);
+            answers::Answer::Value(nodes)
+        }
+    }
+}
