@@ -192,7 +192,7 @@ record-complete M bytes n nd r h =
 
 -- ---- all records
 
-length-table : (ns : List Node) → length (tableBytes ns) ≡ 5 * length ns
+pub length-table : (ns : List Node) → length (tableBytes ns) ≡ 5 * length ns
 length-table [] = refl
 length-table (nd ∷ ns) = omega (arith, length-table ns)
 

@@ -1,0 +1,180 @@
+-- From the contracts of read, write_rows and evaluate, called one after the other, to demand 3.
+use mathlib.Core.Path.{_≡_, sym, ap, _∙_}
+use mathlib.Core.List.{List}
+use Prim.Native.Nat.{ℕ, _*_, _≤_}
+use native.Mathlib.Decide.{decLe}
+use native.Mathlib.Omega.{arith}
+use lib.ListN.{length, take, drop, length-append, length-drop}
+use lib.Seq.{take-at}
+use Rattle.rules.specs.Rule.{Rule, size}
+use Rattle.rules.specs.Grammar.{Says}
+use Rattle.rules.specs.Table.{Node, Good, tableBytes, nodesOf}
+use Rattle.rules.specs.TableRules.{length-nodesFrom}
+use Rattle.rules.specs.TableTest.{length-table}
+use Rattle.rules.specs.Rows.{rowsOf, rowsBytes}
+use Rattle.rules.specs.RowRecords.{length-rows, rows-recordable}
+use Rattle.rules.specs.Judge.{None}
+use Rattle.rules.specs.Refusals.{SlotsAllowed, RunGood, TextRefused, ReadRefused}
+use Rattle.rules.specs.Demands.{Answer, Written, Demand3At}
+use Rattle.rules.specs.Demands.Answer.{refused, answered}
+use Rattle.rules.specs.Demands.Written.{wrote}
+use Rattle.rules.specs.Outcome.{result, buffer, readOutcome, rowsOutcome, evaluateOutcome}
+use Rattle.rules.specs.Theorems.{reader-exact, rows-exact, evaluator-exact, demand3}
+use Rattle.answers.specs.Told.{told}
+use Rattle.answers.specs.declared.Answer.the-variants.{Value, Refused as Refusing}
+use Rattle.answers.specs.declared.Refusal.{Refusal}
+use Rattle.demands.specs.declared.Planned.{Planned}
+use Rattle.demands.specs.declared.Planned.the-variants.{Done}
+use Rattle.demands.specs.Demand3.{Demanded}
+
+-- what an answered outcome leaves at the start of its buffer
+left-at : (a : Answer Written) (n k : ℕ) (bytes out out′ : List ℕ) → out′ ≡ buffer a out → a ≡ answered (wrote n bytes) → length bytes ≡ k → take k out′ ≡ bytes
+left-at a n k bytes out out′ left is e =
+    ap (take k) (left ∙ ap (λ (x : Answer Written). buffer x out) is) ∙ take-at bytes (drop (length bytes) out) k e
+
+-- the length of what is written
+rows-long : (t m : ℕ) (table : List ℕ) (room n : ℕ) (bytes : List ℕ) → rowsOutcome t m table room ≡ answered (wrote n bytes) → length bytes ≡ 14 * n
+rows-long t m table room n bytes e =
+    let i = rows-exact t m table room .answers (wrote n bytes) .0 e .1 in
+    let f : n ≡ length (rowsOf t m (i .0)) = cc (i .2) in
+    let g : bytes ≡ rowsBytes (rowsOf t m (i .0)) = cc (i .2) in
+    ap length g ∙ length-rows (rowsOf t m (i .0)) (rows-recordable t m (i .0)) ∙ ap (λ (k : ℕ). 14 * k) (sym f)
+
+evaluated-long : (t m : ℕ) (table run : List ℕ) (room v : ℕ) (bytes : List ℕ) → evaluateOutcome t m table run room ≡ answered (wrote v bytes) →
+    (ns : List Node) × Good m table ns × (length bytes ≡ length ns * t)
+evaluated-long t m table run room v bytes e =
+    let i = evaluator-exact t m table run room .answers (wrote v bytes) .0 e .1 in
+    let g : bytes ≡ i .2 = cc (i .6) in
+    (i .0, i .3, ap length g ∙ i .4 .count)
+
+-- an answer with a value comes from an outcome that wrote
+wrote-value : (a : Answer Written) (n : ℕ) → told (Value n) ≡ result a → (bytes : List ℕ) × (a ≡ answered (wrote n bytes))
+wrote-value (refused k) n e = let z : _≡_ {A = ℕ} 0 1 = cc in absurd (omega arith)
+wrote-value (answered (wrote j bytes)) n e = let z : j ≡ n = cc in (bytes, ap (λ (i : ℕ). answered (wrote i bytes)) z)
+
+-- a table that was read has room
+pub read-room : (m : ℕ) (text out out′ : List ℕ) (n : ℕ) → told (Value n) ≡ result (readOutcome m text (length out)) → out′ ≡ buffer (readOutcome m text (length out)) out →
+    (5 * n ≤ length out) × (length out′ ≡ length out)
+read-room m text out out′ n e left =
+    let w = wrote-value (readOutcome m text (length out)) n e in
+    let x = reader-exact m text (length out) .answers (wrote n (w .0)) .0 (w .1) in
+    let p = x .1 .0 in
+    let f : n ≡ size p = cc (x .1 .2) in
+    let g : w .0 ≡ tableBytes (nodesOf p) = cc (x .1 .2) in
+    let long : length (w .0) ≡ 5 * n = ap length g ∙ length-table (nodesOf p) ∙ omega (arith, length-nodesFrom 0 p) in
+    let fits : 5 * n ≤ length out = go p (x .1 .1) f (x .0) (decLe (5 * n) (length out)) in
+    (fits, ap length (left ∙ ap (λ (a : Answer Written). buffer a out) (w .1)) ∙ length-append (w .0) (drop (length (w .0)) out) ∙ omega (arith, length-drop (length (w .0)) out))
+  where
+    go : (p : Rule) → Says text p → n ≡ size p → None (ReadRefused m text (length out)) → Dec (5 * n ≤ length out) → 5 * n ≤ length out
+    go p s f none (yes h) = h
+    go p s f none (no h) = absurd (none 11 (ReadRefused.short s (omega arith)))
+
+module _ (t m : ℕ) (text run table rows truth table′ : List ℕ) (left : table′ ≡ buffer (readOutcome m text (length table)) table) where
+  -- what the three outcomes are
+  record Facts (D : ℕ) (p : Rule) : Type 0 where
+    first : List ℕ
+    second : List ℕ
+    third : List ℕ
+    count : ℕ
+    v : ℕ
+    read-is : readOutcome m text (length table) ≡ answered (wrote (size p) first)
+    handed : take (5 * size p) table′ ≡ first
+    rows-are : rowsOutcome t m (take (5 * size p) table′) (length rows) ≡ answered (wrote count second)
+    evaluate-is : evaluateOutcome t m (take (5 * size p) table′) run (length truth) ≡ answered (wrote v third)
+    second-long : length second ≡ 14 * count
+    third-long : length third ≡ size p * t
+    at : Demand3At t m D run p first count second v third
+
+  abbrev Rooms : Rule → Type 0
+  Rooms p = (5 * size p ≤ length table) × (14 * length (rowsOf t m (nodesOf p)) ≤ length rows) × (size p * t ≤ length truth)
+
+  facts : None (TextRefused m text) → SlotsAllowed t → RunGood t m run → (D : ℕ) → 1 ≤ D → (p : Rule) × Says text p × (Rooms p → Facts D p)
+  facts none slots runs D 0<D =
+      let d = demand3 m text none t D run slots runs 0<D in
+      let p = d .0 in
+      (p, d .1, λ rooms. given p (d .2 (length table) (length rows) (length truth) (rooms .0) (rooms .1) (rooms .2)))
+    where
+      given : (p : Rule) →
+          (first second third : List ℕ) × (count v : ℕ) ×
+          (readOutcome m text (length table) ≡ answered (wrote (size p) first)) ×
+          (rowsOutcome t m first (length rows) ≡ answered (wrote count second)) ×
+          (evaluateOutcome t m first run (length truth) ≡ answered (wrote v third)) ×
+          Demand3At t m D run p first count second v third → Facts D p
+      given p (first, second, third, count, v, e, f, g, at) =
+          let long : length first ≡ 5 * size p = ap length (at .table-is) ∙ length-table (nodesOf p) ∙ omega (arith, length-nodesFrom 0 p) in
+          let handed = left-at (readOutcome m text (length table)) (size p) (5 * size p) first table table′ left e long in
+          let x = evaluated-long t m first run (length truth) v third g in
+          let same : length (x .0) ≡ size p = omega (arith, long, ap length (x .1 .records), length-table (x .0)) in
+          record {
+            first = first;
+            second = second;
+            third = third;
+            count = count;
+            v = v;
+            read-is = e;
+            handed = handed;
+            rows-are = rw handed f;
+            evaluate-is = rw handed g;
+            second-long = rows-long t m first (length rows) count second f;
+            third-long = x .2 ∙ ap (λ (n : ℕ). n * t) same;
+            at = at;
+          }
+
+  -- the reader's value is the rule's node count
+  nodes-are : (D : ℕ) (p : Rule) → Facts D p → (n : ℕ) → told (Value n) ≡ result (readOutcome m text (length table)) → n ≡ size p
+  nodes-are D p x n e = let f = e ∙ ap result (x .read-is) in cc f
+
+  -- ---- the four ends of the function
+
+  module _ (r : Planned) (rows′ truth′ : List ℕ) where
+    abbrev End : Type 0
+    End = Demanded t m text run table rows truth table′ rows′ truth′ r
+
+    pub read-refused : (k : Refusal) → told (Refusing k) ≡ result (readOutcome m text (length table)) → End
+    read-refused k e none slots runs D 0<D =
+        let f = facts none slots runs D 0<D in
+        (f .0, f .1, λ a b c. let x = f .2 (a, b, c) in let g = e ∙ ap result (x .read-is) in let z : _≡_ {A = ℕ} 0 1 = cc g in absurd (omega arith))
+
+    module _ (n : ℕ) (e : told (Value n) ≡ result (readOutcome m text (length table))) where
+      pub rows-refused : (k : Refusal) → told (Refusing k) ≡ result (rowsOutcome t m (take (5 * n) table′) (length rows)) → End
+      rows-refused k h none slots runs D 0<D =
+          let f = facts none slots runs D 0<D in (
+            f .0,
+            f .1,
+            λ a b c.
+                let x = f .2 (a, b, c) in
+                let g = h ∙ ap (λ (i : ℕ). result (rowsOutcome t m (take (5 * i) table′) (length rows))) (nodes-are D (f .0) x n e) ∙ ap result (x .rows-are) in
+                let z : _≡_ {A = ℕ} 0 1 = cc g in absurd (omega arith),
+          )
+
+      pub evaluate-refused : (k : Refusal) → told (Refusing k) ≡ result (evaluateOutcome t m (take (5 * n) table′) run (length truth)) → End
+      evaluate-refused k h none slots runs D 0<D =
+          let f = facts none slots runs D 0<D in (
+            f .0,
+            f .1,
+            λ a b c.
+                let x = f .2 (a, b, c) in
+                let g = h ∙ ap (λ (i : ℕ). result (evaluateOutcome t m (take (5 * i) table′) run (length truth))) (nodes-are D (f .0) x n e) ∙ ap result (x .evaluate-is) in
+                let z : _≡_ {A = ℕ} 0 1 = cc g in absurd (omega arith),
+          )
+
+  module _ (n count v : ℕ) (rows′ truth′ : List ℕ) (e : told (Value n) ≡ result (readOutcome m text (length table)))
+      (h : told (Value count) ≡ result (rowsOutcome t m (take (5 * n) table′) (length rows))) (h′ : rows′ ≡ buffer (rowsOutcome t m (take (5 * n) table′) (length rows)) rows)
+      (i : told (Value v) ≡ result (evaluateOutcome t m (take (5 * n) table′) run (length truth)))
+      (i′ : truth′ ≡ buffer (evaluateOutcome t m (take (5 * n) table′) run (length truth)) truth) where
+    pub done : Demanded t m text run table rows truth table′ rows′ truth′ (Done n count v)
+    done none slots runs D 0<D =
+        let f = facts none slots runs D 0<D in
+        (f .0, f .1, λ a b c. ended (f .0) (f .2 (a, b, c)))
+      where
+        ended : (p : Rule) → Facts D p → (c w : ℕ) × (Done n count v ≡ Done (size p) c w) ×
+            Demand3At t m D run p (take (5 * size p) table′) c (take (14 * c) rows′) w (take (size p * t) truth′)
+        ended p x =
+            let k = nodes-are D p x n e in
+            let a : rowsOutcome t m (take (5 * n) table′) (length rows) ≡ answered (wrote (x .count) (x .second)) = ap (λ (j : ℕ). rowsOutcome t m (take (5 * j) table′) (length rows)) k ∙ x .rows-are in
+            let b : evaluateOutcome t m (take (5 * n) table′) run (length truth) ≡ answered (wrote (x .v) (x .third)) = ap (λ (j : ℕ). evaluateOutcome t m (take (5 * j) table′) run (length truth)) k ∙ x .evaluate-is in
+            let c : count ≡ x .count = cc (h ∙ ap result a) in
+            let w : v ≡ x .v = cc (i ∙ ap result b) in
+            let r₂ = left-at (rowsOutcome t m (take (5 * n) table′) (length rows)) (x .count) (14 * x .count) (x .second) rows rows′ h′ a (x .second-long) in
+            let r₃ = left-at (evaluateOutcome t m (take (5 * n) table′) run (length truth)) (x .v) (size p * t) (x .third) truth truth′ i′ b (x .third-long) in
+            (x .count, x .v, cc, rw (x .handed, r₂, r₃) (x .at))

@@ -1,0 +1,50 @@
+-- What a passed verdict means: every limit and every row holds and every atom is 0 or 1, within the tolerance; and, with tolerance 0,
+-- every slack has its truth on the run that the atoms make, and the rule holds at slot 1.
+use mathlib.Core.Path.{_≡_}
+use mathlib.Core.Logic.{_↔_, _⊎_}
+use mathlib.Core.List.{List}
+use Prim.Native.Nat.{ℕ, _+_, _*_, _≤_, _<_}
+use lib.ListN.{length}
+use lib.IntN.{ℤ, pos, negℤ, _-ℤ_, _*ℤ_, natAbs}
+use lib.Signed.{_≤ℤ_}
+use Rattle.lists.specs.Every.{Every}
+use Rattle.rules.specs.Table.{Node, Good, ruleAt, root}
+use Rattle.rules.specs.Truth.{Holds, endless, bitAt}
+use Rattle.rules.specs.Rows.{Relation, Row, valueAt, sumOf, atomVariable, slack, rowsOf}
+use Rattle.rules.specs.Rows.Relation.{at-least, equal}
+use Rattle.rules.specs.Judge.{one, Verdict, Judged}
+use Rattle.rules.specs.Refusals.{RunGood}
+
+-- "A ≥ row holds when its sum is at least the right side times 1,000,000, less e. An = row holds when the difference is at most e either way."
+abbrev pub HoldsBy : Relation → (e : ℕ) → (right sum : ℤ) → Type 0
+HoldsBy at-least e b s = (b -ℤ pos e) ≤ℤ s
+HoldsBy equal e b s = natAbs (s -ℤ b) ≤ e
+
+abbrev pub RowHolds : (e : ℕ) → List ℤ → Row → Type 0
+RowHolds e xs r = HoldsBy (r .relation) e (r .right *ℤ pos one) (sumOf xs (r .terms))
+
+pub record Passes (T M e : ℕ) (ns : List Node) (figures : List ℤ) : Type 0 where
+  pub limits : (v : ℕ) → v < length figures → (negℤ (pos e) ≤ℤ valueAt figures v) × (valueAt figures v ≤ℤ pos (one + e))
+  pub binary : (v : ℕ) → v < M * T → (natAbs (valueAt figures v -ℤ pos 0) ≤ e) ⊎ (natAbs (valueAt figures v -ℤ pos one) ≤ e)
+  pub rows : Every (RowHolds e figures) (rowsOf T M ns)
+
+-- the judge passes exactly these figures
+abbrev pub PassedIff : Type 0
+PassedIff =
+    (T M e : ℕ) (ns : List Node) (figures : List ℤ) →
+    Judged T M e ns figures (Verdict.passed (length (rowsOf T M ns))) ↔ Passes T M e ns figures
+
+-- the run of the atoms, and what the figures say of it
+pub record TrulyMet (T M : ℕ) (ns : List Node) (figures : List ℤ) : Type 0 where
+  pub run : List ℕ
+  pub run-good : RunGood T M run
+  pub atoms : (a t : ℕ) → a < M → 1 ≤ t → t ≤ T → valueAt figures (atomVariable T a t) ≡ pos (bitAt run t a * one)
+  pub ones : (n t : ℕ) → n < length ns → 1 ≤ t → t ≤ T → Holds (endless T run) (ruleAt ns n) t → valueAt figures (slack T M n t) ≡ pos one
+  pub zeros : (n t : ℕ) → n < length ns → 1 ≤ t → t ≤ T → (Holds (endless T run) (ruleAt ns n) t → ⊥) → valueAt figures (slack T M n t) ≡ pos 0
+  pub rule-holds : Holds (endless T run) (ruleAt ns (root ns)) 1
+
+-- figures passed with tolerance 0 are the truth, and the rule is met
+abbrev pub PassedIsTrue : Type 0
+PassedIsTrue =
+    (T M : ℕ) (table : List ℕ) (ns : List Node) (figures : List ℤ) (n : ℕ) → 1 ≤ T → Good M table ns → length figures ≡ (M + length ns) * T →
+    Judged T M 0 ns figures (Verdict.passed n) → TrulyMet T M ns figures

@@ -1,0 +1,259 @@
+-- Proofs of what a passed verdict means.
+use mathlib.Core.Path.{_≡_, refl, sym, ap, subst, _∙_}
+use mathlib.Core.Bool.{Bool, true, false}
+use mathlib.Core.Logic.{_↔_, _⊎_, inl, inr, ⊎-elim}
+use mathlib.Core.List.{List, [], _∷_, _++_}
+use Prim.Native.Nat.{ℕ, zero, suc, _+_, _-_, _*_, _/_, _%_, _^_, _≤_, _<_}
+use native.Mathlib.Decide.{decLt}
+use native.Mathlib.Nat.{eq-or-lt-of-le, pow-suc, pow-zero, mul-add-div-right, mul-add-mod-self-right, div-eq-of-lt, mod-eq-of-lt, div-lt-iff-lt-mul, mod-lt, div-add-mod', mul-le-mul-right, mul-assoc}
+use native.Mathlib.Omega.{arith}
+use lib.Pow.{pow-add, pow-pos}
+use lib.Dec.{eqb, not-T}
+use lib.ListN.{length, getD, take, drop, length-drop, take-append-drop}
+use lib.Seq.{ext-getD, getD-take, getD-drop, length-take-le}
+use lib.IntN.{ℤ, pos, negsuc, negℤ, _+ℤ_, _-ℤ_, _*ℤ_, natAbs, -ℤ-+ℤ-cancel, +ℤ-idl, +ℤ-idr}
+use lib.Signed.{_≤ℤ_, _<ℤ_, ltZ, ltZ-no, clashℤ}
+use Rattle.lists.specs.Every.{Every, every-append}
+use Rattle.lists.specs.Tabulate.{tabulate, length-tabulate, getD-tabulate}
+use Rattle.rules.specs.Table.{Node, Good}
+use Rattle.rules.specs.Truth.{bitAt}
+use Rattle.rules.specs.Evaluation.{bitOf}
+use Rattle.rules.specs.Rows.{Relation, Row, Meets, MeetsBy, valueAt, sumOf, atomVariable, slack, rowsOf, slackRows, goalRow}
+use Rattle.rules.specs.Rows.Relation.{at-least, equal}
+use Rattle.rules.specs.Judge.{one, Apart, BrokenBy, None, Verdict, OutsideAt, NotBinaryAt, BrokenAt, Judged}
+use Rattle.rules.specs.Judge.Judged.{is-outside, is-not-binary, is-broken, is-passed}
+use Rattle.rules.specs.Refusals.{RunGood}
+use Rattle.rules.specs.Demands.{Fits, OnlyTheTruth}
+use Rattle.rules.specs.Solution.Truths.{place-lt}
+use Rattle.rules.specs.Theorems.{only-the-truth}
+use Rattle.demands.specs.Passed.{HoldsBy, RowHolds, Passes, PassedIff, TrulyMet, PassedIsTrue}
+
+-- ---- orders that are refuted
+
+not-below : (a b : ℤ) → (a <ℤ b → ⊥) → b ≤ℤ a
+not-below a b f = ltZ-no (not-T (ltZ a b) (λ t. f (record { lt = t })))
+
+not-apart : (e : ℕ) (b x : ℤ) → (Apart e b x → ⊥) → natAbs (x -ℤ b) ≤ e
+not-apart e b x f = go (decLt e (natAbs (x -ℤ b)))
+  where
+    go : Dec (e < natAbs (x -ℤ b)) → natAbs (x -ℤ b) ≤ e
+    go (yes h) = absurd (f h)
+    go (no h) = omega arith
+
+holds-iff : (o : Relation) (e : ℕ) (b s : ℤ) → (BrokenBy o e b s → ⊥) ↔ HoldsBy o e b s
+holds-iff at-least e b s = (not-below s (b -ℤ pos e), λ h k. clashℤ k h)
+holds-iff equal e b s = (not-apart e b s, λ h k. omega arith)
+
+-- ---- every element of a list, by its index
+
+at-every {ℓ} : {A : Type ℓ} (P : A → Type 0) (d : A) (l : List A) → ((i : ℕ) → i < length l → P (getD l i d)) → Every P l
+at-every P d [] h = tt
+at-every P d (a ∷ l) h = (h 0 (omega arith), at-every P d l (λ i u. h (suc i) (omega arith)))
+
+every-at {ℓ} : {A : Type ℓ} (P : A → Type 0) (d : A) (l : List A) → Every P l → (i : ℕ) → i < length l → P (getD l i d)
+every-at P d [] h i u = absurd (omega arith)
+every-at P d (a ∷ l) h zero u = h .0
+every-at P d (a ∷ l) h (suc i) u = every-at P d l (h .1) i (omega arith)
+
+-- ---- passed, and every limit, row and atom
+
+module _ (T M e : ℕ) (ns : List Node) (xs : List ℤ) where
+  abbrev row : ℕ → Row
+  row i = getD (rowsOf T M ns) i (goalRow T M ns)
+
+  inside : None (OutsideAt T M e ns xs) → (v : ℕ) → v < length xs → (negℤ (pos e) ≤ℤ valueAt xs v) × (valueAt xs v ≤ℤ pos (one + e))
+  inside h v u =
+      (not-below (valueAt xs v) (negℤ (pos e)) (λ k. h v (u, inl k)), not-below (pos (one + e)) (valueAt xs v) (λ k. h v (u, inr k)))
+
+  binary : None (NotBinaryAt T M e ns xs) → (v : ℕ) → v < M * T → (natAbs (valueAt xs v -ℤ pos 0) ≤ e) ⊎ (natAbs (valueAt xs v -ℤ pos one) ≤ e)
+  binary h v u = go (decLt e (natAbs (valueAt xs v -ℤ pos 0)))
+    where
+      go : Dec (e < natAbs (valueAt xs v -ℤ pos 0)) → (natAbs (valueAt xs v -ℤ pos 0) ≤ e) ⊎ (natAbs (valueAt xs v -ℤ pos one) ≤ e)
+      go (yes k) = inr (not-apart e (pos one) (valueAt xs v) (λ l. h v (u, (k, l))))
+      go (no k) = inl (omega arith)
+
+  hold : None (BrokenAt T M e ns xs) → Every (RowHolds e xs) (rowsOf T M ns)
+  hold h =
+      at-every (RowHolds e xs) (goalRow T M ns) (rowsOf T M ns)
+      (λ i u. holds-iff (row i .relation) e (row i .right *ℤ pos one) (sumOf xs (row i .terms)) .0 (λ k. h i (u, k)))
+
+  passes : {v : Verdict} (n : ℕ) → v ≡ Verdict.passed n → Judged T M e ns xs v → Passes T M e ns xs
+  passes n f (is-outside h) = let z : _≡_ {A = ℕ} 0 1 = cc in absurd (omega arith)
+  passes n f (is-not-binary p h) = let z : _≡_ {A = ℕ} 0 1 = cc in absurd (omega arith)
+  passes n f (is-broken p q h) = let z : _≡_ {A = ℕ} 0 1 = cc in absurd (omega arith)
+  passes n f (is-passed p q r) = record { limits = inside p; binary = binary q; rows = hold r }
+
+  not-outside : Passes T M e ns xs → None (OutsideAt T M e ns xs)
+  not-outside p v (u, inl k) = clashℤ k (p .limits v u .0)
+  not-outside p v (u, inr k) = clashℤ k (p .limits v u .1)
+
+  all-binary : Passes T M e ns xs → None (NotBinaryAt T M e ns xs)
+  all-binary p v (u, (a, b)) = ⊎-elim (λ h. omega arith) (λ h. omega arith) (p .binary v u)
+
+  none-broken : Passes T M e ns xs → None (BrokenAt T M e ns xs)
+  none-broken p i (u, k) =
+      holds-iff (row i .relation) e (row i .right *ℤ pos one) (sumOf xs (row i .terms)) .1 (every-at (RowHolds e xs) (goalRow T M ns) (rowsOf T M ns) (p .rows) i u) k
+
+pub passed-iff : PassedIff
+passed-iff T M e ns xs = (passes T M e ns xs (length (rowsOf T M ns)) refl, λ p. is-passed (not-outside T M e ns xs p) (all-binary T M e ns xs p) (none-broken T M e ns xs p))
+
+-- ---- a number from its bits
+
+abbrev number : (ℕ → ℕ) → ℕ → ℕ
+number b zero = 0
+number b (suc k) = b k * 2 ^ k + number b k
+
+module _ (b : ℕ → ℕ) (small : (k : ℕ) → b k < 2) where
+  number-lt : (k : ℕ) → number b k < 2 ^ k
+  number-lt zero = rw (pow-zero 2) (omega arith)
+  number-lt (suc k) = rw (pow-suc 2 k) (omega (arith, number-lt k, mul-le-mul-right (2 ^ k) (small k)))
+
+  -- the highest bit, and a lower one, which the higher part leaves as it is
+  top-bit : (k : ℕ) → number b (suc k) / 2 ^ k % 2 ≡ b k
+  top-bit k =
+      ap (λ (x : ℕ). x % 2) (mul-add-div-right {m = 2 ^ k} (pow-pos k) (b k) (number b k) ∙ omega (arith, div-eq-of-lt (number-lt k))) ∙ mod-eq-of-lt (small k)
+
+  low-bit : (a k : ℕ) → a < k → number b (suc k) / 2 ^ a % 2 ≡ number b k / 2 ^ a % 2
+  low-bit a k l =
+      let d : ℕ = k - suc a in
+      let z : 2 ^ k ≡ 2 ^ d * 2 * 2 ^ a = ap (λ (x : ℕ). 2 ^ x) (omega arith) ∙ pow-add 2 (suc d) a ∙ ap (λ (x : ℕ). x * 2 ^ a) (pow-suc 2 d) in
+      let f : number b (suc k) ≡ b k * (2 ^ d * 2) * 2 ^ a + number b k =
+      ap (λ (x : ℕ). b k * x + number b k) z ∙ ap (λ (x : ℕ). x + number b k) (sym (mul-assoc (b k) (2 ^ d * 2) (2 ^ a))) in
+      ap (λ (x : ℕ). x / 2 ^ a % 2) f
+      ∙ ap (λ (x : ℕ). x % 2) (mul-add-div-right {m = 2 ^ a} (pow-pos a) (b k * (2 ^ d * 2)) (number b k))
+      ∙ ap (λ (x : ℕ). (x + number b k / 2 ^ a) % 2) (sym (mul-assoc (b k) (2 ^ d) 2))
+      ∙ mul-add-mod-self-right (b k * 2 ^ d) 2 (number b k / 2 ^ a)
+
+  number-bit : (a k : ℕ) → a < k → number b k / 2 ^ a % 2 ≡ b a
+  number-bit a zero h = absurd (omega arith)
+  number-bit a (suc k) h =
+      ⊎-elim (λ e. let z : a ≡ k = omega arith in rw z (top-bit k)) (λ l. low-bit a k (omega arith) ∙ number-bit a k (omega arith)) (eq-or-lt-of-le h)
+
+-- ---- the run that the atoms make
+
+-- 1 where a figure is one
+abbrev isOne : ℤ → ℕ
+isOne (pos n) = bitOf (eqb n one)
+isOne (negsuc n) = 0
+
+one-small : (b : Bool) → bitOf b < 2
+one-small true = omega arith
+one-small false = omega arith
+
+isOne-small : (z : ℤ) → isOne z < 2
+isOne-small (pos n) = one-small (eqb n one)
+isOne-small (negsuc n) = omega arith
+
+abbrev atomBits : (T : ℕ) → List ℤ → ℕ → ℕ → ℕ
+atomBits T xs i a = isOne (valueAt xs (a * T + i))
+
+abbrev runOf : (T M : ℕ) → List ℤ → List ℕ
+runOf T M xs = tabulate T (λ i. number (atomBits T xs i) M)
+
+run-at : (T M : ℕ) (xs : List ℤ) (i : ℕ) → i < T → getD (runOf T M xs) i 0 ≡ number (atomBits T xs i) M
+run-at T M xs i h = getD-tabulate T (λ i. number (atomBits T xs i) M) i 0 h
+
+run-good : (T M : ℕ) (xs : List ℤ) → RunGood T M (runOf T M xs)
+run-good T M xs =
+    let long = length-tabulate T (λ i. number (atomBits T xs i) M) in
+    record {
+      numbers = long;
+      bits = λ i h. rw (run-at T M xs i (omega arith)) (number-lt (atomBits T xs i) (λ k. isOne-small (valueAt xs (k * T + i))) M);
+    }
+
+bit-is : (T M : ℕ) (xs : List ℤ) (a t : ℕ) → a < M → 1 ≤ t → t ≤ T → bitAt (runOf T M xs) t a ≡ isOne (valueAt xs (atomVariable T a t))
+bit-is T M xs a t h l u =
+    ap (λ (x : ℕ). x / 2 ^ a % 2) (run-at T M xs (t - 1) (omega arith)) ∙ number-bit (atomBits T xs (t - 1)) (λ k. isOne-small (valueAt xs (k * T + (t - 1)))) a M h
+
+same-at : (z b : ℤ) → natAbs (z -ℤ b) ≤ 0 → z ≡ b
+same-at z b h = sym (-ℤ-+ℤ-cancel z b) ∙ ap (λ (x : ℤ). x +ℤ b) (zero-abs (z -ℤ b) h) ∙ +ℤ-idl b
+  where
+    zero-abs : (z : ℤ) → natAbs z ≤ 0 → z ≡ pos 0
+    zero-abs (pos n) h = ap pos (omega arith)
+    zero-abs (negsuc n) h = absurd (omega arith)
+
+-- a figure that is 0 or one
+atom-is : (z : ℤ) → (natAbs (z -ℤ pos 0) ≤ 0) ⊎ (natAbs (z -ℤ pos one) ≤ 0) → z ≡ pos (isOne z * one)
+atom-is z (inl h) = let e = same-at z (pos 0) h in rw e refl
+atom-is z (inr h) = let e = same-at z (pos one) h in rw e refl
+
+-- a row that holds within 0 is met
+met-by : (o : Relation) (b s : ℤ) → HoldsBy o 0 b s → MeetsBy o b s
+met-by at-least b s h = rw (+ℤ-idr b) at h
+met-by equal b s h = same-at s b h
+
+all-met : (xs : List ℤ) (rs : List Row) → Every (RowHolds 0 xs) rs → Every (Meets one xs) rs
+all-met xs [] h = tt
+all-met xs (r ∷ rs) h = (met-by (r .relation) (r .right *ℤ pos one) (sumOf xs (r .terms)) (h .0), all-met xs rs (h .1))
+
+-- ---- tolerance 0
+
+module _ (T M : ℕ) (table : List ℕ) (ns : List Node) (xs : List ℤ) (0<T : 1 ≤ T) (good : Good M table ns) (count : length xs ≡ (M + length ns) * T) (p : Passes T M 0 ns xs) where
+  abbrev A : ℕ
+  A = M * T
+
+  abbrev run : List ℕ
+  run = runOf T M xs
+
+  abbrev only : OnlyTheTruth T M one run ns (slackRows T M ns) (goalRow T M ns)
+  only = only-the-truth T M one run table ns good 0<T (omega arith)
+
+  atoms : (a t : ℕ) → a < M → 1 ≤ t → t ≤ T → valueAt xs (atomVariable T a t) ≡ pos (bitAt run t a * one)
+  atoms a t h l u =
+      atom-is (valueAt xs (atomVariable T a t)) (p .binary (atomVariable T a t) (place-lt T M a t h l u)) ∙ ap (λ (b : ℕ). pos (b * one)) (sym (bit-is T M xs a t h l u))
+
+  A≤ : A ≤ length xs
+  A≤ = omega (arith, count)
+
+  -- the atoms' figures are their numerators
+  first-part : only .atoms ≡ take A xs
+  first-part =
+      ext-getD (pos 0) (only .atoms) (take A xs) (only .atoms-are .count ∙ sym (length-take-le A xs A≤)) (λ i h. same i (rw (only .atoms-are .count) at h))
+    where
+      same : (i : ℕ) → i < A → valueAt (only .atoms) i ≡ valueAt (take A xs) i
+      same i h =
+          let n : i / T < M = div-lt-iff-lt-mul 0<T .1 h in
+          let u : suc (i % T) ≤ T = mod-lt i 0<T in
+          let e : i / T * T + (suc (i % T) - 1) ≡ i = omega (arith, div-add-mod' i T) in
+          subst (λ (k : ℕ). valueAt (only .atoms) k ≡ valueAt (take A xs) k) e
+          (only .atoms-are .at (i / T) (suc (i % T)) n (omega arith) u ∙ sym (atoms (i / T) (suc (i % T)) n (omega arith) u)
+          ∙ sym (getD-take A xs (i / T * T + (suc (i % T) - 1)) (pos 0) (omega arith)))
+
+  whole : only .atoms ++ drop A xs ≡ xs
+  whole = ap (λ (l : List ℤ). l ++ drop A xs) first-part ∙ take-append-drop A xs
+
+  all-rows : Every (Meets one xs) (rowsOf T M ns)
+  all-rows = all-met xs (rowsOf T M ns) (p .rows)
+
+  both-rows : Every (Meets one xs) (slackRows T M ns) × Every (Meets one xs) (goalRow T M ns ∷ [])
+  both-rows = every-append (Meets one xs) (slackRows T M ns) (goalRow T M ns ∷ []) .0 all-rows
+
+  fit : Fits one (length ns * T) (only .atoms) (slackRows T M ns) (drop A xs)
+  fit = record {
+    counted = length-drop A xs ∙ omega (arith, count);
+    limits = λ v h.
+        let k : A + v < length xs = omega (arith, length-drop A xs) in
+        let l = p .limits (A + v) k in
+        rw (getD-drop A xs v (pos 0)) l;
+    meets = rw whole (both-rows .0);
+  }
+
+  slacks-are : drop A xs ≡ only .slacks
+  slacks-are = only .only (drop A xs) fit
+
+  slack-is : (n t : ℕ) → valueAt xs (slack T M n t) ≡ valueAt (only .slacks) (n * T + (t - 1))
+  slack-is n t =
+      ap (valueAt xs) (omega arith) ∙ sym (getD-drop A xs (n * T + (t - 1)) (pos 0)) ∙ ap (λ (l : List ℤ). valueAt l (n * T + (t - 1))) slacks-are
+
+  truly-met : TrulyMet T M ns xs
+  truly-met = record {
+    run = run;
+    run-good = run-good T M xs;
+    atoms = atoms;
+    ones = λ n t h l u x. slack-is n t ∙ only .one n t h l u x;
+    zeros = λ n t h l u x. slack-is n t ∙ only .zero n t h l u x;
+    rule-holds = only .goal-met .0 (rw (← slacks-are, whole) (both-rows .1 .0));
+  }
+
+pub passed-is-true : PassedIsTrue
+passed-is-true T M table ns xs n 0<T good count j = truly-met T M table ns xs 0<T good count (passes T M 0 ns xs n refl j)
