@@ -9,9 +9,6 @@ ghost use Rattle.answers.specs.Told.{told};
 ghost use Rattle.reader.specs.Records.{entry};
 ghost use Rattle.reader.specs.Steps.{ruleLevel, orLevel, andLevel, untilLevel, singleLevel, Ready, Told, Room, joined, joinedIn, applied, appliedIn, prefixKind, closed};
 
-// The mark of a node record.
-pub const MARK: [u8; 2] = *b"ND";
-
 // No phrase, or one that ends before `next`: `nodes` nodes are written so far, and `top` is the phrase's highest atom number.
 pub enum Step {
     Fail,
@@ -34,7 +31,7 @@ fn put(out: &mut [u8; 5120], n: usize, kind: u8, left: usize, right: usize)
     ensures { λ _. ⌜ now (out .exit) ≡ sets (now (out .entry)) (5 * n) (entry kind left right) ⌝ }
 {
     let i = 5 * n;
-    let mark = MARK;
+    let mark = table::MARK;
     out[i] = mark[0];
     out[i + 1] = mark[1];
     out[i + 2] = kind;

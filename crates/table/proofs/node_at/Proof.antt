@@ -1,0 +1,78 @@
+-- `table::node_at` meets its contract: its three bytes are node n's kind, left and right. Assumes nothing.
+use mathlib.Core.Path.{_≡_, sym, _∙_}
+use native.Mathlib.Omega.{arith}
+use Rattle.rules.specs.TableTest.{byteAt}
+use Rattle.table.specs.Nodes.{kindIn, known-is, unknown-is}
+use Rattle.table.specs.declared.KindRead.the-variants.{Known, Unknown}
+use borrow.Author.Needs.{needs}
+use Rattle.table.proofs.node_at.Statement.{statement}
+use Rattle.table.proofs.node_at.Tie as tie
+
+mul-at : tie.Need-mul-at
+mul-at c = search needs
+
+add-wide : tie.Need-add-wide
+add-wide c = search needs
+
+shared-slice-read-wide : tie.Need-shared-slice-read-wide
+shared-slice-read-wide c = search needs
+
+wide-requires : tie.Need-wide-requires
+wide-requires c κs = search needs
+
+add-wide-2 : tie.Need-add-wide-2
+add-wide-2 c = search needs
+
+shared-slice-read-wide-2 : tie.Need-shared-slice-read-wide-2
+shared-slice-read-wide-2 c = search needs
+
+wide-requires-2 : tie.Need-wide-requires-2
+wide-requires-2 c κs = search needs
+
+add-kind-of : tie.Need-add-kind-of
+add-kind-of c = search needs
+
+shared-slice-read-kind-of : tie.Need-shared-slice-read-kind-of
+shared-slice-read-kind-of c = search needs
+
+kind-of-requires : tie.Need-kind-of-requires
+kind-of-requires c κs = search needs
+
+enum-known-read : tie.Need-enum-known-read
+enum-known-read c = search needs
+
+enum-told : tie.Need-enum-told
+enum-told c = search needs
+
+returns : tie.Need-returns
+returns c =
+    let a = c .before .before .before .before .before .before .before .before .before .before .args in
+    let e : kindIn (byteAt (a .table .now) (a .n) 2) ≡ Known (c .before .read .given .0 .0) = sym (c .before .before .before .kind-of .ensures) ∙ c .before .read .given .1 in
+    let l = c .before .before .before .before .before .before .before .wide .ensures in
+    let r = c .before .before .before .before .before .wide2 .ensures in
+    record { is = rw (l .0, r .0) (known-is (a .table .now) (a .n) _ (c .before .before .before .before .before .before .before .before .before .before .pre) e); left-byte = l .1; right-byte = r .1 }
+
+returns-2 : tie.Need-returns-2
+returns-2 c =
+    let a = c .before .before .before .before .before .before .before .before .before .args in
+    let e : kindIn (byteAt (a .table .now) (a .n) 2) ≡ Unknown = sym (c .before .before .kind-of .ensures) ∙ c .enum-told .given .1 in
+    record { is = unknown-is (a .table .now) (a .n) (c .before .before .before .before .before .before .before .before .before .pre) e; left-byte = omega arith; right-byte = omega arith }
+
+pub node-at-spec : {M : Type 1} → statement M
+node-at-spec =
+    tie.close
+    (tie.spec
+    mul-at
+    add-wide
+    shared-slice-read-wide
+    wide-requires
+    add-wide-2
+    shared-slice-read-wide-2
+    wide-requires-2
+    add-kind-of
+    shared-slice-read-kind-of
+    kind-of-requires
+    enum-known-read
+    enum-told
+    returns
+    returns-2)
