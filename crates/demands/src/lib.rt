@@ -1,9 +1,72 @@
-// The demands, as the contracts of functions that only call the four calls.
+// The demands, as the contracts of functions that only make the calls.
+ghost use Rattle.answers.specs.Told.{told};
+ghost use Rattle.demands.specs.Demand1.{ReaderRefuses, EvaluatorRefuses, RowWriterRefuses};
+ghost use Rattle.demands.specs.Demand2.{ReaderAnswers, EvaluatorAnswers, RowWriterAnswers};
+ghost use Rattle.demands.specs.Demand3.{Demanded};
+use answers::Answer;
+use answers::Refusal;
+
+// Demands 1 and 2 of the reader.
+pub fn read(text: &[u8], m: usize, out: &mut [u8]) -> Answer
+    ensures { λ r. ⌜ ReaderRefuses m (now (text .entry)) (told r) (now (out .entry)) (now (out .exit)) ⌝ }
+    ensures { λ r. ⌜ ReaderAnswers m (now (text .entry)) (told r) (now (out .entry)) (now (out .exit)) ⌝ }
+{
+    reader::read(text, m, out)
+}
+
+// Demands 1 and 2 of the evaluator.
+pub fn evaluate(table: &[u8], t: usize, m: usize, run: &[u16], out: &mut [u8]) -> Answer
+    ensures { λ r. ⌜ EvaluatorRefuses t m (now (table .entry)) (now (run .entry)) (told r) (now (out .entry)) (now (out .exit)) ⌝ }
+    ensures { λ r. ⌜ EvaluatorAnswers t m (now (table .entry)) (now (run .entry)) (told r) (now (out .entry)) (now (out .exit)) ⌝ }
+{
+    evaluator::evaluate(table, t, m, run, out)
+}
+
+// Demands 1 and 2 of the row writer.
+pub fn write_rows(table: &[u8], t: usize, m: usize, out: &mut [u8]) -> Answer
+    ensures { λ r. ⌜ RowWriterRefuses t m (now (table .entry)) (told r) (now (out .entry)) (now (out .exit)) ⌝ }
+    ensures { λ r. ⌜ RowWriterAnswers t m (now (table .entry)) (told r) (now (out .entry)) (now (out .exit)) ⌝ }
+{
+    rows::write_rows(table, t, m, out)
+}
+
+// The node count, the row count and the root's truth at slot 1, or the first refusal.
 pub enum Planned {
     Done {
         nodes: usize,
         rows: usize,
         truth: usize,
     },
-    Refused(answers::Refusal),
+    Refused(Refusal),
+}
+
+// Demand 3: a text is read, and the rows and the truth of the table that was read are written.
+pub fn plan(
+    text: &[u8],
+    t: usize,
+    m: usize,
+    run: &[u16],
+    table: &mut [u8],
+    rows: &mut [u8],
+    truth: &mut [u8],
+) -> Planned
+    ensures { λ r. ⌜ Demanded t m (now (text .entry)) (now (run .entry)) (now (table .entry)) (now (rows .entry)) (now (truth .entry)) (now (table .exit)) (now (rows .exit)) (now (truth .exit)) r ⌝ }
+{
+    match reader::read(text, m, table) {
+        Answer::Refused(r) => Planned::Refused(r),
+        Answer::Value(n) => {
+            let end = 5 * n;
+            match rows::write_rows(&table[..end], t, m, rows) {
+                Answer::Refused(r) => Planned::Refused(r),
+                Answer::Value(count) => match evaluator::evaluate(&table[..end], t, m, run, truth) {
+                    Answer::Refused(r) => Planned::Refused(r),
+                    Answer::Value(v) => Planned::Done {
+                        nodes: n,
+                        rows: count,
+                        truth: v,
+                    },
+                },
+            }
+        }
+    }
 }

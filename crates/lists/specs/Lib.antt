@@ -2,4 +2,11 @@ pub mod Tests
 pub mod All
 pub mod Every
 pub mod First
+pub mod Scan
 pub mod Tabulate
+pub mod Flat
+pub mod Tally
+pub mod Place
+pub mod Splice
+pub mod Stores
+pub mod Filling

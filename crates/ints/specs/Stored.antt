@@ -1,0 +1,36 @@
+-- Signed numbers as code stores them: what fits a width, and what is read back.
+use mathlib.Core.Path.{_≡_, ap₂, _∙_, subst⁻¹}
+use Prim.Native.Nat.{ℕ, suc, _+_, _^_, _≤_, _<_}
+use native.Mathlib.Nat.{le-refl}
+use native.Mathlib.Omega.{arith}
+use lib.Dec.{T, leb}
+use lib.IntN.{ℤ, pos, negsuc, natAbs}
+use lib.Signed.{mag, natAbs-le, leZ}
+use mir.Syntax.{Width, w64}
+use mir.Val.{SFits, hbits, toZ, ofZ}
+use mir.Facts.{toZ-ofZ, sfits-widen}
+
+mag-abs : (z : ℤ) → mag z ≤ natAbs z
+mag-abs (pos n) = le-refl n
+mag-abs (negsuc n) = omega arith
+
+pub sfits-abs : {w : Width} (z : ℤ) → natAbs z < 2 ^ hbits w → SFits w z
+sfits-abs z h = let m = mag-abs z in record { sfits = omega arith }
+
+pub abs-sfits : {w : Width} {z : ℤ} → SFits w z → natAbs z ≤ 2 ^ hbits w
+abs-sfits {z = z} f = natAbs-le z (f .sfits)
+
+-- the result of an operation whose operands are known by an equation
+pub sfits-by : {w : Width} {z t : ℤ} → z ≡ t → natAbs t < 2 ^ hbits w → SFits w z
+sfits-by {w} {t = t} e h = subst⁻¹ (SFits w) e (sfits-abs t h)
+
+-- an element of a slice, read and passed on: h is what the slice's rule gives
+pub told-back : (w : Width) (z : ℤ) → mag z < 2 ^ hbits w → toZ w (ofZ w z) ≡ z
+told-back w z h = toZ-ofZ (record { sfits = h })
+
+-- a cast to a wider type, `cast-fits tt f`, and what is read back after it
+pub cast-fits : {w w′ : Width} {z : ℤ} → T (leb (hbits w) (hbits w′)) → SFits w z → SFits w′ (toZ w (ofZ w z))
+cast-fits {w′ = w′} t f = subst⁻¹ (SFits w′) (toZ-ofZ f) (sfits-widen t f)
+
+pub cast-back : {w : Width} (w′ : Width) {z : ℤ} → T (leb (hbits w) (hbits w′)) → SFits w z → toZ w′ (ofZ w′ (toZ w (ofZ w z))) ≡ z
+cast-back w′ t f = toZ-ofZ (cast-fits t f) ∙ toZ-ofZ f

@@ -1,0 +1,1 @@
+// Laws of signed numbers stand in specs/. There is no code here.

@@ -1,0 +1,15 @@
+-- One, zero and the figure of a truth, in millionths.
+use mathlib.Core.Bool.{Bool, true, false}
+use lib.IntN.{ℤ, pos}
+use Rattle.rules.specs.Judge as Judge
+use Rattle.millionths.specs.declared.Millionths.{Millionths}
+
+abbrev pub one : Millionths
+one = record { value = pos Judge.one }
+
+abbrev pub nought : Millionths
+nought = record { value = pos 0 }
+
+abbrev pub ofTruth : Bool → Millionths
+ofTruth true = one
+ofTruth false = nought

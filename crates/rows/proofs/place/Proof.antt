@@ -1,0 +1,22 @@
+use mathlib.Core.Path.{refl}
+use native.Mathlib.Nat.{mul-le-mul}
+use native.Mathlib.Omega.{arith}
+use Rattle.rows.proofs.place.Statement.{statement}
+use Rattle.rows.proofs.place.Tie as tie
+use Rattle.rows.proofs.place.Reads as reads
+use Rattle.rows.proofs.place.Lts as lts
+
+-- src/lib.rt:24:6
+mul-result : tie.Need-mul-result
+mul-result c = omega (arith, mul-le-mul (c .pre .0) (c .pre .1))
+
+-- src/lib.rt:24:5
+cast-result : tie.Need-cast-result
+cast-result c = omega (arith, mul-le-mul (c .pre .0) (c .pre .1))
+
+-- src/lib.rt:20:1
+returns : tie.Need-returns
+returns c = (refl, mul-le-mul (c .pre .0) (c .pre .1))
+
+pub place-spec : {M : Type 1} → statement M
+place-spec = tie.close (tie.spec mul-result cast-result returns)

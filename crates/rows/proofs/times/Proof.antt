@@ -1,0 +1,18 @@
+use mathlib.Core.Path.{refl}
+use native.Mathlib.Nat.{mul-le-mul}
+use native.Mathlib.Omega.{arith}
+use Rattle.rows.proofs.times.Statement.{statement}
+use Rattle.rows.proofs.times.Tie as tie
+use Rattle.rows.proofs.times.Reads as reads
+use Rattle.rows.proofs.times.Lts as lts
+
+-- src/lib.rt:85:5
+mul-result : tie.Need-mul-result
+mul-result c = omega (arith, mul-le-mul (c .pre .0) (c .pre .1))
+
+-- src/lib.rt:81:1
+returns : tie.Need-returns
+returns c = (refl, mul-le-mul (c .pre .0) (c .pre .1))
+
+pub times-spec : {M : Type 1} → statement M
+times-spec = tie.close (tie.spec mul-result returns)

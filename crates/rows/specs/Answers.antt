@@ -1,0 +1,36 @@
+-- What the row writer answers once the checks of T, M and the table are passed.
+use mathlib.Core.Path.{_≡_, refl, _∙_}
+use mathlib.Core.Bool.{Bool, true, false}
+use mathlib.Core.List.{List}
+use Prim.Native.Nat.{ℕ, _*_, _≤_, _<_}
+use borrow.Author.Tests.{lt-leb, le-leb}
+use lib.Dec.{leb}
+use lib.ListN.{length}
+use Rattle.rules.specs.Demands.{Answer, Written}
+use Rattle.rules.specs.Demands.Answer.{refused, answered}
+use Rattle.rules.specs.Demands.Written.{wrote}
+use Rattle.rules.specs.Rows.{rowsOf, rowsBytes}
+use Rattle.rules.specs.TableTest.{nodesIn}
+use Rattle.rules.specs.Outcome.{require, rowsOutcome}
+use Rattle.table.specs.Checks.{checkOf, afterCheck, checked}
+
+unfoldable pub rowsAnswer : (T M : ℕ) (table : List ℕ) (room : ℕ) → Answer Written
+rowsAnswer T M table room =
+    require (leb (14 * length (rowsOf T M (nodesIn table))) room) 11
+    (answered (wrote (length (rowsOf T M (nodesIn table))) (rowsBytes (rowsOf T M (nodesIn table)))))
+
+pub rows-checked : (T M : ℕ) (table : List ℕ) (room : ℕ) → rowsOutcome T M table room ≡ afterCheck (checkOf T M table) (rowsAnswer T M table room)
+unfolding rowsOutcome rowsAnswer
+rows-checked T M table room = checked T M table _
+
+module _ (T M : ℕ) (table : List ℕ) (room : ℕ) where
+  abbrev count : ℕ
+  count = length (rowsOf T M (nodesIn table))
+
+  pub too-short : room < 14 * count → rowsAnswer T M table room ≡ refused 11
+  unfolding rowsAnswer
+  too-short h = rw (lt-leb (14 * count) room h)
+
+  pub long-enough : 14 * count ≤ room → rowsAnswer T M table room ≡ answered (wrote count (rowsBytes (rowsOf T M (nodesIn table))))
+  unfolding rowsAnswer
+  long-enough h = rw (le-leb (14 * count) room h)

@@ -1,0 +1,89 @@
+-- The bytes of a table's rows, part by part, as the writer makes them.
+use mathlib.Core.Path.{_≡_, refl, sym, ap, ap₂, _∙_}
+use mathlib.Core.List.{List, [], _∷_, _++_, append-nil}
+use Prim.Native.Nat.{ℕ, _+_, _-_, _*_, _≤_, _<_}
+use lib.IntN.{pos}
+use native.Mathlib.Omega.{arith}
+use lib.Dec.{ltb}
+use lib.ListN.{length, length-append}
+use Rattle.lists.specs.Flat.{flat, flat-same, flat-zero, flat-more}
+use Rattle.rules.specs.Table.{Node, nodeAt}
+use Rattle.rules.specs.Rows.{Row, eq, plus, rowBytes, rowsBytes, rowsAt, slotsRows, slackRows, goalRow, rowsOf}
+use Rattle.rules.specs.RowParts.{rowsBytes-append, rowsBytes-flat, slots-parts, nodes-parts}
+use Rattle.rules.specs.RowRecords.{length-rows, rows-recordable}
+use Rattle.table.specs.Nodes.{nodeBy}
+use Rattle.table.specs.declared.Kind.{Kind}
+use Rattle.row.specs.Kinds.{kindRows, leftPart, nodeCount, slot-rows, length-node}
+
+-- P, p and q are the variables of the node and its parts at the first slot; the node's rows at slot s + 1
+abbrev pub slotBytes : Kind → (T P p q s : ℕ) → List ℕ
+slotBytes k T P p q s = rowsBytes (kindRows k (ltb (s + 1) T) (P + s) (p + s) (q + s))
+
+unfoldable pub nodeBytes : Kind → (T P p q : ℕ) → List ℕ
+nodeBytes k T P p q = flat (slotBytes k T P p q) T
+
+-- the rows of node n, and of the first k nodes
+abbrev pub partRows : (T M : ℕ) → List Node → (n : ℕ) → List Row
+partRows T M ns n = slotsRows T M n (nodeAt ns n) T 1
+
+abbrev pub partBytes : (T M : ℕ) → List Node → (n : ℕ) → List ℕ
+partBytes T M ns n = rowsBytes (partRows T M ns n)
+
+unfoldable pub nodesBytes : (T M : ℕ) → List Node → (k : ℕ) → List ℕ
+nodesBytes T M ns k = flat (partBytes T M ns) k
+
+module _ (T M : ℕ) (ns : List Node) where
+  pub node-part : (n : ℕ) (k : Kind) (l r : ℕ) {P p q : ℕ} → nodeBy k l r ≡ nodeAt ns n → P ≡ (M + n) * T → p ≡ leftPart k M l * T → q ≡ (M + r) * T →
+      nodeBytes k T P p q ≡ partBytes T M ns n
+  unfolding nodeBytes
+  node-part n k l r {P} {p} {q} e x y z =
+      let f : ℕ → List Row = λ s. rowsAt T M n (nodeBy k l r) (s + 1) in
+      flat-same (slotBytes k T P p q) (λ s. rowsBytes (f s)) T (λ s h. rw (x, y, z) (ap rowsBytes (sym (slot-rows T M n k l r s))))
+      ∙ sym (rowsBytes-flat f T)
+      ∙ ap rowsBytes (sym (slots-parts T M n (nodeBy k l r) T) ∙ ap (λ (nd : Node). slotsRows T M n nd T 1) e)
+
+  -- all nodes' rows, and then the goal row
+  pub all-bytes : nodesBytes T M ns (length ns) ++ rowBytes (goalRow T M ns) ≡ rowsBytes (rowsOf T M ns)
+  unfolding nodesBytes
+  all-bytes =
+      ap₂ _++_ (sym (rowsBytes-flat (partRows T M ns) (length ns)) ∙ ap rowsBytes (sym (nodes-parts T M ns))) (sym (append-nil (rowBytes (goalRow T M ns))))
+      ∙ sym (rowsBytes-append (slackRows T M ns) (goalRow T M ns ∷ []))
+
+  pub length-all : length (rowsBytes (rowsOf T M ns)) ≡ 14 * length (rowsOf T M ns)
+  length-all = length-rows (rowsOf T M ns) (rows-recordable T M ns)
+
+  -- ---- the row count
+
+  unfoldable pub countTo : ℕ → ℕ
+  countTo k = length (flat (partRows T M ns) k)
+
+  pub count-none : countTo 0 ≡ 0
+  unfolding countTo
+  count-none = rw flat-zero
+
+  pub count-more : (i : ℕ) (k : Kind) (l r : ℕ) → 1 ≤ T → nodeBy k l r ≡ nodeAt ns i → countTo (i + 1) ≡ countTo i + nodeCount k T
+  unfolding countTo
+  count-more i k l r h e =
+      ap length (flat-more (partRows T M ns) i) ∙ length-append (flat (partRows T M ns) i) (partRows T M ns i)
+      ∙ ap (λ (n : ℕ). length (flat (partRows T M ns) i) + n) (ap (λ (nd : Node). length (slotsRows T M i nd T 1)) (sym e) ∙ length-node T M i k l r h)
+
+  pub count-all : countTo (length ns) + 1 ≡ length (rowsOf T M ns)
+  unfolding countTo
+  count-all = ap (λ (rs : List Row). length rs + 1) (sym (nodes-parts T M ns)) ∙ sym (length-append (slackRows T M ns) (goalRow T M ns ∷ []))
+
+  module _ (n : ℕ) (e : length ns ≡ n) where
+    pub count-is : {c : ℕ} → c ≡ countTo n → c + 1 ≡ length (rowsOf T M ns)
+    count-is h = ap (λ (k : ℕ). k + 1) (h ∙ ap countTo (sym e)) ∙ count-all
+
+    pub bytes-are : nodesBytes T M ns n ++ rowBytes (goalRow T M ns) ≡ rowsBytes (rowsOf T M ns)
+    bytes-are = ap (λ (k : ℕ). nodesBytes T M ns k ++ rowBytes (goalRow T M ns)) (sym e) ∙ all-bytes
+
+    -- the goal row's place
+    pub before-goal : length (nodesBytes T M ns n) + 14 ≡ 14 * length (rowsOf T M ns)
+    before-goal = sym (length-append (nodesBytes T M ns n) (rowBytes (goalRow T M ns))) ∙ ap length bytes-are ∙ length-all
+
+    pub goal-is : {v : ℕ} → 1 ≤ n → v ≡ (M + n - 1) * T → eq (plus v ∷ []) (pos 1) ≡ goalRow T M ns
+    goal-is h f =
+        let k : M + n - 1 ≡ M + (length ns - 1) = omega arith in
+        let g : (M + (length ns - 1)) * T ≡ (M + (length ns - 1)) * T + 0 = omega arith in
+        ap (λ (v : ℕ). eq (plus v ∷ []) (pos 1)) (f ∙ ap (λ (i : ℕ). i * T) k ∙ g)

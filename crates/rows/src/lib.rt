@@ -1,0 +1,147 @@
+// The row writer.
+use answers::Answer;
+use answers::Refusal;
+use table::Checked;
+use table::Kind;
+ghost use mathlib.Core.Path.{_≡_};
+ghost use Prim.Native.Nat.{ℕ, _+_, _-_, _*_, _≤_, _<_};
+ghost use lib.ListN.{length};
+ghost use Rattle.lists.specs.Splice.{splice};
+ghost use Rattle.rules.specs.Rows.{rowsOf, rowsBytes};
+ghost use Rattle.rules.specs.TableTest.{recordCount, nodesIn};
+ghost use Rattle.rules.specs.Outcome.{result, buffer, rowsOutcome};
+ghost use Rattle.answers.specs.Told.{told};
+ghost use Rattle.table.specs.Checks.{Ready};
+ghost use Rattle.row.specs.Kinds.{leftPart, nodeCount};
+ghost use Rattle.rows.specs.Parts.{nodeBytes, nodesBytes, countTo};
+ghost use Rattle.rows.specs.Answers.{rowsAnswer};
+
+// The first variable of a part of the variables, with t slots to a part.
+fn place(part: usize, t: usize) -> u16
+    requires { ⌜ (part ≤ 400) × (t ≤ 64) ⌝ }
+    ensures { λ r. ⌜ (r ≡ part * t) × (r ≤ 25600) ⌝ }
+{
+    (part * t) as u16
+}
+
+// The part of the variables that a node's left part has: an atom's own, or a node's after the m atoms'.
+fn left_part(kind: Kind, m: usize, left: usize) -> usize
+    requires { ⌜ (m ≤ 16) × (left < 256) ⌝ }
+    ensures { λ r. ⌜ (r ≡ leftPart kind m left) × (r ≤ 400) ⌝ }
+{
+    match kind {
+        Kind::Atom => left,
+        Kind::Not => m + left,
+        Kind::And => m + left,
+        Kind::Or => m + left,
+        Kind::Implies => m + left,
+        Kind::Eventually => m + left,
+        Kind::Always => m + left,
+        Kind::Until => m + left,
+    }
+}
+
+// Writes a node's rows at t slots from the place `at` on, and returns the next place.
+// `big`, `p` and `q` are the variables of the node and its parts at the first slot.
+fn write_node(out: &mut [u8], at: usize, kind: Kind, t: u16, big: u16, p: u16, q: u16) -> usize
+    requires { ⌜ (t ≤ 64) × (big ≤ 25600) × (p ≤ 25600) × (q ≤ 25600) ⌝ }
+    requires { ⌜ at + length (nodeBytes kind t big p q) ≤ length (now out) ⌝ }
+    ensures { λ r. ⌜ (r ≡ at + length (nodeBytes kind t big p q)) × (now (out .exit) ≡ splice at (nodeBytes kind t big p q) (now (out .entry))) ⌝ }
+{
+    let mut next = at;
+    let mut s: u16 = 0;
+    while s < t {
+        let rows = row::slot_rows(kind, s + 1 < t, big + s, p + s, q + s);
+        next = record::put_rows(out, next, rows);
+        s += 1;
+    }
+    next
+}
+
+// Writes the rows of the first n nodes at the start of `out`, and returns the next place.
+fn write_nodes(table: &[u8], n: usize, t: usize, m: usize, out: &mut [u8]) -> usize
+    requires { ⌜ (t ≤ 64) × (m ≤ 16) × (n ≤ 128) × (n ≤ recordCount (now table)) ⌝ }
+    requires { ⌜ length (nodesBytes t m (nodesIn (now table)) n) ≤ length (now out) ⌝ }
+    ensures { λ r. ⌜ (r ≡ length (nodesBytes t m (nodesIn (now (table .entry))) n)) × (now (out .exit) ≡ splice 0 (nodesBytes t m (nodesIn (now (table .entry))) n) (now (out .entry))) ⌝ }
+{
+    let mut next: usize = 0;
+    let mut i: usize = 0;
+    while i < n {
+        let node = table::node_at(table, i);
+        let kind = node.kind;
+        let big = place(m + i, t);
+        let p = place(left_part(kind, m, node.left), t);
+        let q = place(m + node.right, t);
+        next = write_node(out, next, kind, t as u16, big, p, q);
+        i += 1;
+    }
+    next
+}
+
+fn times(a: usize, b: usize) -> usize
+    requires { ⌜ (a ≤ 63) × (b ≤ 4) ⌝ }
+    ensures { λ r. ⌜ (r ≡ a * b) × (r ≤ 252) ⌝ }
+{
+    a * b
+}
+
+// How many rows a node of this kind has at t slots.
+fn node_count(kind: Kind, t: usize) -> usize
+    requires { ⌜ (1 ≤ t) × (t ≤ 64) ⌝ }
+    ensures { λ r. ⌜ (r ≡ nodeCount kind t) × (r ≤ 256) ⌝ }
+{
+    times(t - 1, row::slot_count(kind, true)) + row::slot_count(kind, false)
+}
+
+// How many rows the first n nodes have, for any number of atoms.
+fn count_nodes(table: &[u8], n: usize, t: usize) -> usize
+    requires { ⌜ (1 ≤ t) × (t ≤ 64) × (n ≤ 128) × (n ≤ recordCount (now table)) ⌝ }
+    ensures { λ r. ⌜ ((M : ℕ) → r ≡ countTo t M (nodesIn (now (table .entry))) n) ⌝ ∗ ⌜ r ≤ 32768 ⌝ }
+{
+    let mut sum: usize = 0;
+    let mut i: usize = 0;
+    while i < n {
+        let node = table::node_at(table, i);
+        let kind = node.kind;
+        sum += node_count(kind, t);
+        i += 1;
+    }
+    sum
+}
+
+// Writes all rows of a checked table of n nodes at the start of `out`.
+fn write_all(table: &[u8], n: usize, t: usize, m: usize, out: &mut [u8])
+    requires { ⌜ Ready t m (now table) × (n ≡ recordCount (now table)) ⌝ }
+    requires { ⌜ 14 * length (rowsOf t m (nodesIn (now table))) ≤ length (now out) ⌝ }
+    ensures { λ _. ⌜ now (out .exit) ≡ splice 0 (rowsBytes (rowsOf t m (nodesIn (now (table .entry))))) (now (out .entry)) ⌝ }
+{
+    let next = write_nodes(table, n, t, m, out);
+    record::put_row(out, next, row::goal(place(m + n - 1, t)));
+}
+
+// Writes the rows, where the checks are passed and there is room.
+fn write_checked(table: &[u8], t: usize, m: usize, out: &mut [u8]) -> Answer
+    requires { ⌜ Ready t m (now table) ⌝ }
+    ensures { λ r. ⌜ told r ≡ result (rowsAnswer t m (now (table .entry)) (length (now (out .entry)))) ⌝ }
+    ensures { λ _. ⌜ now (out .exit) ≡ buffer (rowsAnswer t m (now (table .entry)) (length (now (out .entry)))) (now (out .entry)) ⌝ }
+{
+    let n = table::count(table);
+    let count = count_nodes(table, n, t) + 1;
+    if out.len() < 14 * count {
+        return Answer::Refused(Refusal::Room);
+    }
+    write_all(table, n, t, m, out);
+    Answer::Value(count)
+}
+
+// Writes a table's rows at the start of `out`. The result is the row count.
+pub fn write_rows(table: &[u8], t: usize, m: usize, out: &mut [u8]) -> Answer
+    ensures { λ r. ⌜ told r ≡ result (rowsOutcome t m (now (table .entry)) (length (now (out .entry)))) ⌝ }
+    ensures { λ _. ⌜ now (out .exit) ≡ buffer (rowsOutcome t m (now (table .entry)) (length (now (out .entry)))) (now (out .entry)) ⌝ }
+{
+    let checked = table::check(table, t, m);
+    match checked {
+        Checked::Refused(r) => Answer::Refused(r),
+        Checked::Passed => write_checked(table, t, m, out),
+    }
+}

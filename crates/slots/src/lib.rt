@@ -1,0 +1,134 @@
+// One node's bytes at all slots, kind by kind, from the last slot to the first. The bytes of node c stand from place c·t on.
+ghost use mathlib.Core.Path.{_≡_};
+ghost use Prim.Native.Nat.{_+_, _*_, _/_, _%_, _^_, _≤_, _<_};
+ghost use lib.ListN.{length};
+ghost use Rattle.slots.specs.Worked.{Worked, atomAt, notAt, andAt, orAt, impliesAt, eventuallyAt, alwaysAt, untilAt};
+
+// Bit a of a run's number.
+fn bit(x: u16, a: usize) -> u8
+    requires { ⌜ a < 16 ⌝ }
+    ensures { λ r. ⌜ r ≡ x / 2 ^ a % 2 ⌝ }
+{
+    ((x >> a) % 2) as u8
+}
+
+// Atom a: its bit in the run's number for the slot.
+pub fn atom(out: &mut [u8], run: &[u16], t: usize, n: usize, a: usize)
+    requires { ⌜ (n * t + t ≤ length (now out)) × (t ≤ length (now run)) × (a < 16) ⌝ }
+    ensures { λ _. ⌜ Worked t n 0 (atomAt (now (run .entry)) a) (now (out .entry)) 0 (now (out .exit)) ⌝ }
+{
+    let here = n * t;
+    let mut s = t;
+    while 0 < s {
+        s -= 1;
+        out[here + s] = bit(run[s], a);
+    }
+}
+
+// Not p.
+pub fn not(out: &mut [u8], t: usize, n: usize, p: usize)
+    requires { ⌜ (n * t + t ≤ length (now out)) × (p < n) ⌝ }
+    ensures { λ _. ⌜ Worked t n 0 (notAt t (now (out .entry)) p) (now (out .entry)) 0 (now (out .exit)) ⌝ }
+{
+    let here = n * t;
+    let left = p * t;
+    let mut s = t;
+    while 0 < s {
+        s -= 1;
+        out[here + s] = out[left + s] ^ 1;
+    }
+}
+
+// p and q.
+pub fn and(out: &mut [u8], t: usize, n: usize, p: usize, q: usize)
+    requires { ⌜ (n * t + t ≤ length (now out)) × (p < n) × (q < n) ⌝ }
+    ensures { λ _. ⌜ Worked t n 0 (andAt t (now (out .entry)) p q) (now (out .entry)) 0 (now (out .exit)) ⌝ }
+{
+    let here = n * t;
+    let left = p * t;
+    let right = q * t;
+    let mut s = t;
+    while 0 < s {
+        s -= 1;
+        out[here + s] = out[left + s] & out[right + s];
+    }
+}
+
+// p or q.
+pub fn or(out: &mut [u8], t: usize, n: usize, p: usize, q: usize)
+    requires { ⌜ (n * t + t ≤ length (now out)) × (p < n) × (q < n) ⌝ }
+    ensures { λ _. ⌜ Worked t n 0 (orAt t (now (out .entry)) p q) (now (out .entry)) 0 (now (out .exit)) ⌝ }
+{
+    let here = n * t;
+    let left = p * t;
+    let right = q * t;
+    let mut s = t;
+    while 0 < s {
+        s -= 1;
+        out[here + s] = out[left + s] | out[right + s];
+    }
+}
+
+// p implies q.
+pub fn implies(out: &mut [u8], t: usize, n: usize, p: usize, q: usize)
+    requires { ⌜ (n * t + t ≤ length (now out)) × (p < n) × (q < n) ⌝ }
+    ensures { λ _. ⌜ Worked t n 0 (impliesAt t (now (out .entry)) p q) (now (out .entry)) 0 (now (out .exit)) ⌝ }
+{
+    let here = n * t;
+    let left = p * t;
+    let right = q * t;
+    let mut s = t;
+    while 0 < s {
+        s -= 1;
+        out[here + s] = (out[left + s] ^ 1) | out[right + s];
+    }
+}
+
+// Eventually p: p at this slot, or eventually p at the next. Behind the last slot nothing is left to come.
+pub fn eventually(out: &mut [u8], t: usize, n: usize, p: usize)
+    requires { ⌜ (n * t + t ≤ length (now out)) × (p < n) ⌝ }
+    ensures { λ _. ⌜ Worked t n 0 (eventuallyAt t (now (out .entry)) p) (now (out .entry)) 0 (now (out .exit)) ⌝ }
+{
+    let here = n * t;
+    let left = p * t;
+    let mut later: u8 = 0;
+    let mut s = t;
+    while 0 < s {
+        s -= 1;
+        later = out[left + s] | later;
+        out[here + s] = later;
+    }
+}
+
+// Always p: p at this slot, and always p at the next. Behind the last slot nothing is left to break it.
+pub fn always(out: &mut [u8], t: usize, n: usize, p: usize)
+    requires { ⌜ (n * t + t ≤ length (now out)) × (p < n) ⌝ }
+    ensures { λ _. ⌜ Worked t n 1 (alwaysAt t (now (out .entry)) p) (now (out .entry)) 0 (now (out .exit)) ⌝ }
+{
+    let here = n * t;
+    let left = p * t;
+    let mut later: u8 = 1;
+    let mut s = t;
+    while 0 < s {
+        s -= 1;
+        later = out[left + s] & later;
+        out[here + s] = later;
+    }
+}
+
+// p until q: q at this slot, or p here and p until q at the next.
+pub fn until(out: &mut [u8], t: usize, n: usize, p: usize, q: usize)
+    requires { ⌜ (n * t + t ≤ length (now out)) × (p < n) × (q < n) ⌝ }
+    ensures { λ _. ⌜ Worked t n 0 (untilAt t (now (out .entry)) p q) (now (out .entry)) 0 (now (out .exit)) ⌝ }
+{
+    let here = n * t;
+    let left = p * t;
+    let right = q * t;
+    let mut later: u8 = 0;
+    let mut s = t;
+    while 0 < s {
+        s -= 1;
+        later = out[right + s] | (out[left + s] & later);
+        out[here + s] = later;
+    }
+}

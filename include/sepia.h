@@ -1,0 +1,71 @@
+/* Bastersepia: timing rules as solver rows. Link with libsepia.a (rt staticlib sepia).
+ *
+ * Every call copes with every input. On a refusal no byte of a lent buffer changes; on success bytes past the output keep their content.
+ * Where several refusals apply, the lowest number is given. Pointers must be valid for the lengths given with them, and a buffer that is
+ * written must overlap nothing else that is passed.
+ */
+#ifndef SEPIA_H
+#define SEPIA_H
+
+#include <stddef.h>
+#include <stdint.h>
+
+#ifdef __cplusplus
+extern "C" {
+#endif
+
+/* Refusals, by number. */
+enum {
+    SEPIA_OK = 0,
+    SEPIA_SLOTS = 1,       /* all but read: T not 1 to 64 */
+    SEPIA_ATOMS = 2,       /* all: M not 1 to 16 */
+    SEPIA_LONG_TEXT = 3,   /* read: text over 1,024 bytes */
+    SEPIA_GRAMMAR = 4,     /* read: the text is outside the grammar */
+    SEPIA_ATOM_NUMBER = 5, /* read: an atom number of M or more */
+    SEPIA_NODES = 6,       /* read: over 128 nodes */
+    SEPIA_TABLE = 7,       /* all but read: the table is not good */
+    SEPIA_RUN = 8,         /* evaluate: the run is not T numbers, or a bit at M or above is set */
+    SEPIA_FIGURES = 9,     /* judge: the figures are not (M + N)*T */
+    SEPIA_TOLERANCE = 10,  /* judge: the tolerance is not 0 to 1,000 */
+    SEPIA_ROOM = 11        /* read, evaluate, rows: the output buffer is shorter than the output */
+};
+
+/* refusal 0: value is the result. Otherwise value is 0. */
+typedef struct {
+    uint32_t refusal;
+    uint32_t value;
+} sepia_answer;
+
+/* Verdicts. */
+enum {
+    SEPIA_OUTSIDE = 0,    /* value: the lowest variable below -e or above 1,000,000 + e */
+    SEPIA_NOT_BINARY = 1, /* value: the lowest atom variable more than e from both 0 and 1,000,000 */
+    SEPIA_BROKEN = 2,     /* value: the lowest row that does not hold within e */
+    SEPIA_PASSED = 3      /* value: the row count */
+};
+
+/* refusal 0: verdict and its value. Otherwise both are 0. */
+typedef struct {
+    uint32_t refusal;
+    uint32_t verdict;
+    uint32_t value;
+} sepia_verdict;
+
+/* Reads a rule text with atoms below m into its node table, 5 bytes a node (640 bytes are enough for any). The result is the node count. */
+sepia_answer sepia_read(const uint8_t *text, size_t text_len, size_t m, uint8_t *out, size_t out_len);
+
+/* Evaluates a table over a run of t numbers, bit a of each the truth of atom a; after slot t the run repeats slot t for good.
+ * Writes one byte, 0 or 1, for node n and slot s at place n*t + s - 1. The result is the root's truth at slot 1. */
+sepia_answer sepia_evaluate(const uint8_t *table, size_t table_len, size_t t, size_t m, const uint16_t *run, size_t run_len, uint8_t *out, size_t out_len);
+
+/* Writes a table's rows, 14 bytes a row. The result is the row count. */
+sepia_answer sepia_rows(const uint8_t *table, size_t table_len, size_t t, size_t m, uint8_t *out, size_t out_len);
+
+/* Judges a solver's figures, in millionths, one for each variable, with tolerance e. */
+sepia_verdict sepia_judge(const uint8_t *table, size_t table_len, size_t t, size_t m, const int32_t *figures, size_t figures_len, int32_t e);
+
+#ifdef __cplusplus
+}
+#endif
+
+#endif
