@@ -1,6 +1,6 @@
 -- From the nodes' bytes, one node after the other, to what the evaluator has written.
 use mathlib.Core.Path.{_≡_, refl, sym, ap, subst, _∙_}
-use mathlib.Core.Bool.{Bool, true, false, cond}
+use mathlib.Core.Bool.{Bool, cond}
 use mathlib.Core.List.{List, _++_}
 use mathlib.Core.Logic.{_⊎_, ⊎-elim}
 use Prim.Native.Nat.{ℕ, zero, suc, _+_, _-_, _*_, _/_, _%_, _≤_, _<_}
@@ -8,7 +8,7 @@ use native.Mathlib.Decide.{decLt}
 use native.Mathlib.Nat.{add-zero, mod-lt, div-add-mod', div-lt-iff-lt-mul, eq-or-lt-of-le}
 use native.Mathlib.Numerals.{add-one}
 use native.Mathlib.Omega.{arith}
-use borrow.Author.Tests.{lt-ltb, le-ltb}
+use borrow.Author.Tests.{le-ltb}
 use lib.Dec.{ltb}
 use lib.ListN.{length, getD, drop, length-append, length-drop, List·getD-append}
 use lib.Seq.{ext-getD, getD-append-add, getD-drop}
@@ -16,7 +16,7 @@ use Rattle.lists.specs.Place.{place-lt, place-end}
 use Rattle.lists.specs.Tabulate.{length-tabulate, getD-tabulate}
 use Rattle.rules.specs.Table.{Node, nodeAt, ruleAt, root}
 use Rattle.rules.specs.TableRules.{NodesGood}
-use Rattle.rules.specs.Evaluation.{bitOf, bitSet, truth, truth-now, nodeNow}
+use Rattle.rules.specs.Evaluation.{bitOf, truth, truth-now}
 use Rattle.rules.specs.Outcome.{truthBytes}
 use Rattle.slots.specs.Worked.{byteOf, ahead, Worked}
 use Rattle.evaluator.specs.Values.{valueAt, pastOf, value-now}

@@ -1,15 +1,16 @@
-// One node's bytes at all slots, kind by kind, from the last slot to the first. The bytes of node c stand from place c·t on.
+// One node's bytes at all slots, kind by kind, from the last slot to the first. Slots count from 0 here, and the bytes of
+// node c stand from place c·t on.
 ghost use mathlib.Core.Path.{_≡_};
 ghost use Prim.Native.Nat.{_+_, _*_, _/_, _%_, _^_, _≤_, _<_};
-ghost use lib.ListN.{length};
+ghost use lib.ListN.{length, getD};
 ghost use Rattle.slots.specs.Worked.{Worked, atomAt, notAt, andAt, orAt, impliesAt, eventuallyAt, alwaysAt, untilAt};
 
-// Bit a of a run's number.
-fn bit(x: u16, a: usize) -> u8
-    requires { ⌜ a < 16 ⌝ }
-    ensures { λ r. ⌜ r ≡ x / 2 ^ a % 2 ⌝ }
+// Bit a of the run's number for slot s.
+fn bit(run: &[u16], s: usize, a: usize) -> u8
+    requires { ⌜ (s < length (now run)) × (a < 16) ⌝ }
+    ensures { λ r. ⌜ r ≡ getD (now (run .entry)) s 0 / 2 ^ a % 2 ⌝ }
 {
-    ((x >> a) % 2) as u8
+    ((run[s] >> a) % 2) as u8
 }
 
 // Atom a: its bit in the run's number for the slot.
@@ -21,7 +22,7 @@ pub fn atom(out: &mut [u8], run: &[u16], t: usize, n: usize, a: usize)
     let mut s = t;
     while 0 < s {
         s -= 1;
-        out[here + s] = bit(run[s], a);
+        out[here + s] = bit(run, s, a);
     }
 }
 

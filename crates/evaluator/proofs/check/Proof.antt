@@ -1,5 +1,5 @@
 -- `evaluator::check` meets its contract. Assumes nothing.
-use mathlib.Core.Path.{_≡_, sym, _∙_}
+use mathlib.Core.Path.{sym, _∙_}
 use Rattle.table.specs.Checks.{ready}
 use Rattle.evaluator.specs.Checks.{evaluateCheck}
 use borrow.Author.Needs.{needs}

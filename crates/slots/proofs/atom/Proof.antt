@@ -22,14 +22,8 @@ loop-holds c = (omega arith, worked-none _ _ _ _ _)
 sub-s : tie.Need-sub-s Inv-loop μ-loop
 sub-s c = omega arith
 
-mul-bit : tie.Need-mul-bit Inv-loop μ-loop
-mul-bit c = search needs
-
-shared-slice-read-bit : tie.Need-shared-slice-read-bit Inv-loop μ-loop
-shared-slice-read-bit c = omega arith
-
 bit-requires : tie.Need-bit-requires Inv-loop μ-loop
-bit-requires c κs = omega arith
+bit-requires c κs = search needs
 
 add-out : tie.Need-add-out Inv-loop μ-loop
 add-out c = omega arith
@@ -42,8 +36,8 @@ loop-less c = omega arith
 
 loop-again : tie.Need-loop-again Inv-loop μ-loop
 loop-again c =
-    let l = c .before .before .before .loop in
-    (omega arith, worked-more (l .inv .1) (c .before .before .before .before .before .before .pre .0) (omega arith) (omega arith) _ (c .bit .ensures))
+    let l = c .before .before .loop in
+    (omega arith, worked-more (l .inv .1) (c .before .before .before .before .before .pre .0) (omega arith) (omega arith) _ (c .bit .ensures))
 
 same-length : tie.Need-same-length Inv-loop μ-loop
 same-length c = omega arith
@@ -62,8 +56,6 @@ atom-spec =
     mul-here
     loop-holds
     sub-s
-    mul-bit
-    shared-slice-read-bit
     bit-requires
     add-out
     slice-write-out

@@ -1,7 +1,7 @@
+-- `table::fields_good` meets its contract. Assumes nothing.
 use mathlib.Core.Path.{_≡_, refl, sym, _∙_}
 use Rattle.table.specs.Nodes.{kindIn}
 use Rattle.table.specs.declared.KindRead.the-variants.{Known, Unknown}
--- `table::fields_good` meets its contract. Assumes nothing.
 use Rattle.table.specs.Nodes.{nodeIn-kind}
 use borrow.Author.Needs.{needs}
 use Rattle.table.proofs.fields_good.Statement.{statement}

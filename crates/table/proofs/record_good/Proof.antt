@@ -1,7 +1,7 @@
-use mathlib.Core.Path.{_≡_, refl, _∙_}
+-- `table::record_good` meets its contract. Assumes nothing.
+use mathlib.Core.Path.{refl, _∙_}
 use Prim.Native.Nat.{_*_}
 use native.Mathlib.Nat.{add-zero}
--- `table::record_good` meets its contract. Assumes nothing.
 use Rattle.rules.specs.TableTest.{recordGood}
 use borrow.Author.Needs.{needs}
 use Rattle.table.proofs.record_good.Statement.{statement}
