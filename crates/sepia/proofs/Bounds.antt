@@ -1,0 +1,101 @@
+-- Results fit 32 bits.
+use mathlib.Core.Path.{_≡_, refl, sym, ap, _∙_}
+use mathlib.Core.Bool.{Bool, true, false}
+use mathlib.Core.List.{List, [], _∷_, _++_}
+use Prim.Native.Nat.{ℕ, zero, suc, _+_, _*_, _≤_, _<_}
+use native.Mathlib.Nat.{mul-le-mul}
+use native.Mathlib.Decide.{decLe}
+use native.Mathlib.Omega.{arith}
+use lib.Dec.{ltb}
+use lib.ListN.{length, length-append}
+use Rattle.rules.specs.Rule.{Unary, Binary, Rule, size}
+use Rattle.rules.specs.Rule.Unary.{not, eventually, always}
+use Rattle.rules.specs.Rule.Binary.{and, or, implies, until}
+use Rattle.rules.specs.Table.{Node}
+use Rattle.rules.specs.Table.Node.{atom, unary, binary}
+use Rattle.rules.specs.Truth.{TruthByte}
+use Rattle.rules.specs.Rows.{unaryRows, binaryRows, rowsAt, slotsRows, nodesRows, slackRows, goalRow, rowsOf}
+use Rattle.rules.specs.Judge.{None}
+use Rattle.rules.specs.Refusals.{SlotsAllowed, TextRefused, ReadRefused, TableRefused, RowsRefused}
+use Rattle.rules.specs.Demands.{Answer, Written, Exact}
+use Rattle.rules.specs.Demands.Answer.{refused, answered}
+use Rattle.rules.specs.Demands.Written.{wrote}
+use Rattle.rules.specs.Outcome.{result, readOutcome, evaluateOutcome, rowsOutcome}
+use Rattle.rules.specs.Theorems.{reader-exact, evaluator-exact, rows-exact}
+use Rattle.sepia.specs.Boundary.{Fits}
+
+-- an outcome's result fits, where every result that it may have does
+fits : (Refused : ℕ → Type 0) (Is : Written → Type 0) (a : Answer Written) → Exact Refused Is a →
+    ((n : ℕ) (bytes : List ℕ) → None Refused → Is (wrote n bytes) → n < 4294967296) → Fits (result a)
+fits Refused Is a exact small = go a refl
+  where
+    go : (x : Answer Written) → a ≡ x → Fits (result x)
+    go (refused k) e = tt
+    go (answered (wrote n bytes)) e = let y = exact .answers (wrote n bytes) .0 e in small n bytes (y .0) (y .1)
+
+-- a bound whose excess is refused
+bound : (n k : ℕ) → (k < n → ⊥) → n ≤ k
+bound n k f = go (decLe n k)
+  where
+    go : Dec (n ≤ k) → n ≤ k
+    go (yes h) = h
+    go (no h) = absurd (f (omega arith))
+
+pub read-fits : (m : ℕ) (text : List ℕ) (room : ℕ) → Fits (result (readOutcome m text room))
+read-fits m text room =
+    fits (ReadRefused m text room) _ (readOutcome m text room) (reader-exact m text room)
+    (λ n bytes none i.
+      let e : n ≡ size (i .0) = cc (i .2) in
+      omega (arith, bound (size (i .0)) 128 (λ h. none 6 (ReadRefused.text-refused (TextRefused.nodes (i .1) h)))))
+
+byte-fits : {P : Type 0} {v : ℕ} → TruthByte P v → v < 4294967296
+byte-fits (TruthByte.true x) = omega arith
+byte-fits (TruthByte.false x) = omega arith
+
+pub evaluate-fits : (t m : ℕ) (table run : List ℕ) (room : ℕ) → Fits (result (evaluateOutcome t m table run room))
+evaluate-fits t m table run room =
+    fits _ _ (evaluateOutcome t m table run room) (evaluator-exact t m table run room)
+    (λ v bytes none i. let e : i .1 ≡ v = cc (i .6) in rw e at (byte-fits (i .5)))
+
+-- ---- at most four rows for a node at a slot
+
+unary-few : (u : Unary) (inner : Bool) (P p P′ : ℕ) → length (unaryRows u inner P p P′) ≤ 4
+unary-few not inner P p P′ = omega arith
+unary-few eventually true P p P′ = omega arith
+unary-few eventually false P p P′ = omega arith
+unary-few always true P p P′ = omega arith
+unary-few always false P p P′ = omega arith
+
+binary-few : (o : Binary) (inner : Bool) (P p q P′ : ℕ) → length (binaryRows o inner P p q P′) ≤ 4
+binary-few and inner P p q P′ = omega arith
+binary-few or inner P p q P′ = omega arith
+binary-few implies inner P p q P′ = omega arith
+binary-few until true P p q P′ = omega arith
+binary-few until false P p q P′ = omega arith
+
+module _ (T M : ℕ) where
+  at-few : (n : ℕ) (nd : Node) (t : ℕ) → length (rowsAt T M n nd t) ≤ 4
+  at-few n (atom a) t = omega arith
+  at-few n (unary u c) t = unary-few u (ltb t T) _ _ _
+  at-few n (binary o l r) t = binary-few o (ltb t T) _ _ _ _
+
+  slots-few : (n : ℕ) (nd : Node) (k t : ℕ) → length (slotsRows T M n nd k t) ≤ 4 * k
+  slots-few n nd zero t = omega arith
+  slots-few n nd (suc k) t =
+      omega (arith, length-append (rowsAt T M n nd t) (slotsRows T M n nd k (t + 1)), at-few n nd t, slots-few n nd k (t + 1))
+
+  nodes-few : (n : ℕ) (ns : List Node) → length (nodesRows T M n ns) ≤ 4 * (length ns * T)
+  nodes-few n [] = omega arith
+  nodes-few n (nd ∷ ns) =
+      omega (arith, length-append (slotsRows T M n nd T 1) (nodesRows T M (n + 1) ns), slots-few n nd T 1, nodes-few (n + 1) ns)
+
+  pub rows-few : (ns : List Node) → T ≤ 64 → length ns ≤ 128 → length (rowsOf T M ns) < 4294967296
+  rows-few ns h k = omega (arith, length-append (slackRows T M ns) (goalRow T M ns ∷ []), nodes-few 0 ns, mul-le-mul k h)
+
+pub write-rows-fits : (t m : ℕ) (table : List ℕ) (room : ℕ) → Fits (result (rowsOutcome t m table room))
+write-rows-fits t m table room =
+    fits (RowsRefused t m table room) _ (rowsOutcome t m table room) (rows-exact t m table room)
+    (λ n bytes none i.
+      let e : n ≡ length (rowsOf t m (i .0)) = cc (i .2) in
+      let slots : t ≤ 64 = bound t 64 (λ h. none 1 (RowsRefused.table-refused (TableRefused.slots (λ s. omega arith)))) in
+      rw e (rows-few t m (i .0) slots (i .1 .few)))
