@@ -1,0 +1,40 @@
+/* Reads a rule, writes its rows, evaluates a run and judges the figures that the run makes. Build and run: examples/run-c */
+#include <stdio.h>
+#include <string.h>
+#include "sepia.h"
+
+enum { T = 4, M = 2, ONE = 1000000 };
+
+int main(void) {
+    const char *rule = "G(a0 > F a1)";
+    const uint16_t run[T] = {1, 0, 2, 0}; /* a0 at slot 1, a1 at slot 3 */
+    static uint8_t table[640], rows[14 * (4 * 128 * T + 1)], truth[128 * T];
+    static int32_t figures[(M + 128) * T];
+
+    sepia_answer read = sepia_read((const uint8_t *)rule, strlen(rule), M, table, sizeof table);
+    if (read.refusal) {
+        printf("refused %u\n", read.refusal);
+        return 1;
+    }
+    size_t nodes = read.value, bytes = 5 * nodes;
+    printf("nodes %zu\n", nodes);
+
+    sepia_answer written = sepia_rows(table, bytes, T, M, rows, sizeof rows);
+    printf("rows %u\n", written.value);
+
+    sepia_answer holds = sepia_evaluate(table, bytes, T, M, run, T, truth, sizeof truth);
+    printf("holds at slot 1: %u\n", holds.value);
+
+    /* one figure for each variable: the atoms of the run, then each node's truth */
+    for (size_t a = 0; a < M; a++)
+        for (size_t s = 0; s < T; s++) figures[a * T + s] = (run[s] >> a & 1) * ONE;
+    for (size_t i = 0; i < nodes * T; i++) figures[M * T + i] = truth[i] * ONE;
+
+    sepia_verdict verdict = sepia_judge(table, bytes, T, M, figures, (M + nodes) * T, 0);
+    printf("verdict %u, value %u\n", verdict.verdict, verdict.value);
+
+    figures[M * T + (nodes - 1) * T] = 500000; /* a figure left at one half */
+    verdict = sepia_judge(table, bytes, T, M, figures, (M + nodes) * T, 1000);
+    printf("verdict %u, value %u\n", verdict.verdict, verdict.value);
+    return 0;
+}

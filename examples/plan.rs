@@ -1,0 +1,75 @@
+// Reads a rule, writes its rows, evaluates a run and judges the figures that the run makes. Build and run: examples/run-rust
+
+#[repr(C)]
+#[derive(Clone, Copy)]
+struct Answer {
+    refusal: u32,
+    value: u32,
+}
+
+#[repr(C)]
+#[derive(Clone, Copy)]
+struct Verdict {
+    refusal: u32,
+    verdict: u32,
+    value: u32,
+}
+
+#[link(name = "sepia", kind = "static")]
+extern "C" {
+    fn sepia_read(text: *const u8, text_len: usize, m: usize, out: *mut u8, out_len: usize) -> Answer;
+    fn sepia_evaluate(table: *const u8, table_len: usize, t: usize, m: usize, run: *const u16, run_len: usize, out: *mut u8, out_len: usize) -> Answer;
+    fn sepia_rows(table: *const u8, table_len: usize, t: usize, m: usize, out: *mut u8, out_len: usize) -> Answer;
+    fn sepia_judge(table: *const u8, table_len: usize, t: usize, m: usize, figures: *const i32, figures_len: usize, e: i32) -> Verdict;
+}
+
+// The boundary needs valid pointers and lengths, which slices have; every value is answered, so the wrappers are safe.
+fn answer(a: Answer) -> Result<usize, u32> {
+    if a.refusal == 0 { Ok(a.value as usize) } else { Err(a.refusal) }
+}
+
+fn read(text: &[u8], m: usize, out: &mut [u8]) -> Result<usize, u32> {
+    answer(unsafe { sepia_read(text.as_ptr(), text.len(), m, out.as_mut_ptr(), out.len()) })
+}
+
+fn evaluate(table: &[u8], t: usize, m: usize, run: &[u16], out: &mut [u8]) -> Result<usize, u32> {
+    answer(unsafe { sepia_evaluate(table.as_ptr(), table.len(), t, m, run.as_ptr(), run.len(), out.as_mut_ptr(), out.len()) })
+}
+
+fn rows(table: &[u8], t: usize, m: usize, out: &mut [u8]) -> Result<usize, u32> {
+    answer(unsafe { sepia_rows(table.as_ptr(), table.len(), t, m, out.as_mut_ptr(), out.len()) })
+}
+
+fn judge(table: &[u8], t: usize, m: usize, figures: &[i32], e: i32) -> Result<(u32, usize), u32> {
+    let v = unsafe { sepia_judge(table.as_ptr(), table.len(), t, m, figures.as_ptr(), figures.len(), e) };
+    if v.refusal == 0 { Ok((v.verdict, v.value as usize)) } else { Err(v.refusal) }
+}
+
+const T: usize = 4;
+const M: usize = 2;
+const ONE: i32 = 1_000_000;
+
+fn main() -> Result<(), u32> {
+    let run: [u16; T] = [1, 0, 2, 0]; // a0 at slot 1, a1 at slot 3
+    let mut table = [0u8; 640];
+    let nodes = read(b"G(a0 > F a1)", M, &mut table)?;
+    let table = &table[..5 * nodes];
+    println!("nodes {nodes}");
+
+    let mut records = vec![0u8; 14 * (4 * nodes * T + 1)];
+    println!("rows {}", rows(table, T, M, &mut records)?);
+
+    let mut truth = vec![0u8; nodes * T];
+    println!("holds at slot 1: {}", evaluate(table, T, M, &run, &mut truth)?);
+
+    // one figure for each variable: the atoms of the run, then each node's truth
+    let atoms = (0..M).flat_map(|a| run.iter().map(move |r| (r >> a & 1) as i32 * ONE));
+    let mut figures: Vec<i32> = atoms.chain(truth.iter().map(|&b| b as i32 * ONE)).collect();
+    let (verdict, value) = judge(table, T, M, &figures, 0)?;
+    println!("verdict {verdict}, value {value}");
+
+    figures[M * T + (nodes - 1) * T] = 500_000; // a figure left at one half
+    let (verdict, value) = judge(table, T, M, &figures, 1000)?;
+    println!("verdict {verdict}, value {value}");
+    Ok(())
+}
