@@ -6,6 +6,7 @@ use native.Mathlib.Decide.{decLe}
 use native.Mathlib.Omega.{arith}
 use lib.ListN.{length, take, drop, length-append, length-drop}
 use lib.Seq.{take-at}
+use Rattle.rules.specs.Quantities.{SlotsAllowed}
 use Rattle.rules.specs.Rule.{Rule, size}
 use Rattle.rules.specs.Grammar.{Says}
 use Rattle.rules.specs.Table.{Node, Good, tableBytes, nodesOf}
@@ -14,7 +15,7 @@ use Rattle.rules.specs.TableTest.{length-table}
 use Rattle.rules.specs.Rows.{rowsOf, rowsBytes}
 use Rattle.rules.specs.RowRecords.{length-rows, rows-recordable}
 use Rattle.rules.specs.Judge.{None}
-use Rattle.rules.specs.Refusals.{SlotsAllowed, RunGood, TextRefused, ReadRefused}
+use Rattle.rules.specs.Refusals.{RunGood, TextRefused, ReadRefused}
 use Rattle.rules.specs.Demands.{Answer, Written, Demand3At}
 use Rattle.rules.specs.Demands.Answer.{refused, answered}
 use Rattle.rules.specs.Demands.Written.{wrote}

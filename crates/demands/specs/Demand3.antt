@@ -4,12 +4,13 @@ use mathlib.Core.Path.{_≡_}
 use mathlib.Core.List.{List}
 use Prim.Native.Nat.{ℕ, _*_, _≤_}
 use lib.ListN.{length, take}
+use Rattle.rules.specs.Quantities.{SlotsAllowed}
 use Rattle.rules.specs.Rule.{Rule, size}
 use Rattle.rules.specs.Grammar.{Says}
 use Rattle.rules.specs.Table.{nodesOf}
 use Rattle.rules.specs.Rows.{rowsOf}
 use Rattle.rules.specs.Judge.{None}
-use Rattle.rules.specs.Refusals.{SlotsAllowed, RunGood, TextRefused}
+use Rattle.rules.specs.Refusals.{RunGood, TextRefused}
 use Rattle.rules.specs.Demands.{Demand3At}
 use Rattle.demands.specs.declared.Planned.{Planned}
 use Rattle.demands.specs.declared.Planned.the-variants.{Done}

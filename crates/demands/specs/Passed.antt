@@ -3,16 +3,17 @@
 use mathlib.Core.Path.{_≡_}
 use mathlib.Core.Logic.{_↔_, _⊎_}
 use mathlib.Core.List.{List}
-use Prim.Native.Nat.{ℕ, _+_, _*_, _-_, _≤_, _<_}
+use Prim.Native.Nat.{ℕ, _+_, _*_, _≤_, _<_}
 use lib.ListN.{length}
 use lib.IntN.{ℤ, pos, negℤ, _-ℤ_, _*ℤ_, natAbs}
 use lib.Signed.{_≤ℤ_}
 use Rattle.lists.specs.Every.{Every}
+use Rattle.rules.specs.Quantities.{bitAt, one}
 use Rattle.rules.specs.Table.{Node, Good, ruleAt, root}
-use Rattle.rules.specs.Truth.{Holds, endless, bitAt}
+use Rattle.rules.specs.Truth.{Holds, endless}
 use Rattle.rules.specs.Rows.{Relation, Row, valueAt, sumOf, atomVariable, slack, rowsOf}
 use Rattle.rules.specs.Rows.Relation.{at-least, equal}
-use Rattle.rules.specs.Judge.{one, Verdict, Judged}
+use Rattle.rules.specs.Judge.{Verdict, Judged}
 use Rattle.rules.specs.Refusals.{RunGood}
 
 -- "A ≥ row holds when its sum is at least the right side times 1,000,000, less e. An = row holds when the difference is at most e either way."

@@ -15,12 +15,12 @@ use lib.IntN.{ℤ, pos, negsuc, negℤ, _+ℤ_, _-ℤ_, _*ℤ_, natAbs, -ℤ-+�
 use lib.Signed.{_≤ℤ_, _<ℤ_, ltZ, ltZ-no, clashℤ}
 use Rattle.lists.specs.Every.{Every, every-append}
 use Rattle.lists.specs.Tabulate.{tabulate, length-tabulate, getD-tabulate}
+use Rattle.rules.specs.Quantities.{bitAt, one}
 use Rattle.rules.specs.Table.{Node, Good}
-use Rattle.rules.specs.Truth.{bitAt}
 use Rattle.rules.specs.Evaluation.{bitOf}
 use Rattle.rules.specs.Rows.{Relation, Row, Meets, MeetsBy, valueAt, sumOf, atomVariable, slack, rowsOf, slackRows, goalRow}
 use Rattle.rules.specs.Rows.Relation.{at-least, equal}
-use Rattle.rules.specs.Judge.{one, Apart, BrokenBy, None, Verdict, OutsideAt, NotBinaryAt, BrokenAt, Judged}
+use Rattle.rules.specs.Judge.{Apart, BrokenBy, None, Verdict, OutsideAt, NotBinaryAt, BrokenAt, Judged}
 use Rattle.rules.specs.Judge.Judged.{is-outside, is-not-binary, is-broken, is-passed}
 use Rattle.rules.specs.Refusals.{RunGood}
 use Rattle.rules.specs.Demands.{Fits, OnlyTheTruth}

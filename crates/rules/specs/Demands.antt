@@ -8,13 +8,14 @@ use lib.ListN.{length, getD}
 use lib.IntN.{ℤ, pos}
 use lib.Signed.{_≤ℤ_}
 use Rattle.lists.specs.Every.{Every}
+use Rattle.rules.specs.Quantities.{bitAt, SlotsAllowed}
 use Rattle.rules.specs.Rule.{Rule, size}
 use Rattle.rules.specs.Grammar.{Says}
 use Rattle.rules.specs.Table.{Node, Good, tableBytes, nodesOf, ruleAt, root}
-use Rattle.rules.specs.Truth.{Holds, endless, bitAt, TruthByte, TruthBytes}
+use Rattle.rules.specs.Truth.{Holds, endless, TruthByte, TruthBytes}
 use Rattle.rules.specs.Rows.{Row, Meets, valueAt, atomVariable, rowsOf, rowsBytes, rowsIn}
 use Rattle.rules.specs.Judge.{Lowest, None, Verdict, Judged}
-use Rattle.rules.specs.Refusals.{SlotsAllowed, RunGood, TextRefused, ReadRefused, EvaluateRefused, RowsRefused, JudgeRefused}
+use Rattle.rules.specs.Refusals.{RunGood, TextRefused, ReadRefused, EvaluateRefused, RowsRefused, JudgeRefused}
 
 -- What a call answers: "A refusal returns its number and changes no byte."
 pub data Answer (A : Type 0) : Type 0 where

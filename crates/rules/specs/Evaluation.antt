@@ -9,13 +9,14 @@ use native.Mathlib.Omega.{arith}
 use lib.Dec.{T as Is, eqb, ltb, ltb→lt, nltb→le, eqb→eq}
 use lib.ListN.{length}
 use Rattle.lists.specs.Tests.{or-cases, or-left, or-right, and-left, and-right, and-both, not-iff, imp-iff}
+use Rattle.rules.specs.Quantities.{bitAt}
 use Rattle.rules.specs.Rule.{Unary, Binary, Rule}
 use Rattle.rules.specs.Rule.Unary.{not, eventually, always}
 use Rattle.rules.specs.Rule.Binary.{and, or, implies, until}
 use Rattle.rules.specs.Rule.Rule.{atom, unary, binary}
 use Rattle.rules.specs.Table.{Node, NodeGood, nodeAt, grow, ruleAt}
 use Rattle.rules.specs.TableRules.{ruleAt-is}
-use Rattle.rules.specs.Truth.{HoldsUnary, HoldsBinary, Holds, Endless, endless, bitAt, slotOf}
+use Rattle.rules.specs.Truth.{HoldsUnary, HoldsBinary, Holds, Endless, endless, slotOf}
 
 -- an operator at a slot before the last, from its parts there and its own truth e at the next slot
 abbrev pub unaryStep : Unary → (p e : Bool) → Bool

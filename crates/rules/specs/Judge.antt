@@ -1,17 +1,14 @@
--- "Judge": the verdict on a solver's figures. A figure is a whole number of millionths (document 01 says "figure" for a value that the solver gives a variable).
+-- "Judge": the verdict on a solver's figures (the judge checks a candidate solution).
 use mathlib.Core.Logic.{_⊎_}
 use mathlib.Core.List.{List}
 use Prim.Native.Nat.{ℕ, _+_, _*_, _<_}
 use lib.ListN.{length, getD}
 use lib.IntN.{ℤ, pos, negℤ, _-ℤ_, _*ℤ_, natAbs}
 use lib.Signed.{_<ℤ_}
+use Rattle.rules.specs.Quantities.{one}
 use Rattle.rules.specs.Table.{Node}
 use Rattle.rules.specs.Rows.{Relation, Row, valueAt, sumOf, rowsOf, goalRow}
 use Rattle.rules.specs.Rows.Relation.{at-least, equal}
-
--- "Figures are signed 32-bit millionths: a value type in millionths with its own one, zero and conversion from a truth."
-abbrev pub one : ℕ
-one = 1000000
 
 -- more than e from b
 abbrev pub Apart : (e : ℕ) → (b x : ℤ) → Type 0

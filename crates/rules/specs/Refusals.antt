@@ -4,31 +4,24 @@ use mathlib.Core.List.{List}
 use Prim.Native.Nat.{ℕ, _+_, _*_, _^_, _≤_, _<_}
 use lib.ListN.{length, getD}
 use lib.IntN.{ℤ, pos}
+use Rattle.rules.specs.Quantities.{SlotsAllowed, AtomsAllowed, textLimit, nodeLimit, toleranceLimit}
 use Rattle.rules.specs.Rule.{Rule, size, AtomsBelow}
 use Rattle.rules.specs.Grammar.{Says}
 use Rattle.rules.specs.Table.{Node, Good}
 use Rattle.rules.specs.Rows.{rowsOf}
-
--- "Horizon T: slots 1 to 64."
-abbrev pub SlotsAllowed : ℕ → Type 0
-SlotsAllowed T = (1 ≤ T) × (T ≤ 64)
-
--- "Atom count M: 1 to 16."
-abbrev pub AtomsAllowed : ℕ → Type 0
-AtomsAllowed M = (1 ≤ M) × (M ≤ 16)
 
 -- "run not T numbers, or a bit at M or above set"
 pub record RunGood (T M : ℕ) (run : List ℕ) : Type 0 where
   pub numbers : length run ≡ T
   pub bits : (i : ℕ) → i < length run → getD run i 0 < 2 ^ M
 
--- read, on M or the text; `text` is at most 1,024 bytes and its rule has at most 128 nodes
+-- read, on M or the text
 pub data TextRefused (M : ℕ) (text : List ℕ) : ℕ → Type 0 where
   atoms : (AtomsAllowed M → ⊥) → TextRefused M text 2
-  long : 1024 < length text → TextRefused M text 3
+  long : textLimit < length text → TextRefused M text 3
   no-rule : ((p : Rule) → Says text p → ⊥) → TextRefused M text 4
   atom-high : {p : Rule} → Says text p → (AtomsBelow M p → ⊥) → TextRefused M text 5
-  nodes : {p : Rule} → Says text p → 128 < size p → TextRefused M text 6
+  nodes : {p : Rule} → Says text p → nodeLimit < size p → TextRefused M text 6
 
 -- read; `room` is the length of the lent buffer
 pub data ReadRefused (M : ℕ) (text : List ℕ) (room : ℕ) : ℕ → Type 0 where
@@ -54,4 +47,4 @@ pub data RowsRefused (T M : ℕ) (table : List ℕ) (room : ℕ) : ℕ → Type 
 pub data JudgeRefused (T M : ℕ) (table : List ℕ) (figures : List ℤ) (tolerance : ℤ) : ℕ → Type 0 where
   table-refused : {k : ℕ} → TableRefused T M table k → JudgeRefused T M table figures tolerance k
   miscounted : {ns : List Node} → Good M table ns → (length figures ≡ (M + length ns) * T → ⊥) → JudgeRefused T M table figures tolerance 9
-  tolerance-bad : ((e : ℕ) → e ≤ 1000 → tolerance ≡ pos e → ⊥) → JudgeRefused T M table figures tolerance 10
+  tolerance-bad : ((e : ℕ) → e ≤ toleranceLimit → tolerance ≡ pos e → ⊥) → JudgeRefused T M table figures tolerance 10

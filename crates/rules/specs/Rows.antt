@@ -26,6 +26,7 @@ pub record Row : Type 0 where
   pub right : ℤ
 
 -- "Atom a at slot t is variable a·T + t − 1. Node n at slot t is variable (M + n)·T + t − 1; these are the slacks."
+-- (A slack is an auxiliary variable, for the truth of a part at a slot.)
 abbrev pub atomVariable : (T a t : ℕ) → ℕ
 atomVariable T a t = a * T + (t - 1)
 

@@ -3,6 +3,7 @@ use mathlib.Core.Path.{_≡_}
 use mathlib.Core.List.{List, [], _∷_, _++_}
 use Prim.Native.Nat.{ℕ, zero, suc, _+_, _-_, _≤_, _<_}
 use lib.ListN.{length, getD}
+use Rattle.rules.specs.Quantities.{nodeLimit}
 use Rattle.rules.specs.Rule.{Unary, Binary, Rule, size}
 use Rattle.rules.specs.Rule.Unary.{not, eventually, always}
 use Rattle.rules.specs.Rule.Binary.{and, or, implies, until}
@@ -74,7 +75,7 @@ NodeGood M n (binary o l r) = (l < n) × (r < n)
 pub record Good (M : ℕ) (bytes : List ℕ) (ns : List Node) : Type 0 where
   pub records : bytes ≡ tableBytes ns
   pub some : 1 ≤ length ns
-  pub few : length ns ≤ 128
+  pub few : length ns ≤ nodeLimit
   pub nodes : (n : ℕ) → n < length ns → NodeGood M n (nodeAt ns n)
 
 -- The rule that a node stands for, from those of its children.

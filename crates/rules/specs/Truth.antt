@@ -2,17 +2,14 @@
 use mathlib.Core.Path.{_≡_}
 use mathlib.Core.Logic.{_⊎_}
 use mathlib.Core.List.{List}
-use Prim.Native.Nat.{ℕ, _+_, _-_, _*_, _/_, _%_, _^_, _≤_, _<_, min}
+use Prim.Native.Nat.{ℕ, _+_, _-_, _*_, _≤_, _<_, min}
 use lib.ListN.{length, getD}
+use Rattle.rules.specs.Quantities.{bitAt}
 use Rattle.rules.specs.Rule.{Unary, Binary, Rule}
 use Rattle.rules.specs.Rule.Unary.{not, eventually, always}
 use Rattle.rules.specs.Rule.Binary.{and, or, implies, until}
 use Rattle.rules.specs.Rule.Rule.{atom, unary, binary}
 use Rattle.rules.specs.Table.{Node, ruleAt}
-
--- "Run: T numbers of 16 bits, one per slot; bit a (value 2 to the power a) is the truth of atom a." "Slot numbers start at 1."
-abbrev pub bitAt : List ℕ → ℕ → ℕ → ℕ
-bitAt run t a = getD run (t - 1) 0 / 2 ^ a % 2
 
 -- "A slot after T has the atoms of slot T."
 abbrev pub slotOf : ℕ → ℕ → ℕ

@@ -13,10 +13,11 @@ use lib.IntN.{ℤ, pos, negℤ, _-ℤ_, _*ℤ_, natAbs}
 use lib.Signed.{ltZ, _<ℤ_}
 use Rattle.lists.specs.Tests.{or-cases, or-left, or-right, and-left, and-right, and-both}
 use Rattle.lists.specs.First.{first, first-found, Found}
+use Rattle.rules.specs.Quantities.{one}
 use Rattle.rules.specs.Table.{Node}
 use Rattle.rules.specs.Rows.{Relation, Row, valueAt, sumOf, rowsOf, goalRow}
 use Rattle.rules.specs.Rows.Relation.{at-least, equal}
-use Rattle.rules.specs.Judge.{one, Apart, Outside, NotBinary, BrokenBy, Lowest, None, Verdict, OutsideAt, NotBinaryAt, BrokenAt, Judged}
+use Rattle.rules.specs.Judge.{Apart, Outside, NotBinary, BrokenBy, Lowest, None, Verdict, OutsideAt, NotBinaryAt, BrokenAt, Judged}
 use Rattle.rules.specs.Judge.Verdict.{outside, not-binary, broken, passed}
 use Rattle.rules.specs.Judge.Judged.{is-outside, is-not-binary, is-broken, is-passed}
 

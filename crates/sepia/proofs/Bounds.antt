@@ -1,14 +1,14 @@
 -- Results fit 32 bits.
-use mathlib.Core.Path.{_≡_, refl, sym, ap, _∙_}
+use mathlib.Core.Path.{_≡_, refl}
 use mathlib.Core.Bool.{Bool, true, false}
-use mathlib.Core.List.{List, [], _∷_, _++_}
+use mathlib.Core.List.{List, [], _∷_}
 use Prim.Native.Nat.{ℕ, zero, suc, _+_, _*_, _≤_, _<_}
 use native.Mathlib.Nat.{mul-le-mul}
 use native.Mathlib.Decide.{decLe}
 use native.Mathlib.Omega.{arith}
 use lib.Dec.{ltb}
 use lib.ListN.{length, length-append}
-use Rattle.rules.specs.Rule.{Unary, Binary, Rule, size}
+use Rattle.rules.specs.Rule.{Unary, Binary, size}
 use Rattle.rules.specs.Rule.Unary.{not, eventually, always}
 use Rattle.rules.specs.Rule.Binary.{and, or, implies, until}
 use Rattle.rules.specs.Table.{Node}
@@ -16,7 +16,7 @@ use Rattle.rules.specs.Table.Node.{atom, unary, binary}
 use Rattle.rules.specs.Truth.{TruthByte}
 use Rattle.rules.specs.Rows.{unaryRows, binaryRows, rowsAt, slotsRows, nodesRows, slackRows, goalRow, rowsOf}
 use Rattle.rules.specs.Judge.{None}
-use Rattle.rules.specs.Refusals.{SlotsAllowed, TextRefused, ReadRefused, TableRefused, RowsRefused}
+use Rattle.rules.specs.Refusals.{TextRefused, ReadRefused, TableRefused, RowsRefused}
 use Rattle.rules.specs.Demands.{Answer, Written, Exact}
 use Rattle.rules.specs.Demands.Answer.{refused, answered}
 use Rattle.rules.specs.Demands.Written.{wrote}
@@ -45,8 +45,8 @@ pub read-fits : (m : ℕ) (text : List ℕ) (room : ℕ) → Fits (result (readO
 read-fits m text room =
     fits (ReadRefused m text room) _ (readOutcome m text room) (reader-exact m text room)
     (λ n bytes none i.
-      let e : n ≡ size (i .0) = cc (i .2) in
-      omega (arith, bound (size (i .0)) 128 (λ h. none 6 (ReadRefused.text-refused (TextRefused.nodes (i .1) h)))))
+    let e : n ≡ size (i .0) = cc (i .2) in
+    omega (arith, bound (size (i .0)) 128 (λ h. none 6 (ReadRefused.text-refused (TextRefused.nodes (i .1) h)))))
 
 byte-fits : {P : Type 0} {v : ℕ} → TruthByte P v → v < 4294967296
 byte-fits (TruthByte.true x) = omega arith
@@ -96,6 +96,6 @@ pub write-rows-fits : (t m : ℕ) (table : List ℕ) (room : ℕ) → Fits (resu
 write-rows-fits t m table room =
     fits (RowsRefused t m table room) _ (rowsOutcome t m table room) (rows-exact t m table room)
     (λ n bytes none i.
-      let e : n ≡ length (rowsOf t m (i .0)) = cc (i .2) in
-      let slots : t ≤ 64 = bound t 64 (λ h. none 1 (RowsRefused.table-refused (TableRefused.slots (λ s. omega arith)))) in
-      rw e (rows-few t m (i .0) slots (i .1 .few)))
+    let e : n ≡ length (rowsOf t m (i .0)) = cc (i .2) in
+    let slots : t ≤ 64 = bound t 64 (λ h. none 1 (RowsRefused.table-refused (TableRefused.slots (λ s. omega arith)))) in
+    rw e (rows-few t m (i .0) slots (i .1 .few)))

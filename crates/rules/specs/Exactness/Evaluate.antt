@@ -11,13 +11,14 @@ use borrow.Author.Tests.{leb-false, leb-true}
 use lib.ListN.{length, getD}
 use lib.Seq.{ext-getD}
 use Rattle.lists.specs.Tabulate.{length-tabulate, getD-tabulate}
+use Rattle.rules.specs.Quantities.{SlotsAllowed}
 use Rattle.rules.specs.Rule.{Rule}
 use Rattle.rules.specs.Table.{Node, Good, ruleAt, root}
 use Rattle.rules.specs.TableTest.{nodesIn, good-nodes}
 use Rattle.rules.specs.Truth.{Holds, endless, TruthByte, TruthBytes}
 use Rattle.rules.specs.Evaluation.{bitOf, truth, truth-holds}
 use Rattle.rules.specs.Solution.Truths.{place-div, place-mod, place-lt}
-use Rattle.rules.specs.Refusals.{SlotsAllowed, RunGood, TableRefused, EvaluateRefused}
+use Rattle.rules.specs.Refusals.{RunGood, TableRefused, EvaluateRefused}
 use Rattle.rules.specs.Demands.{Written, EvaluatorExact}
 use Rattle.rules.specs.Demands.Written.{wrote}
 use Rattle.rules.specs.Outcome.{runGood, truthBytes, evaluateOutcome}

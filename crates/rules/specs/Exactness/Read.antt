@@ -7,11 +7,12 @@ use native.Mathlib.Omega.{arith}
 use lib.Dec.{leb}
 use borrow.Author.Tests.{leb-false, leb-true}
 use lib.ListN.{length}
+use Rattle.rules.specs.Quantities.{AtomsAllowed}
 use Rattle.rules.specs.Rule.{Rule, size, AtomsBelow}
 use Rattle.rules.specs.Grammar.{Says}
 use Rattle.rules.specs.Reading.{reading, reading-sound, reading-complete, one-reading}
 use Rattle.rules.specs.Table.{tableBytes, nodesOf}
-use Rattle.rules.specs.Refusals.{AtomsAllowed, TextRefused, ReadRefused}
+use Rattle.rules.specs.Refusals.{TextRefused, ReadRefused}
 use Rattle.rules.specs.Demands.{Written, Exact, ReaderExact}
 use Rattle.rules.specs.Demands.Written.{wrote}
 use Rattle.rules.specs.Outcome.{between, atomsBelow, ruleChecked, readOutcome}

@@ -4,9 +4,10 @@ use mathlib.Core.List.{List}
 use Prim.Native.Nat.{ℕ, _≤_, _<_}
 use native.Mathlib.Decide.{decLt}
 use native.Mathlib.Omega.{arith}
+use Rattle.rules.specs.Quantities.{SlotsAllowed, AtomsAllowed}
 use Rattle.rules.specs.Table.{Node, Good}
 use Rattle.rules.specs.TableTest.{good, nodesIn, good-sound, good-complete, good-nodes}
-use Rattle.rules.specs.Refusals.{SlotsAllowed, AtomsAllowed, TableRefused}
+use Rattle.rules.specs.Refusals.{TableRefused}
 use Rattle.rules.specs.Demands.{Answer, Exact}
 use Rattle.rules.specs.Outcome.{between, tableChecked}
 use Rattle.rules.specs.Ladder.{From, rung}

@@ -10,6 +10,7 @@ use lib.Dec.{leb}
 use borrow.Author.Tests.{leb-true, leb-false}
 use lib.ListN.{length, getD}
 use lib.IntN.{ℤ, pos}
+use Rattle.rules.specs.Quantities.{SlotsAllowed, AtomsAllowed}
 use Rattle.rules.specs.Rule.{Rule, size, AtomsBelow}
 use Rattle.rules.specs.Grammar.{Says}
 use Rattle.rules.specs.Reading.{reading, reading-sound, reading-complete, one-reading}
@@ -21,7 +22,7 @@ use Rattle.rules.specs.Evaluation.{bitOf, truth}
 use Rattle.rules.specs.Rows.{valueAt, rowsOf, rowsBytes, slackRows, goalRow}
 use Rattle.rules.specs.RowRecords.{rows-back, rows-recordable}
 use Rattle.rules.specs.Judge.{None}
-use Rattle.rules.specs.Refusals.{SlotsAllowed, AtomsAllowed, RunGood, TextRefused, ReadRefused, TableRefused, EvaluateRefused, RowsRefused}
+use Rattle.rules.specs.Refusals.{RunGood, TextRefused, ReadRefused, TableRefused, EvaluateRefused, RowsRefused}
 use Rattle.rules.specs.Demands.{OnlyTheTruth, Demand3At, Demand3}
 use Rattle.rules.specs.Demands.Answer.{answered}
 use Rattle.rules.specs.Demands.Written.{wrote}

@@ -11,9 +11,9 @@ use lib.ListN.{length, getD}
 use lib.IntN.{ℤ, pos, natAbs}
 use Rattle.lists.specs.Every.{Every, every-append}
 use Rattle.lists.specs.Tabulate.{tabulate, length-tabulate, getD-tabulate}
+use Rattle.rules.specs.Quantities.{bitAt}
 use Rattle.rules.specs.Table.{Node, nodeAt, ruleAt, root}
 use Rattle.rules.specs.TableRules.{NodesGood}
-use Rattle.rules.specs.Truth.{bitAt}
 use Rattle.rules.specs.Rows.{Row, Meets, valueAt, plus, eq, atomVariable, slack, rowsAt, slotsRows, nodesRows, slackRows, goalRow}
 use Rattle.rules.specs.Demands.{AtomNumerators, OnlyTheTruth}
 use Rattle.rules.specs.Evaluation.{bitSet, truth, truth-holds, truth-now}
