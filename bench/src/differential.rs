@@ -1,0 +1,223 @@
+//! Holds the proved library's answers and buffers to the reference on random inputs.
+
+use std::collections::BTreeMap;
+use std::fmt::Debug;
+
+use crate::inputs;
+use crate::random::Random;
+use crate::reference::{self, Verdict};
+use crate::sepia;
+
+/// Bytes before and behind each output buffer that no call may change.
+const GUARD: usize = 16;
+
+/// Two output buffers with the same content, one for each side.
+#[derive(Default)]
+struct Outputs {
+    reference: Vec<u8>,
+    sepia: Vec<u8>,
+    room: usize,
+}
+
+impl Outputs {
+    fn fill(&mut self, random: &mut Random, room: usize) {
+        self.room = room;
+        let (first, step) = (random.next() as u8, random.next() as u8 | 1);
+        self.reference.clear();
+        self.reference.extend((0..room + 2 * GUARD).map(|place| first.wrapping_add(step.wrapping_mul(place as u8))));
+        self.sepia.clear();
+        self.sepia.extend_from_slice(&self.reference);
+    }
+
+    fn of_reference(&mut self) -> &mut [u8] {
+        &mut self.reference[GUARD..GUARD + self.room]
+    }
+
+    fn of_sepia(&mut self) -> &mut [u8] {
+        &mut self.sepia[GUARD..GUARD + self.room]
+    }
+
+    fn difference(&self) -> Option<String> {
+        let place = self.reference.iter().zip(&self.sepia).position(|(a, b)| a != b)?;
+        Some(format!(
+            "output byte {}: reference {:02x}, sepia {:02x}",
+            place as isize - GUARD as isize,
+            self.reference[place],
+            self.sepia[place]
+        ))
+    }
+}
+
+/// The answers of one call, counted.
+struct Counts {
+    call: &'static str,
+    seen: BTreeMap<String, u64>,
+}
+
+impl Counts {
+    fn new(call: &'static str) -> Self {
+        Counts { call, seen: BTreeMap::new() }
+    }
+
+    fn add(&mut self, answer: String) {
+        *self.seen.entry(answer).or_insert(0) += 1;
+    }
+
+    fn print(&self) {
+        println!("{}: {} inputs", self.call, self.seen.values().sum::<u64>());
+        for (answer, count) in &self.seen {
+            println!("  {count:>9}  {answer}");
+        }
+    }
+}
+
+fn refusal(number: u32) -> String {
+    format!("refused {number:>2}")
+}
+
+fn hex(bytes: &[u8]) -> String {
+    bytes.iter().map(|byte| format!("{byte:02x}")).collect()
+}
+
+/// Tells how the two sides differ, if they do.
+fn compare<A: PartialEq + Debug>(
+    reference: &A,
+    sepia: &A,
+    outputs: Option<&Outputs>,
+    inputs_kept: bool,
+) -> Option<String> {
+    if reference != sepia {
+        Some(format!("answer: reference {reference:?}, sepia {sepia:?}"))
+    } else if !inputs_kept {
+        Some("sepia changed an input".to_string())
+    } else {
+        outputs.and_then(Outputs::difference)
+    }
+}
+
+fn read(cases: u64, random: &mut Random, counts: &mut Counts) -> Result<(), String> {
+    let mut text = Vec::new();
+    let mut outputs = Outputs::default();
+    for case in 0..cases {
+        let m = inputs::atom_count(random);
+        inputs::text(random, m, &mut text);
+        let nodes = reference::read(&text, m, &mut [0; reference::MAX_NODES * reference::NODE_BYTES]).unwrap_or(3);
+        let room = inputs::room(random, nodes * reference::NODE_BYTES);
+        outputs.fill(random, room);
+        let kept = text.clone();
+        let expected = reference::read(&text, m, outputs.of_reference());
+        let answer = sepia::read(&text, m, outputs.of_sepia());
+        if let Some(difference) = compare(&expected, &answer, Some(&outputs), kept == text) {
+            return Err(format!(
+                "case {case}: {difference}\n  text {} ({:?})\n  M {m} room {room}",
+                hex(&text),
+                String::from_utf8_lossy(&text)
+            ));
+        }
+        counts.add(match expected {
+            Ok(128) => "128 nodes".to_string(),
+            Ok(127) => "127 nodes".to_string(),
+            Ok(_) => "1 to 126 nodes".to_string(),
+            Err(number) => refusal(number),
+        });
+    }
+    Ok(())
+}
+
+fn evaluate(cases: u64, random: &mut Random, counts: &mut Counts) -> Result<(), String> {
+    let (mut table, mut run) = (Vec::new(), Vec::new());
+    let mut outputs = Outputs::default();
+    for case in 0..cases {
+        let (t, m) = (inputs::horizon(random), inputs::atom_count(random));
+        inputs::table(random, m, &mut table);
+        inputs::run(random, t, m, &mut run);
+        let room = inputs::room(random, inputs::truth_bytes(&table, t));
+        outputs.fill(random, room);
+        let kept = (table.clone(), run.clone());
+        let expected = reference::evaluate(&table, t, m, &run, outputs.of_reference());
+        let answer = sepia::evaluate(&table, t, m, &run, outputs.of_sepia());
+        if let Some(difference) = compare(&expected, &answer, Some(&outputs), kept.0 == table && kept.1 == run) {
+            return Err(format!(
+                "case {case}: {difference}\n  table {}\n  T {t} M {m} room {room}\n  run {run:?}",
+                hex(&table)
+            ));
+        }
+        counts.add(match expected {
+            Ok(truth) => format!("root is {truth}"),
+            Err(number) => refusal(number),
+        });
+    }
+    Ok(())
+}
+
+fn rows(cases: u64, random: &mut Random, counts: &mut Counts) -> Result<(), String> {
+    let mut table = Vec::new();
+    let mut outputs = Outputs::default();
+    for case in 0..cases {
+        let (t, m) = (inputs::horizon(random), inputs::atom_count(random));
+        inputs::table(random, m, &mut table);
+        let room = inputs::room(random, inputs::row_bytes(&table, t));
+        outputs.fill(random, room);
+        let kept = table.clone();
+        let expected = reference::rows(&table, t, m, outputs.of_reference());
+        let answer = sepia::rows(&table, t, m, outputs.of_sepia());
+        if let Some(difference) = compare(&expected, &answer, Some(&outputs), kept == table) {
+            return Err(format!("case {case}: {difference}\n  table {}\n  T {t} M {m} room {room}", hex(&table)));
+        }
+        counts.add(match expected {
+            Ok(2..=99) => "2 to 99 rows".to_string(),
+            Ok(100..=9999) => "100 to 9,999 rows".to_string(),
+            Ok(_) => "10,000 rows or more".to_string(),
+            Err(number) => refusal(number),
+        });
+    }
+    Ok(())
+}
+
+fn judge(cases: u64, random: &mut Random, counts: &mut Counts) -> Result<(), String> {
+    let (mut table, mut figures) = (Vec::new(), Vec::new());
+    for case in 0..cases {
+        let (t, m) = (inputs::horizon(random), inputs::atom_count(random));
+        inputs::table(random, m, &mut table);
+        let e = inputs::tolerance(random);
+        inputs::figures(random, &table, t, m, e, &mut figures);
+        let kept = (table.clone(), figures.clone());
+        let expected = reference::judge(&table, t, m, &figures, e);
+        let answer = sepia::judge(&table, t, m, &figures, e);
+        if let Some(difference) = compare(&expected, &answer, None, kept.0 == table && kept.1 == figures) {
+            return Err(format!(
+                "case {case}: {difference}\n  table {}\n  T {t} M {m} e {e}\n  figures {figures:?}",
+                hex(&table)
+            ));
+        }
+        counts.add(match expected {
+            Ok(Verdict::Outside(_)) => "outside".to_string(),
+            Ok(Verdict::NotBinary(_)) => "not binary".to_string(),
+            Ok(Verdict::Broken(_)) => "broken".to_string(),
+            Ok(Verdict::Passed(_)) => "passed".to_string(),
+            Err(number) => refusal(number),
+        });
+    }
+    Ok(())
+}
+
+/// Runs `cases` inputs through each call; true when all agree.
+pub fn run(cases: u64, seed: u64) -> bool {
+    type Call = fn(u64, &mut Random, &mut Counts) -> Result<(), String>;
+    let calls: [(&'static str, Call); 4] = [("read", read), ("evaluate", evaluate), ("rows", rows), ("judge", judge)];
+    println!("seed {seed}");
+    for (number, (name, call)) in calls.into_iter().enumerate() {
+        // Each call has inputs of its own, whatever the number of cases.
+        let mut random =
+            Random::new(seed.wrapping_mul(4).wrapping_add(number as u64).wrapping_mul(0xD134_2543_DE82_EF95));
+        let mut counts = Counts::new(name);
+        let outcome = call(cases, &mut random, &mut counts);
+        counts.print();
+        if let Err(difference) = outcome {
+            println!("DISAGREEMENT in {name}, {difference}");
+            return false;
+        }
+    }
+    println!("all answers and buffers agree");
+    true
+}

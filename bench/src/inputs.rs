@@ -1,0 +1,572 @@
+//! Random inputs of the four calls, good and damaged.
+
+use crate::random::Random;
+use crate::reference::{self, ALWAYS, AND, ATOM, EVENTUALLY, IMPLIES, MAX_NODES, MAX_TEXT, NODE_BYTES, NOT, OR, UNTIL};
+
+const ALPHABET: &[u8] = b"aUFG!&|>()0123456789 ";
+const UNARY: [(u8, u8); 3] = [(b'!', NOT), (b'F', EVENTUALLY), (b'G', ALWAYS)];
+const BINARY: [(u8, u8); 4] = [(b'>', IMPLIES), (b'|', OR), (b'&', AND), (b'U', UNTIL)];
+/// Sizes that a careless conversion would take for small ones.
+const HUGE: [usize; 8] = [256, 257, 65_536, 65_537, 1 << 32, (1 << 32) + 1, 1 << 63, usize::MAX];
+
+// --------------------------------------------------------------------------------------------- numbers
+
+pub fn horizon(random: &mut Random) -> usize {
+    match random.below(100) {
+        0..=54 => random.between(1, 8),
+        55..=84 => random.between(9, 32),
+        85..=90 => random.between(33, 63),
+        91..=95 => 64,
+        96 => 0,
+        97 => 65,
+        98 => random.between(66, 300),
+        _ => random.pick(&HUGE),
+    }
+}
+
+pub fn atom_count(random: &mut Random) -> usize {
+    match random.below(100) {
+        0..=89 => random.between(1, 16),
+        90..=95 => 16,
+        96 => 0,
+        97 => 17,
+        98 => random.between(18, 300),
+        _ => random.pick(&HUGE),
+    }
+}
+
+/// The atom count that texts and tables are made for: the one asked, or 16 where that is out of range.
+fn made_for(m: usize) -> usize {
+    if (1..=16).contains(&m) {
+        m
+    } else {
+        16
+    }
+}
+
+pub fn tolerance(random: &mut Random) -> i32 {
+    match random.below(20) {
+        0..=5 => 0,
+        6..=9 => 1,
+        10..=15 => random.between(2, 999) as i32,
+        16..=17 => 1000,
+        18 => random.pick(&[1001, -1]),
+        _ => random.pick(&[i32::MIN, i32::MAX, 1002, -1000, 65_536, 1 << 24]),
+    }
+}
+
+/// The length of an output buffer where `needed` bytes are needed.
+pub fn room(random: &mut Random, needed: usize) -> usize {
+    match random.below(20) {
+        0..=8 => needed,
+        9..=10 => needed.saturating_sub(1),
+        11..=17 => needed + random.between(1, 40),
+        18 => random.below(needed + 1),
+        _ => random.pick(&[0, 1, 4, 5, 13, 14]),
+    }
+}
+
+// ----------------------------------------------------------------------------------------------- texts
+
+/// How a text is written: the chance of a space and of superfluous brackets, in percent, and the end of
+/// the atom numbers.
+struct Style {
+    spaces: usize,
+    brackets: usize,
+    atoms: usize,
+}
+
+impl Style {
+    fn random(random: &mut Random, m: usize) -> Self {
+        Style {
+            spaces: random.pick(&[0, 0, 10, 40]),
+            brackets: random.pick(&[0, 0, 5, 25]),
+            atoms: if random.percent(4) { 20 } else { m },
+        }
+    }
+}
+
+fn spaces(random: &mut Random, style: &Style, text: &mut Vec<u8>) {
+    while style.spaces > 0 && random.percent(style.spaces) {
+        text.push(b' ');
+    }
+}
+
+/// A phrase of exactly `nodes` nodes whose operators bind at least as tightly as number `level` of BINARY
+/// (level 4: a Single).
+fn phrase(random: &mut Random, style: &Style, level: usize, nodes: usize, text: &mut Vec<u8>) {
+    spaces(random, style, text);
+    if random.percent(style.brackets) {
+        bracketed(random, style, nodes, text);
+    } else if nodes == 1 {
+        text.push(b'a');
+        let number = random.below(style.atoms);
+        text.extend_from_slice(number.to_string().as_bytes());
+    } else if nodes == 2 || random.percent(30) {
+        text.push(random.pick(&UNARY).0);
+        phrase(random, style, BINARY.len(), nodes - 1, text);
+    } else {
+        let operator = random.below(BINARY.len());
+        if operator < level {
+            bracketed_binary(random, style, operator, nodes, text);
+        } else {
+            binary(random, style, operator, nodes, text);
+        }
+    }
+    spaces(random, style, text);
+}
+
+fn bracketed(random: &mut Random, style: &Style, nodes: usize, text: &mut Vec<u8>) {
+    text.push(b'(');
+    phrase(random, style, 0, nodes, text);
+    text.push(b')');
+}
+
+fn bracketed_binary(random: &mut Random, style: &Style, operator: usize, nodes: usize, text: &mut Vec<u8>) {
+    text.push(b'(');
+    binary(random, style, operator, nodes, text);
+    text.push(b')');
+}
+
+/// What stands left of an operator binds more tightly than it, what stands right as tightly.
+fn binary(random: &mut Random, style: &Style, operator: usize, nodes: usize, text: &mut Vec<u8>) {
+    let left = match random.below(3) {
+        0 => 1,
+        1 => nodes - 2,
+        _ => random.between(1, nodes - 2),
+    };
+    phrase(random, style, operator + 1, left, text);
+    text.push(BINARY[operator].0);
+    phrase(random, style, operator, nodes - 1 - left, text);
+}
+
+fn node_count(random: &mut Random) -> usize {
+    match random.below(100) {
+        0..=69 => random.between(1, 14),
+        70..=89 => random.between(15, 50),
+        90..=94 => random.between(51, 126),
+        95..=98 => random.between(127, 129),
+        _ => random.between(130, 400),
+    }
+}
+
+fn valid_text(random: &mut Random, m: usize, nodes: usize, text: &mut Vec<u8>) {
+    text.clear();
+    let style = Style::random(random, m);
+    phrase(random, &style, 0, nodes, text);
+}
+
+/// Adds spaces between tokens, up to `together` at a place, until the text has `length` bytes.
+fn pad(random: &mut Random, length: usize, together: usize, text: &mut Vec<u8>) {
+    while text.len() < length {
+        let place = random.between(0, text.len());
+        let within_atom = place > 0
+            && place < text.len()
+            && text[place].is_ascii_digit()
+            && (text[place - 1] == b'a' || text[place - 1].is_ascii_digit());
+        if !within_atom {
+            let count = random.between(1, together.min(length - text.len()));
+            text.splice(place..place, std::iter::repeat_n(b' ', count));
+        }
+    }
+}
+
+fn damage(random: &mut Random, bytes: &mut Vec<u8>, alphabet: &[u8]) {
+    for _ in 0..random.pick(&[1, 1, 1, 2, 5]) {
+        let byte = if random.percent(80) { random.pick(alphabet) } else { random.next() as u8 };
+        let place = random.below(bytes.len() + 1);
+        match random.below(6) {
+            0..=1 => bytes.insert(place, byte),
+            2..=3 if place < bytes.len() => bytes[place] = byte,
+            4 if place < bytes.len() => {
+                bytes.remove(place);
+            }
+            5 if random.percent(30) => bytes.truncate(place),
+            _ => {
+                let other = random.below(bytes.len() + 1);
+                if place < bytes.len() && other < bytes.len() {
+                    bytes.swap(place, other);
+                }
+            }
+        }
+    }
+}
+
+fn long_number(random: &mut Random, text: &mut Vec<u8>) {
+    text.push(b'a');
+    match random.below(4) {
+        0 => {
+            // Beside the powers of two that a counter could wrap at.
+            let power = random.pick(&[8, 16, 31, 32, 63, 64]);
+            let number = (1u128 << power) + random.below(17) as u128;
+            text.extend_from_slice(number.to_string().as_bytes());
+        }
+        1 => text.extend_from_slice(random.between(0, 30).to_string().as_bytes()),
+        2 => {
+            text.extend(std::iter::repeat_n(b'0', random.between(0, 2)));
+            text.extend_from_slice(random.between(0, 300).to_string().as_bytes());
+        }
+        _ => {
+            let digits = random.pick(&[3, 10, 19, 20, 21, 39, 40, 300, 1022, 1023, 1024]);
+            text.push(b'1' + random.below(9) as u8);
+            text.extend((1..digits).map(|_| b'0' + random.below(10) as u8));
+        }
+    }
+}
+
+pub fn text(random: &mut Random, m: usize, text: &mut Vec<u8>) {
+    let m = made_for(m);
+    match random.below(100) {
+        0..=44 => {
+            let nodes = node_count(random);
+            valid_text(random, m, nodes, text);
+        }
+        45..=66 => {
+            let nodes = node_count(random);
+            valid_text(random, m, nodes, text);
+            damage(random, text, ALPHABET);
+        }
+        67..=74 => {
+            // Tokens without a plan, mostly operand and operator in turn.
+            text.clear();
+            for place in 0..random.between(0, 30) {
+                match (place % 2 == 0, random.percent(85)) {
+                    (true, true) => {
+                        text.push(b'a');
+                        text.push(b'0' + random.below(m.min(10)) as u8);
+                    }
+                    (false, true) => text.push(random.pick(&BINARY).0),
+                    _ => text.push(random.pick(ALPHABET)),
+                }
+            }
+        }
+        75..=79 => {
+            text.clear();
+            let alphabet_only = random.percent(50);
+            for _ in 0..random.pick(&[0, 1, 2, 3, 8, 40, 1023, 1024, 1025]) {
+                text.push(if alphabet_only { random.pick(ALPHABET) } else { random.next() as u8 });
+            }
+        }
+        80..=86 => {
+            let nodes = random.pick(&[1, 2, 5, 30, 127, 128, 129]);
+            valid_text(random, m, nodes, text);
+            let length = random.between(MAX_TEXT - 2, MAX_TEXT + 2);
+            let together = random.pick(&[10, MAX_TEXT]);
+            pad(random, length, together, text);
+            if random.percent(20) {
+                damage(random, text, ALPHABET);
+            }
+        }
+        87..=92 => {
+            text.clear();
+            if random.percent(50) {
+                let nodes = random.between(1, 10);
+                valid_text(random, m, nodes, text);
+                text.push(random.pick(b"U&|>"));
+            }
+            long_number(random, text);
+            if random.percent(30) {
+                text.push(random.pick(b" )U&|>0"));
+            }
+        }
+        _ => {
+            // Prefixes and brackets around the limits.
+            text.clear();
+            let depth = random.pick(&[1, 60, 125, 126, 127, 128, 129, 200, 256, 340, 510, 511, 512, 1022, 1023, 1024]);
+            let brackets = random.percent(50);
+            for _ in 0..depth {
+                text.push(if brackets { b'(' } else { random.pick(&UNARY).0 });
+            }
+            text.extend_from_slice(random.pick(&[&b"a0"[..], b"a9", b"a16", b"a", b""]));
+            if brackets {
+                text.extend(std::iter::repeat_n(b')', depth));
+            }
+            if random.percent(20) {
+                damage(random, text, ALPHABET);
+            }
+        }
+    }
+}
+
+// ---------------------------------------------------------------------------------------------- tables
+
+fn push_node(table: &mut Vec<u8>, kind: u8, left: usize, right: usize) {
+    table.extend_from_slice(&[0x4E, 0x44, kind, left as u8, right as u8]);
+}
+
+/// A good table of any shape: shared and unused nodes, left equal to right.
+fn shaped_table(random: &mut Random, m: usize, nodes: usize, table: &mut Vec<u8>) {
+    table.clear();
+    let near = random.percent(50);
+    for number in 0..nodes {
+        let child = |random: &mut Random| {
+            if near {
+                number - random.between(1, number.min(3))
+            } else {
+                random.below(number)
+            }
+        };
+        match random.below(12) {
+            0..=3 if number > 0 => {
+                let left = child(random);
+                push_node(table, random.pick(&UNARY).1, left, 0);
+            }
+            4..=9 if number > 0 => {
+                let left = child(random);
+                let right = if random.percent(10) { left } else { child(random) };
+                push_node(table, random.pick(&BINARY).1, left, right);
+            }
+            _ => push_node(table, ATOM, random.below(m), 0),
+        }
+    }
+}
+
+fn good_table(random: &mut Random, m: usize, table: &mut Vec<u8>) {
+    let nodes = match random.below(100) {
+        0..=69 => random.between(1, 12),
+        70..=93 => random.between(13, 40),
+        94..=96 => random.between(41, 126),
+        _ => random.between(127, 128),
+    };
+    if random.percent(60) {
+        let mut text = Vec::new();
+        let style = Style { spaces: 0, brackets: 0, atoms: m };
+        phrase(random, &style, 0, nodes, &mut text);
+        table.clear();
+        table.resize(nodes * NODE_BYTES, 0);
+        if reference::read(&text, m, table) == Ok(nodes) {
+            return;
+        }
+    }
+    shaped_table(random, m, nodes, table);
+}
+
+/// Changes one thing by which a table is no longer good, or may be so.
+fn damage_table(random: &mut Random, m: usize, table: &mut Vec<u8>) {
+    let nodes = table.len() / NODE_BYTES;
+    let number = random.below(nodes);
+    let record = number * NODE_BYTES;
+    match random.below(14) {
+        0 => table.clear(),
+        1 => table.truncate(4),
+        2 => {
+            let length = random.below(table.len());
+            table.truncate(length);
+        }
+        3 => table.push(random.pick(&[0, 1, 0x4E])),
+        4 => {
+            shaped_table(random, m, MAX_NODES, table);
+            table.push(0x4E);
+        }
+        5 => {
+            let nodes = random.pick(&[129, 130, 256, 257]);
+            shaped_table(random, m, nodes, table);
+        }
+        6 => table[record + random.below(2)] ^= 1 << random.below(8),
+        7 => table[record + 2] = random.pick(&[0, 1, 2, 3, 4, 5, 6, 7, 8, 9, 10, 64, 128, 255]),
+        8 => table[record + 3] = number as u8,
+        9 => table[record + 4] = number as u8,
+        10 => table[record + 3] = random.pick(&[m, m - 1, 16, 127, 128, 255]) as u8,
+        11 => table[record + 4] = random.pick(&[0, 1, 127, 128, 255]),
+        12 => {
+            let place = random.below(table.len());
+            table[place] = random.next() as u8;
+        }
+        _ => damage(random, table, &[0x4E, 0x44, 0, 1, 2, 3, 8]),
+    }
+}
+
+pub fn table(random: &mut Random, m: usize, table: &mut Vec<u8>) {
+    let m = made_for(m);
+    if random.percent(1) {
+        table.clear();
+        for _ in 0..random.below(30) {
+            table.push(random.next() as u8);
+        }
+        return;
+    }
+    // A table for fewer or more atoms than are asked, now and then.
+    let m = if random.percent(3) { random.between(1, 16) } else { m };
+    good_table(random, m, table);
+    if random.percent(12) {
+        damage_table(random, m, table);
+    }
+}
+
+/// The bytes that the truth of a table takes, where it is good.
+pub fn truth_bytes(table: &[u8], t: usize) -> usize {
+    table.len() / NODE_BYTES * t.min(reference::MAX_SLOTS)
+}
+
+/// The bytes that the rows of a table take, where it is good.
+pub fn row_bytes(table: &[u8], t: usize) -> usize {
+    let t = t.clamp(1, reference::MAX_SLOTS);
+    let rows: usize = table
+        .chunks_exact(NODE_BYTES)
+        .map(|record| match record[2] {
+            AND | OR | IMPLIES => 3 * t,
+            EVENTUALLY | ALWAYS => 3 * t - 2,
+            UNTIL => 4 * t - 3,
+            _ => t,
+        })
+        .sum();
+    (rows + 1) * reference::ROW_BYTES
+}
+
+// ------------------------------------------------------------------------------------ runs and figures
+
+/// A run of the right length in which each atom stays as it was for a while.
+fn good_run(random: &mut Random, t: usize, m: usize, run: &mut Vec<u16>) {
+    run.clear();
+    let mask = ((1u32 << m) - 1) as u16;
+    let mut numbers = random.next() as u16 & mask;
+    let change = random.between(0, 3);
+    for _ in 0..t.min(reference::MAX_SLOTS) {
+        run.push(numbers);
+        // Each of the steps halves the chance of a change.
+        let flips = (0..change).fold(mask, |flips, _| flips & random.next() as u16);
+        numbers ^= flips;
+    }
+}
+
+pub fn run(random: &mut Random, t: usize, m: usize, run: &mut Vec<u16>) {
+    good_run(random, t, made_for(m), run);
+    match random.below(100) {
+        0..=1 => run.push(0),
+        2..=3 => {
+            run.pop();
+        }
+        4 => run.clear(),
+        5 => run.resize(random.below(200), 0),
+        6..=8 if !run.is_empty() => {
+            let place = random.below(run.len());
+            run[place] |= 1 << random.between(m.min(15), 15);
+        }
+        9 if !run.is_empty() => {
+            let place = random.below(run.len());
+            run[place] = random.pick(&[0xFFFF, 0x8000, 0x0100]);
+        }
+        _ => {}
+    }
+}
+
+fn off_by(random: &mut Random, most: i32) -> i32 {
+    random.between(0, 2 * most as usize) as i32 - most
+}
+
+/// Figures near the one solution of a table's rows, with the ways in which a solver's can differ.
+pub fn figures(random: &mut Random, table: &[u8], t: usize, m: usize, e: i32, figures: &mut Vec<i32>) {
+    figures.clear();
+    let one = reference::ONE as i32;
+    let slots = t.clamp(1, reference::MAX_SLOTS);
+    let atoms = made_for(m);
+    let mut run = Vec::new();
+    let mut truth = vec![0; truth_bytes(table, slots)];
+    for _ in 0..3 {
+        good_run(random, slots, atoms, &mut run);
+        if reference::evaluate(table, slots, atoms, &run, &mut truth) != Ok(0) {
+            break;
+        }
+    }
+    for atom in 0..atoms {
+        figures.extend(run.iter().map(|numbers| i32::from(numbers >> atom & 1) * one));
+    }
+    figures.extend(truth.iter().map(|&truth| i32::from(truth) * one));
+    let count = figures.len();
+    let place = random.below(count);
+    let slack = if truth.is_empty() { place } else { count - 1 - random.below(truth.len()) };
+    let e = e.clamp(0, 1000);
+    match random.below(20) {
+        0..=2 => {}
+        3 => figures.iter_mut().for_each(|figure| *figure += off_by(random, e / 3)),
+        4 => figures.iter_mut().for_each(|figure| *figure += off_by(random, e)),
+        5 => {
+            // Inwards only, so that none is outside.
+            for figure in figures.iter_mut() {
+                let off = off_by(random, e / 3).abs();
+                *figure += if *figure == 0 { off } else { -off };
+            }
+        }
+        6..=7 => figures[place] += random.pick(&[-1, 1]) * (e + random.below(2) as i32),
+        8..=9 => {
+            let off = e + random.below(2) as i32;
+            figures[slack] += if figures[slack] == 0 { off } else { -off };
+        }
+        10 => figures[slack] = one - figures[slack],
+        11 => figures[slack] = random.between(0, one as usize) as i32,
+        12 => figures[place] = random.pick(&[e, e + 1, one - e, one - e - 1, one / 2]),
+        13 => figures[place] = random.pick(&[-e, -e - 1, one + e, one + e + 1, -1, one + 1]),
+        14 => figures[place] = random.pick(&[i32::MIN, i32::MAX, i32::MIN + 1, i32::MAX - 1, 2 * one, -one]),
+        15 => {
+            for _ in 0..random.between(1, 4) {
+                let place = random.below(count);
+                figures[place] += off_by(random, e + 2);
+            }
+        }
+        16 => figures.iter_mut().for_each(|figure| *figure = random.next() as i32),
+        17 => figures[atoms * slots..].iter_mut().for_each(|figure| *figure = random.between(0, one as usize) as i32),
+        18 => {
+            // All slacks on the same figure: only the rows decide.
+            let same = random.pick(&[0, one, one / 2, e, one - e]);
+            figures[atoms * slots..].iter_mut().for_each(|figure| *figure = same);
+        }
+        _ => match random.below(6) {
+            0..=1 => figures.push(0),
+            2..=3 => {
+                figures.pop();
+            }
+            4 => figures.clear(),
+            _ => figures.resize(random.below(2 * count + 1), one),
+        },
+    }
+}
+
+// ------------------------------------------------------------------------------------- for the timings
+
+/// A text of exactly `nodes` nodes, mostly untils, filled with spaces up to the longest length.
+pub fn largest_text(nodes: usize, m: usize) -> Vec<u8> {
+    fn untils(atoms: &mut usize, m: usize, leaves: usize, text: &mut Vec<u8>) {
+        if leaves == 1 {
+            text.extend_from_slice(format!("a{}", *atoms % m).as_bytes());
+            *atoms += 1;
+            return;
+        }
+        text.push(b'(');
+        untils(atoms, m, leaves / 2, text);
+        text.push(b'U');
+        untils(atoms, m, leaves - leaves / 2, text);
+        text.push(b')');
+    }
+    let mut text = Vec::new();
+    let mut left = nodes;
+    if left % 2 == 0 {
+        text.push(b'G');
+        left -= 1;
+    }
+    untils(&mut 0, m, left.div_ceil(2), &mut text);
+    pad(&mut Random::new(1), MAX_TEXT, 1, &mut text);
+    text
+}
+
+/// A run of `t` numbers over which the table's root holds, so that the judge goes through all its rows.
+pub fn true_run(table: &[u8], t: usize, m: usize) -> Vec<u16> {
+    let mut random = Random::new(1);
+    let mut run = Vec::new();
+    let mut truth = vec![0; truth_bytes(table, t)];
+    loop {
+        good_run(&mut random, t, m, &mut run);
+        if reference::evaluate(table, t, m, &run, &mut truth) == Ok(1) {
+            return run;
+        }
+    }
+}
+
+/// The exact solution of the table's rows over a run.
+pub fn solution(table: &[u8], t: usize, m: usize, run: &[u16]) -> Vec<i32> {
+    let one = reference::ONE as i32;
+    let mut truth = vec![0; truth_bytes(table, t)];
+    let answer = reference::evaluate(table, t, m, run, &mut truth);
+    assert_eq!(answer, Ok(1), "the rule does not hold over the run");
+    let atoms = (0..m).flat_map(|atom| run.iter().map(move |numbers| i32::from(numbers >> atom & 1) * one));
+    atoms.chain(truth.iter().map(|&truth| i32::from(truth) * one)).collect()
+}

@@ -1,0 +1,430 @@
+//! The four calls in plain Rust, straight from the scope paper: what the proved library is compared with,
+//! in its answers and in its speed. It shares no code with the library.
+//!
+//! Each call returns its result or the number of its refusal. The refusals are tested in the order of
+//! their numbers, so the lowest wins, and nothing is written before all of them are known.
+
+pub const MAX_SLOTS: usize = 64;
+pub const MAX_ATOMS: usize = 16;
+pub const MAX_TEXT: usize = 1024;
+pub const MAX_NODES: usize = 128;
+pub const NODE_BYTES: usize = 5;
+pub const ROW_BYTES: usize = 14;
+pub const ONE: i64 = 1_000_000;
+
+const NODE_MARK: [u8; 2] = [0x4E, 0x44];
+const ROW_MARK: [u8; 2] = [0x52, 0x57];
+const MAX_TOLERANCE: i32 = 1000;
+
+pub const ATOM: u8 = 1;
+pub const NOT: u8 = 2;
+pub const AND: u8 = 3;
+pub const OR: u8 = 4;
+pub const IMPLIES: u8 = 5;
+pub const EVENTUALLY: u8 = 6;
+pub const ALWAYS: u8 = 7;
+pub const UNTIL: u8 = 8;
+
+#[derive(Clone, Copy, Debug, PartialEq, Eq)]
+pub enum Verdict {
+    Outside(usize),
+    NotBinary(usize),
+    Broken(usize),
+    Passed(usize),
+}
+
+fn require(condition: bool, refusal: u32) -> Result<(), u32> {
+    if condition {
+        Ok(())
+    } else {
+        Err(refusal)
+    }
+}
+
+// ---------------------------------------------------------------------------------------------- read
+
+/// Reads a rule into `out` as a node table; the result is the number of nodes.
+pub fn read(text: &[u8], m: usize, out: &mut [u8]) -> Result<usize, u32> {
+    require((1..=MAX_ATOMS).contains(&m), 2)?;
+    require(text.len() <= MAX_TEXT, 3)?;
+    let mut parser =
+        Parser { text, at: 0, atoms: m, atom_too_large: false, count: 0, records: [0; MAX_NODES * NODE_BYTES] };
+    parser.skip_spaces();
+    parser.rule(LOOSEST).ok_or(4u32)?;
+    require(parser.at == text.len(), 4)?;
+    require(!parser.atom_too_large, 5)?;
+    require(parser.count <= MAX_NODES, 6)?;
+    let written = parser.count * NODE_BYTES;
+    require(out.len() >= written, 11)?;
+    out[..written].copy_from_slice(&parser.records[..written]);
+    Ok(parser.count)
+}
+
+/// How tightly an operator binds: > | & U, loosest first.
+type Binding = u8;
+const LOOSEST: Binding = 1;
+
+fn binary_operator(byte: u8) -> Option<(Binding, u8)> {
+    match byte {
+        b'>' => Some((1, IMPLIES)),
+        b'|' => Some((2, OR)),
+        b'&' => Some((3, AND)),
+        b'U' => Some((4, UNTIL)),
+        _ => None,
+    }
+}
+
+/// A parser that counts the nodes beyond the table's end but does not keep them: the whole text must be
+/// seen before it is known which refusal applies.
+struct Parser<'a> {
+    text: &'a [u8],
+    at: usize,
+    atoms: usize,
+    atom_too_large: bool,
+    count: usize,
+    records: [u8; MAX_NODES * NODE_BYTES],
+}
+
+impl Parser<'_> {
+    fn peek(&self) -> Option<u8> {
+        self.text.get(self.at).copied()
+    }
+
+    fn skip_spaces(&mut self) {
+        while self.peek() == Some(b' ') {
+            self.at += 1;
+        }
+    }
+
+    /// Steps over a token of one byte and the spaces behind it.
+    fn step(&mut self) {
+        self.at += 1;
+        self.skip_spaces();
+    }
+
+    /// Operators that bind at least as tightly as `loosest`; each groups to the right.
+    fn rule(&mut self, loosest: Binding) -> Option<usize> {
+        let mut left = self.single()?;
+        while let Some((binding, kind)) = self.peek().and_then(binary_operator) {
+            if binding < loosest {
+                break;
+            }
+            self.step();
+            let right = self.rule(binding)?;
+            left = self.node(kind, left, right);
+        }
+        Some(left)
+    }
+
+    fn single(&mut self) -> Option<usize> {
+        let kind = match self.peek()? {
+            b'!' => NOT,
+            b'F' => EVENTUALLY,
+            b'G' => ALWAYS,
+            b'a' => return self.atom(),
+            b'(' => {
+                self.step();
+                let inner = self.rule(LOOSEST)?;
+                if self.peek() != Some(b')') {
+                    return None;
+                }
+                self.step();
+                return Some(inner);
+            }
+            _ => return None,
+        };
+        self.step();
+        let child = self.single()?;
+        Some(self.node(kind, child, 0))
+    }
+
+    /// The letter a and all digits that follow, at least one, without a leading zero.
+    fn atom(&mut self) -> Option<usize> {
+        self.at += 1;
+        let start = self.at;
+        let mut number = 0;
+        while let Some(digit @ b'0'..=b'9') = self.peek() {
+            // Kept small: beyond the largest atom only "too large" matters.
+            number = MAX_ATOMS.min(number * 10 + usize::from(digit - b'0'));
+            self.at += 1;
+        }
+        let digits = &self.text[start..self.at];
+        if digits.is_empty() || (digits[0] == b'0' && digits.len() > 1) {
+            return None;
+        }
+        self.atom_too_large |= number >= self.atoms;
+        self.skip_spaces();
+        Some(self.node(ATOM, number, 0))
+    }
+
+    fn node(&mut self, kind: u8, left: usize, right: usize) -> usize {
+        let number = self.count;
+        if let Some(record) = self.records.chunks_exact_mut(NODE_BYTES).nth(number) {
+            // Within the table all numbers are below 128.
+            record.copy_from_slice(&[NODE_MARK[0], NODE_MARK[1], kind, left as u8, right as u8]);
+        }
+        self.count += 1;
+        number
+    }
+}
+
+// --------------------------------------------------------------------------------------------- tables
+
+/// A table that was found good.
+struct Table<'a> {
+    records: &'a [u8],
+}
+
+#[derive(Clone, Copy)]
+struct Node {
+    kind: u8,
+    left: usize,
+    right: usize,
+}
+
+impl<'a> Table<'a> {
+    fn good(bytes: &'a [u8], m: usize) -> Option<Self> {
+        let count = bytes.len() / NODE_BYTES;
+        if bytes.len() % NODE_BYTES != 0 || !(1..=MAX_NODES).contains(&count) {
+            return None;
+        }
+        let table = Table { records: bytes };
+        let marked = bytes.chunks_exact(NODE_BYTES).all(|record| record[..2] == NODE_MARK);
+        let fitting = table.nodes().enumerate().all(|(number, Node { kind, left, right })| match kind {
+            ATOM => left < m && right == 0,
+            NOT | EVENTUALLY | ALWAYS => left < number && right == 0,
+            AND | OR | IMPLIES | UNTIL => left < number && right < number,
+            _ => false,
+        });
+        (marked && fitting).then_some(table)
+    }
+
+    fn len(&self) -> usize {
+        self.records.len() / NODE_BYTES
+    }
+
+    fn nodes(&self) -> impl Iterator<Item = Node> + 'a {
+        self.records.chunks_exact(NODE_BYTES).map(|record| Node {
+            kind: record[2],
+            left: usize::from(record[3]),
+            right: usize::from(record[4]),
+        })
+    }
+}
+
+fn checked_table(table: &[u8], t: usize, m: usize) -> Result<Table<'_>, u32> {
+    require((1..=MAX_SLOTS).contains(&t), 1)?;
+    require((1..=MAX_ATOMS).contains(&m), 2)?;
+    Table::good(table, m).ok_or(7)
+}
+
+// ------------------------------------------------------------------------------------------- evaluate
+
+/// Writes the truth of node n at slot s, 0 or 1, to place n·T + s − 1 of `out`; the result is the root's
+/// truth at slot 1.
+pub fn evaluate(table: &[u8], t: usize, m: usize, run: &[u16], out: &mut [u8]) -> Result<usize, u32> {
+    let table = checked_table(table, t, m)?;
+    require(run.len() == t && run.iter().all(|&number| u32::from(number) >> m == 0), 8)?;
+    let written = table.len() * t;
+    require(out.len() >= written, 11)?;
+    for (number, node) in table.nodes().enumerate() {
+        let (before, rest) = out.split_at_mut(number * t);
+        let truth = &mut rest[..t];
+        if node.kind == ATOM {
+            for (place, &numbers) in truth.iter_mut().zip(run) {
+                *place = (numbers >> node.left & 1) as u8;
+            }
+            continue;
+        }
+        let p = &before[node.left * t..][..t];
+        let q = &before[node.right * t..][..t];
+        match node.kind {
+            NOT => each(truth, p, q, |p, _| p ^ 1),
+            AND => each(truth, p, q, |p, q| p & q),
+            OR => each(truth, p, q, |p, q| p | q),
+            IMPLIES => each(truth, p, q, |p, q| p ^ 1 | q),
+            // From slot T on nothing changes, so each is known there and goes back slot by slot.
+            EVENTUALLY => backwards(truth, p, q, 0, |p, _, later| p | later),
+            ALWAYS => backwards(truth, p, q, 1, |p, _, later| p & later),
+            _ => backwards(truth, p, q, 0, |p, q, later| q | p & later),
+        }
+    }
+    Ok(usize::from(out[written - t]))
+}
+
+fn each(truth: &mut [u8], p: &[u8], q: &[u8], operator: impl Fn(u8, u8) -> u8) {
+    for (place, (&p, &q)) in truth.iter_mut().zip(p.iter().zip(q)) {
+        *place = operator(p, q);
+    }
+}
+
+fn backwards(truth: &mut [u8], p: &[u8], q: &[u8], mut later: u8, operator: impl Fn(u8, u8, u8) -> u8) {
+    for (place, (&p, &q)) in truth.iter_mut().zip(p.iter().zip(q)).rev() {
+        later = operator(p, q, later);
+        *place = later;
+    }
+}
+
+// ----------------------------------------------------------------------------------------------- rows
+
+#[derive(Clone, Copy)]
+enum Relation {
+    AtLeast = 1,
+    Equal = 2,
+}
+
+/// Takes the rows in order, until it answers false.
+trait Rows {
+    fn row<const N: usize>(&mut self, relation: Relation, right: i8, terms: [(i8, usize); N]) -> bool;
+}
+
+/// Hands all rows of a good table to `rows`, or those up to the first at which it answers false.
+#[inline(always)]
+fn all_rows(table: &Table, t: usize, m: usize, rows: &mut impl Rows) -> bool {
+    use Relation::{AtLeast, Equal};
+    for (number, node) in table.nodes().enumerate() {
+        let own = (m + number) * t;
+        let left = if node.kind == ATOM { node.left * t } else { (m + node.left) * t };
+        let right = (m + node.right) * t;
+        for slot in 0..t {
+            // The paper's P, p, q and P'.
+            let (big, p, q) = (own + slot, left + slot, right + slot);
+            let next = big + 1;
+            let last = slot + 1 == t;
+            let holds = match node.kind {
+                ATOM => rows.row(Equal, 0, [(1, big), (-1, p)]),
+                NOT => rows.row(Equal, 1, [(1, big), (1, p)]),
+                AND => {
+                    rows.row(AtLeast, 0, [(1, p), (-1, big)])
+                        && rows.row(AtLeast, 0, [(1, q), (-1, big)])
+                        && rows.row(AtLeast, -1, [(1, big), (-1, p), (-1, q)])
+                }
+                OR => {
+                    rows.row(AtLeast, 0, [(1, big), (-1, p)])
+                        && rows.row(AtLeast, 0, [(1, big), (-1, q)])
+                        && rows.row(AtLeast, 0, [(1, p), (1, q), (-1, big)])
+                }
+                IMPLIES => {
+                    rows.row(AtLeast, 1, [(1, big), (1, p)])
+                        && rows.row(AtLeast, 0, [(1, big), (-1, q)])
+                        && rows.row(AtLeast, -1, [(1, q), (-1, p), (-1, big)])
+                }
+                EVENTUALLY | ALWAYS if last => rows.row(Equal, 0, [(1, big), (-1, p)]),
+                EVENTUALLY => {
+                    rows.row(AtLeast, 0, [(1, big), (-1, p)])
+                        && rows.row(AtLeast, 0, [(1, big), (-1, next)])
+                        && rows.row(AtLeast, 0, [(1, p), (1, next), (-1, big)])
+                }
+                ALWAYS => {
+                    rows.row(AtLeast, 0, [(1, p), (-1, big)])
+                        && rows.row(AtLeast, 0, [(1, next), (-1, big)])
+                        && rows.row(AtLeast, -1, [(1, big), (-1, p), (-1, next)])
+                }
+                _ if last => rows.row(Equal, 0, [(1, big), (-1, q)]),
+                _ => {
+                    rows.row(AtLeast, 0, [(1, big), (-1, q)])
+                        && rows.row(AtLeast, 0, [(1, p), (1, q), (-1, big)])
+                        && rows.row(AtLeast, 0, [(1, q), (1, next), (-1, big)])
+                        && rows.row(AtLeast, -1, [(1, big), (-1, p), (-1, next)])
+                }
+            };
+            if !holds {
+                return false;
+            }
+        }
+    }
+    let root = m + table.len() - 1;
+    rows.row(Equal, 1, [(1, root * t)])
+}
+
+fn row_count(table: &Table, t: usize) -> usize {
+    let of_nodes: usize = table
+        .nodes()
+        .map(|node| match node.kind {
+            ATOM | NOT => t,
+            AND | OR | IMPLIES => 3 * t,
+            EVENTUALLY | ALWAYS => 3 * (t - 1) + 1,
+            _ => 4 * (t - 1) + 1,
+        })
+        .sum();
+    of_nodes + 1
+}
+
+/// Writes the rows of a table to `out` as records; the result is their number.
+pub fn rows(table: &[u8], t: usize, m: usize, out: &mut [u8]) -> Result<usize, u32> {
+    let table = checked_table(table, t, m)?;
+    let count = row_count(&table, t);
+    require(out.len() >= count * ROW_BYTES, 11)?;
+    all_rows(&table, t, m, &mut Writer { records: out.chunks_exact_mut(ROW_BYTES) });
+    Ok(count)
+}
+
+struct Writer<'a> {
+    records: std::slice::ChunksExactMut<'a, u8>,
+}
+
+impl Rows for Writer<'_> {
+    #[inline(always)]
+    fn row<const N: usize>(&mut self, relation: Relation, right: i8, terms: [(i8, usize); N]) -> bool {
+        let Some(place) = self.records.next() else { return false };
+        let mut record = [0; ROW_BYTES];
+        record[..2].copy_from_slice(&ROW_MARK);
+        record[2] = relation as u8;
+        record[3] = N as u8;
+        record[4] = right as u8;
+        for (place, (coefficient, variable)) in record[5..].chunks_exact_mut(3).zip(terms) {
+            // At most (16 + 128)·64 variables.
+            let [low, high] = (variable as u16).to_le_bytes();
+            place.copy_from_slice(&[coefficient as u8, low, high]);
+        }
+        place.copy_from_slice(&record);
+        true
+    }
+}
+
+// ---------------------------------------------------------------------------------------------- judge
+
+/// Holds a solver's figures, in millionths, against the limits, the atoms and the rows of a table.
+pub fn judge(table: &[u8], t: usize, m: usize, figures: &[i32], e: i32) -> Result<Verdict, u32> {
+    let table = checked_table(table, t, m)?;
+    require(figures.len() == (m + table.len()) * t, 9)?;
+    require((0..=MAX_TOLERANCE).contains(&e), 10)?;
+    let one = ONE as i32;
+    if let Some(variable) = figures.iter().position(|figure| !(-e..=one + e).contains(figure)) {
+        return Ok(Verdict::Outside(variable));
+    }
+    // All figures are now from -e to 1,000,000 + e.
+    if let Some(variable) = figures[..m * t].iter().position(|figure| (e + 1..one - e).contains(figure)) {
+        return Ok(Verdict::NotBinary(variable));
+    }
+    let mut checker = Checker { figures, e: i64::from(e), count: 0 };
+    Ok(if all_rows(&table, t, m, &mut checker) {
+        Verdict::Passed(checker.count)
+    } else {
+        Verdict::Broken(checker.count)
+    })
+}
+
+struct Checker<'a> {
+    figures: &'a [i32],
+    e: i64,
+    /// The rows that held, which is the number of the first that did not.
+    count: usize,
+}
+
+impl Rows for Checker<'_> {
+    #[inline(always)]
+    fn row<const N: usize>(&mut self, relation: Relation, right: i8, terms: [(i8, usize); N]) -> bool {
+        let sum: i64 = terms
+            .iter()
+            .map(|&(coefficient, variable)| i64::from(coefficient) * i64::from(self.figures[variable]))
+            .sum();
+        let difference = sum - i64::from(right) * ONE;
+        let holds = match relation {
+            Relation::AtLeast => difference >= -self.e,
+            Relation::Equal => difference.abs() <= self.e,
+        };
+        self.count += usize::from(holds);
+        holds
+    }
+}

@@ -1,0 +1,81 @@
+//! The proved library's C boundary, with the signatures of the reference.
+
+use crate::reference::Verdict;
+
+#[repr(C)]
+#[derive(Clone, Copy)]
+struct RawAnswer {
+    refusal: u32,
+    value: u32,
+}
+
+#[repr(C)]
+#[derive(Clone, Copy)]
+struct RawVerdict {
+    refusal: u32,
+    verdict: u32,
+    value: u32,
+}
+
+extern "C" {
+    fn sepia_read(text: *const u8, text_len: usize, m: usize, out: *mut u8, out_len: usize) -> RawAnswer;
+    fn sepia_evaluate(
+        table: *const u8,
+        table_len: usize,
+        t: usize,
+        m: usize,
+        run: *const u16,
+        run_len: usize,
+        out: *mut u8,
+        out_len: usize,
+    ) -> RawAnswer;
+    fn sepia_rows(table: *const u8, table_len: usize, t: usize, m: usize, out: *mut u8, out_len: usize) -> RawAnswer;
+    fn sepia_judge(
+        table: *const u8,
+        table_len: usize,
+        t: usize,
+        m: usize,
+        figures: *const i32,
+        figures_len: usize,
+        e: i32,
+    ) -> RawVerdict;
+}
+
+fn answer(raw: RawAnswer) -> Result<usize, u32> {
+    match raw.refusal {
+        0 => Ok(raw.value as usize),
+        refusal => Err(refusal),
+    }
+}
+
+pub fn read(text: &[u8], m: usize, out: &mut [u8]) -> Result<usize, u32> {
+    // SAFETY: each pointer comes with its slice's length, and only `out` is written.
+    answer(unsafe { sepia_read(text.as_ptr(), text.len(), m, out.as_mut_ptr(), out.len()) })
+}
+
+pub fn evaluate(table: &[u8], t: usize, m: usize, run: &[u16], out: &mut [u8]) -> Result<usize, u32> {
+    // SAFETY: as in `read`.
+    answer(unsafe {
+        sepia_evaluate(table.as_ptr(), table.len(), t, m, run.as_ptr(), run.len(), out.as_mut_ptr(), out.len())
+    })
+}
+
+pub fn rows(table: &[u8], t: usize, m: usize, out: &mut [u8]) -> Result<usize, u32> {
+    // SAFETY: as in `read`.
+    answer(unsafe { sepia_rows(table.as_ptr(), table.len(), t, m, out.as_mut_ptr(), out.len()) })
+}
+
+pub fn judge(table: &[u8], t: usize, m: usize, figures: &[i32], e: i32) -> Result<Verdict, u32> {
+    // SAFETY: as in `read`; nothing is written.
+    let raw = unsafe { sepia_judge(table.as_ptr(), table.len(), t, m, figures.as_ptr(), figures.len(), e) };
+    let value = raw.value as usize;
+    match (raw.refusal, raw.verdict) {
+        (0, 0) => Ok(Verdict::Outside(value)),
+        (0, 1) => Ok(Verdict::NotBinary(value)),
+        (0, 2) => Ok(Verdict::Broken(value)),
+        (0, 3) => Ok(Verdict::Passed(value)),
+        // No verdict of the paper: nothing that the reference answers.
+        (0, _) => Err(0),
+        (refusal, _) => Err(refusal),
+    }
+}

@@ -1,0 +1,164 @@
+//! The proved library beside the reference in one run: small, medium and largest inputs of each call.
+
+use std::hint::black_box;
+use std::time::Instant;
+
+use crate::inputs;
+use crate::reference;
+use crate::sepia;
+
+const ROUNDS: usize = 7;
+/// Timings of each side in a round, taken in turn.
+const REPETITIONS: usize = 41;
+/// What one timing takes at least, in nanoseconds.
+const TIMING: u128 = 100_000;
+
+struct Input {
+    name: String,
+    text: Vec<u8>,
+    t: usize,
+    m: usize,
+}
+
+fn inputs_of_three_sizes() -> [Input; 3] {
+    let medium = b"G(a0&!a1>F(a2|a3))&(a4Ua5)Ua2>F(a3&a5)".to_vec();
+    [
+        Input { name: "small".into(), text: b"a0Ua1".to_vec(), t: 8, m: 2 },
+        Input { name: "medium".into(), text: medium, t: 32, m: 6 },
+        Input { name: "largest".into(), text: inputs::largest_text(128, 16), t: 64, m: 16 },
+    ]
+}
+
+/// Takes a call's answer, so that the call is not left out.
+fn finish<A>(answer: A) {
+    black_box(answer);
+}
+
+fn median(mut values: Vec<f64>) -> f64 {
+    values.sort_by(f64::total_cmp);
+    values[values.len() / 2]
+}
+
+fn time(calls: u32, side: &mut dyn FnMut()) -> f64 {
+    let start = Instant::now();
+    for _ in 0..calls {
+        side();
+    }
+    start.elapsed().as_nanos() as f64 / f64::from(calls)
+}
+
+/// The median nanoseconds of each side in each round. The sides take turns, and so does who goes first.
+fn measure<const SIDES: usize>(mut sides: [&mut dyn FnMut(); SIDES]) -> Vec<[f64; SIDES]> {
+    let calls: Vec<u32> = sides
+        .iter_mut()
+        .map(|side| {
+            let mut calls = 1;
+            loop {
+                let start = Instant::now();
+                (0..calls).for_each(|_| side());
+                if start.elapsed().as_nanos() >= TIMING {
+                    break calls;
+                }
+                calls *= 2;
+            }
+        })
+        .collect();
+    (0..ROUNDS)
+        .map(|_| {
+            let mut times: [Vec<f64>; SIDES] = std::array::from_fn(|_| Vec::with_capacity(REPETITIONS));
+            for repetition in 0..REPETITIONS {
+                for turn in 0..SIDES {
+                    let side = (turn + repetition) % SIDES;
+                    times[side].push(time(calls[side], sides[side]));
+                }
+            }
+            times.map(median)
+        })
+        .collect()
+}
+
+/// The ratio of two sides: its median over the rounds, the least and the largest.
+fn ratio<const SIDES: usize>(rounds: &[[f64; SIDES]], over: usize, under: usize) -> String {
+    let ratios: Vec<f64> = rounds.iter().map(|round| round[over] / round[under]).collect();
+    let least = ratios.iter().copied().fold(f64::INFINITY, f64::min);
+    let largest = ratios.iter().copied().fold(0.0, f64::max);
+    format!("{:.2} | {least:.2} to {largest:.2}", median(ratios))
+}
+
+fn nanoseconds<const SIDES: usize>(rounds: &[[f64; SIDES]], side: usize) -> String {
+    format!("{:.0}", median(rounds.iter().map(|round| round[side]).collect()))
+}
+
+fn print_pair(call: &str, input: &str, rounds: &[[f64; 2]]) {
+    println!(
+        "| {call} | {input} | {} | {} | {} |",
+        nanoseconds(rounds, 0),
+        nanoseconds(rounds, 1),
+        ratio(rounds, 1, 0)
+    );
+}
+
+pub fn run() {
+    println!("Nanoseconds a call: medians of {ROUNDS} rounds of {REPETITIONS} timings, the sides in turn.");
+    println!("The ratio is Rattle over Rust in one round: its median, least and largest over the rounds.");
+    println!();
+    println!("| call | input | Rust | Rattle | ratio | rounds |");
+    println!("|---|---|---:|---:|---:|---|");
+    let mut copies = Vec::new();
+    for Input { name, text, t, m } in inputs_of_three_sizes() {
+        let mut table = vec![0; reference::MAX_NODES * reference::NODE_BYTES];
+        let nodes = reference::read(&text, m, &mut table).expect("a rule");
+        table.truncate(nodes * reference::NODE_BYTES);
+        let run = inputs::true_run(&table, t, m);
+        let figures = inputs::solution(&table, t, m, &run);
+        let label = format!("{name}: {nodes} nodes, {} bytes, T {t}, M {m}", text.len());
+        let (mut one, mut two) = (vec![0; table.len()], vec![0; table.len()]);
+        let rounds = measure([&mut || finish(reference::read(black_box(&text), m, black_box(&mut one))), &mut || {
+            finish(sepia::read(black_box(&text), m, black_box(&mut two)))
+        }]);
+        assert_eq!(one, two);
+        print_pair("read", &label, &rounds);
+
+        let (mut one, mut two) = (vec![0; nodes * t], vec![0; nodes * t]);
+        let rounds = measure([
+            &mut || finish(reference::evaluate(black_box(&table), t, m, black_box(&run), black_box(&mut one))),
+            &mut || finish(sepia::evaluate(black_box(&table), t, m, black_box(&run), black_box(&mut two))),
+        ]);
+        assert_eq!(one, two);
+        print_pair("evaluate", &label, &rounds);
+
+        let bytes = inputs::row_bytes(&table, t);
+        let (mut one, mut two, mut three) = (vec![0; bytes], vec![0; bytes], vec![0; bytes]);
+        let count = reference::rows(&table, t, m, &mut one).expect("rows");
+        let source = one.clone();
+        let rounds = measure([
+            &mut || finish(reference::rows(black_box(&table), t, m, black_box(&mut one))),
+            &mut || finish(sepia::rows(black_box(&table), t, m, black_box(&mut two))),
+            &mut || black_box(&mut three).copy_from_slice(black_box(&source)),
+        ]);
+        assert_eq!(one, two);
+        let pair: Vec<[f64; 2]> = rounds.iter().map(|&[rust, rattle, _]| [rust, rattle]).collect();
+        print_pair("rows", &format!("{label}, {count} rows"), &pair);
+        copies.push(format!(
+            "| {name}: {count} rows, {bytes} bytes | {} | {} | {} |",
+            nanoseconds(&rounds, 2),
+            ratio(&rounds, 1, 2),
+            ratio(&rounds, 0, 2)
+        ));
+
+        let expected = reference::judge(&table, t, m, &figures, 0);
+        assert_eq!(expected, Ok(reference::Verdict::Passed(count)));
+        assert_eq!(expected, sepia::judge(&table, t, m, &figures, 0));
+        let rounds =
+            measure([&mut || finish(reference::judge(black_box(&table), t, m, black_box(&figures), 0)), &mut || {
+                finish(sepia::judge(black_box(&table), t, m, black_box(&figures), 0))
+            }]);
+        print_pair("judge", &label, &rounds);
+    }
+    println!();
+    println!("The row writer beside a copy of its output (memcpy):");
+    println!();
+    println!("| input | copy | Rattle over copy | rounds | Rust over copy | rounds |");
+    println!("|---|---:|---:|---|---:|---|");
+    copies.iter().for_each(|line| println!("{line}"));
+}

@@ -1,0 +1,507 @@
+#!/usr/bin/env python3
+"""Makes crates/known/data/lines.txt: the scope paper's examples and the edges of its limits, one case a line.
+
+    python3 tests/known_lines.py            writes the file
+    python3 tests/known_lines.py --check    says whether the file is what this script makes, and writes nothing
+
+The cases and what is expected of them are written down below; this script only spells them out as bytes. It reads,
+evaluates and judges nothing.
+"""
+
+import sys
+from pathlib import Path
+
+TARGET = Path(__file__).resolve().parent.parent / "crates" / "known" / "data" / "lines.txt"
+LINES = []
+
+HEAD = """\
+The scope paper's examples and the edges of its limits, made by tests/known_lines.py. A line is one case:
+  read M ROOM ANSWER TEXT
+  evaluate T M ROOM ANSWER RUN TRUTH TABLE
+  rows T M ROOM ANSWER ROWS TABLE
+  judge T M E FIGURES ANSWER TABLE
+TEXT, TRUTH, ROWS and TABLE are bytes in hexadecimal, RUN and FIGURES numbers with commas; - stands for none of them.
+TRUTH and ROWS are the output, - where the call refuses. ROOM is the length of the output buffer.
+ANSWER: n and a count (read, rows), v and a truth (evaluate), o, b, k or p and a number (judge: outside, not binary,
+broken, passed), r and the refusal. No number has more than ten digits.
+Above each group stands where its expected values come from."""
+
+
+def say(words):
+    LINES.extend(f"# {line}" for line in words.split("\n"))
+
+
+def spelled(data):
+    return bytes(data).hex() or "-"
+
+
+def listed(numbers):
+    return ",".join(map(str, numbers)) or "-"
+
+
+def table(*nodes):
+    """Records of nodes written as kind, left, right."""
+    return b"".join(bytes([0x4E, 0x44, *node]) for node in nodes)
+
+
+def read(m, room, answer, text):
+    text = text.encode() if isinstance(text, str) else text
+    LINES.append(f"read {m} {room} {answer} {spelled(text)}")
+
+
+def evaluate(t, m, room, answer, run, truth, nodes):
+    """The truth is a word of 0 and 1 for each node, in node order."""
+    truth = bytes(int(bit) for bit in truth.replace(" ", ""))
+    LINES.append(f"evaluate {t} {m} {room} {answer} {listed(run)} {spelled(truth)} {spelled(nodes)}")
+
+
+def record(row):
+    """The record of a row as rowlist prints it behind the row's number: `>= -1 +8 -4 -9`."""
+    relation, right, *terms = row.split()
+    data = [0x52, 0x57, {">=": 1, "=": 2}[relation], len(terms), int(right) % 256]
+    for term in terms:
+        variable = int(term[1:])
+        data += [{"+": 1, "-": 255}[term[0]], variable % 256, variable // 256]
+    return bytes(data + [0] * (14 - len(data)))
+
+
+def rows(t, m, room, answer, expected, nodes):
+    expected = b"".join(record(row) for row in expected)
+    LINES.append(f"rows {t} {m} {room} {answer} {spelled(expected)} {spelled(nodes)}")
+
+
+def judge(t, m, e, figures, answer, nodes):
+    LINES.append(f"judge {t} {m} {e} {listed(figures)} {answer} {spelled(nodes)}")
+
+
+ATOM = table((1, 0, 0))
+UNTIL = table((1, 0, 0), (1, 1, 0), (8, 0, 1))
+IMPLIES = table((1, 0, 0), (1, 1, 0), (5, 0, 1))
+F_A1 = table((1, 1, 0), (6, 0, 0))
+G_A0 = table((1, 0, 0), (7, 0, 0))
+GF_A0 = table((1, 0, 0), (6, 0, 0), (7, 1, 0))
+FG_A0 = table((1, 0, 0), (7, 0, 0), (6, 1, 0))
+# The 128 nodes of 127 times ! then a0.
+NOTS = table((1, 0, 0), *((2, child, 0) for child in range(127)))
+
+
+def reading():
+    say("The paper, refusals: empty; `a0 a1`; `a01`; `a 0`; `a16`, M 16; 128 times `!`; 1,025 spaces; M 0")
+    read(2, 640, "r4", "")
+    read(2, 640, "r4", "a0 a1")
+    read(2, 640, "r4", "a01")
+    read(2, 640, "r4", "a 0")
+    read(16, 640, "r5", "a16")
+    read(1, 645, "r6", "!" * 128 + "a0")
+    read(1, 640, "r3", " " * 1025)
+    read(0, 640, "r2", "a0")
+    say("The paper, accepted: 127 times `!` then `a0`; `a0` followed by 1,022 spaces; its known rules")
+    read(1, 640, "n128", "!" * 127 + "a0")
+    read(1, 640, "n1", "a0" + " " * 1022)
+    read(2, 15, "n3", "a0 U a1")
+    read(2, 10, "n2", "F a1")
+    read(2, 10, "n2", "G a0")
+    read(2, 15, "n3", "a0>a1")
+    read(2, 15, "n3", "GFa0")
+    read(2, 15, "n3", "FGa0")
+    read(2, 25, "n5", "a0&a1|a0")
+    read(2, 25, "n5", "a0Ua1Ua0")
+    read(2, 20, "n4", "!a0Ua1")
+    say("By hand from the paper: limits of M, of the text's length and of the nodes; the buffer")
+    read(17, 640, "r2", "a0")
+    read(257, 640, "r2", "a0")
+    read(65537, 640, "r2", "a0")
+    read(4294967297, 640, "r2", "a0")
+    read(16, 640, "n1", "a15")
+    read(1, 640, "r5", "a1")
+    read(1, 640, "n1", " " * 1022 + "a0")
+    read(1, 640, "n1", " " * 511 + "a0" + " " * 511)
+    read(1, 640, "r3", "a0" + " " * 1023)
+    read(1, 640, "r4", " " * 1024)
+    read(1, 640, "n128", "!a0" + "&a0" * 63)
+    read(1, 645, "r6", "a0" + "&a0" * 64)
+    read(1, 640, "n127", "a0" + "Ua0" * 63)
+    read(1, 640, "n1", "(" * 511 + "a0" + ")" * 511)
+    read(1, 640, "r4", "(" * 1024)
+    read(1, 640, "r4", "!" * 1024)
+    read(1, 640, "r6", "!" * 1022 + "a0")
+    read(1, 5, "n1", "a0")
+    read(1, 6, "n1", "a0")
+    read(1, 4, "r11", "a0")
+    read(1, 0, "r11", "a0")
+    read(2, 14, "r11", "a0Ua1")
+    read(2, 15, "n3", "a0Ua1")
+    read(1, 639, "r11", "!" * 127 + "a0")
+    say("By hand: the lowest refusal wins, and a fault at the end comes before all that is known earlier")
+    read(0, 0, "r2", " " * 1025)
+    read(17, 0, "r2", "")
+    read(1, 0, "r3", "a9" + ")" * 1023)
+    read(1, 640, "r4", "!" * 200 + ")")
+    read(1, 640, "r4", "!" * 200 + "a0)")
+    read(2, 640, "r4", "a9)")
+    read(2, 0, "r4", "a0&")
+    read(1, 640, "r5", "!" * 128 + "a9")
+    read(1, 0, "r5", "a1")
+    read(1, 0, "r6", "!" * 128 + "a0")
+    say("By hand: atom numbers of any length, no leading zeros, no space within")
+    read(16, 640, "r4", "a00")
+    read(16, 640, "r4", "a01")
+    read(16, 640, "r4", "a015")
+    read(16, 640, "r4", "a")
+    read(16, 640, "r4", "aa0")
+    read(16, 640, "r4", "a1 5")
+    read(16, 640, "n1", "a10")
+    for power in (8, 16, 32, 64, 128):
+        read(16, 640, "r5", f"a{2**power}")
+    read(16, 640, "r5", f"a{2**64 + 1}&a0")
+    read(16, 640, "r5", "a" + "1" * 1023)
+    read(16, 640, "r5", "a" + "9" * 1023)
+    read(16, 640, "r4", "a" + "0" * 1023)
+    read(16, 640, "r3", "a" + "1" * 1024)
+    say("By hand: bytes that the grammar does not use, at the start, in the middle and at the end")
+    for byte in (0x00, 0x09, 0x0A, 0x0D, 0x80, 0xA0, 0xFF):
+        other = bytes([byte])
+        read(2, 640, "r4", other + b"a0&a1")
+        read(2, 640, "r4", b"a0" + other + b"&a1")
+        read(2, 640, "r4", b"a0&a1" + other)
+        read(2, 640, "r4", other)
+    say("By hand: outside the grammar")
+    for text in (
+        "a0U", "Ua0", "a0>", ">a0", "a0&", "&a0", "a0|", "|a0", "!", "F", "G", "(", ")", "()", "(a0", "a0)", "((a0)",
+        "(a0))", "a0>>a1", "a0UUa1", "a0!a1", "a0Fa1", "a0(a1)", "(a0)(a1)", "(a0)a1", "0", "1", "A0", "u", "fa0",
+        "ga0", "Xa0", "a-1", "a+1", "a0.", "a0->a1", "a0&&a1", "a0||a1", "a0U a1 a0", "a0 0", "!(a0", ")a0(", "a0[]",
+        "a0,a1",
+    ):
+        read(2, 640, "r4", text)
+    say("By hand: spaces and brackets make no node")
+    read(2, 640, "n3", "  a0  U  a1  ")
+    read(2, 640, "n3", "( ( a0 ) U ( ( a1 ) ) )")
+    read(2, 640, "n2", " ! ( a0 ) ")
+    read(2, 640, "n4", "!(a0Ua1)")
+    read(2, 640, "n8", "G(a0>Fa1)|!a0")
+    read(2, 640, "n5", "a0 > a1 > a0")
+    read(2, 640, "n9", "(a0>a1)U(a0|a1)&a0")
+    read(2, 640, "n12", "F(a0&a1)U!a0|G(a0>a1)")
+
+
+def evaluating():
+    say("The paper, known rules and runs: T 3, M 2. The root's line is the paper's, the parts' are by hand")
+    evaluate(3, 2, 9, "v1", [1, 1, 2], "110 001 111", UNTIL)
+    evaluate(3, 2, 9, "v0", [1, 1, 1], "111 000 000", UNTIL)
+    evaluate(3, 2, 9, "v0", [1, 0, 2], "100 001 001", UNTIL)
+    evaluate(3, 2, 6, "v1", [0, 2, 0], "010 110", F_A1)
+    evaluate(3, 2, 6, "v0", [0, 1, 1], "011 011", G_A0)
+    evaluate(3, 2, 9, "v1", [0, 1, 3], "011 001 101", IMPLIES)
+    evaluate(3, 2, 9, "v0", [1, 1, 0], "110 110 000", GF_A0)
+    evaluate(3, 2, 9, "v1", [0, 0, 1], "001 001 111", FG_A0)
+    say("By hand: the same rules with T 1")
+    evaluate(1, 2, 3, "v1", [2], "0 1 1", UNTIL)
+    evaluate(1, 2, 3, "v0", [1], "1 0 0", UNTIL)
+    evaluate(1, 2, 3, "v1", [3], "1 1 1", UNTIL)
+    evaluate(1, 2, 3, "v0", [0], "0 0 0", UNTIL)
+    evaluate(1, 2, 2, "v1", [2], "1 1", F_A1)
+    evaluate(1, 2, 2, "v0", [1], "0 0", F_A1)
+    evaluate(1, 2, 2, "v1", [1], "1 1", G_A0)
+    evaluate(1, 2, 2, "v0", [2], "0 0", G_A0)
+    evaluate(1, 2, 3, "v0", [1], "1 0 0", IMPLIES)
+    evaluate(1, 2, 3, "v1", [0], "0 0 1", IMPLIES)
+    evaluate(1, 2, 3, "v1", [1], "1 1 1", GF_A0)
+    evaluate(1, 2, 3, "v0", [2], "0 0 0", FG_A0)
+    evaluate(1, 1, 1, "v1", [1], "1", ATOM)
+    say("By hand: the same rules with T 64")
+    evaluate(64, 2, 192, "v1", [1] * 63 + [2], "1" * 63 + "0" + "0" * 63 + "1" + "1" * 64, UNTIL)
+    evaluate(64, 2, 192, "v0", [1] * 64, "1" * 64 + "0" * 64 + "0" * 64, UNTIL)
+    evaluate(64, 2, 192, "v0", [1] + [0] * 62 + [2], "1" + "0" * 63 + "0" * 63 + "1" + "0" * 63 + "1", UNTIL)
+    evaluate(64, 2, 128, "v1", [0] * 31 + [2] + [0] * 32, "0" * 31 + "1" + "0" * 32 + "1" * 32 + "0" * 32, F_A1)
+    evaluate(64, 2, 128, "v1", [0] * 63 + [2], "0" * 63 + "1" + "1" * 64, F_A1)
+    evaluate(64, 2, 128, "v0", [0] + [1] * 63, ("0" + "1" * 63) * 2, G_A0)
+    evaluate(64, 2, 192, "v1", [0, 1, 3, 2] * 16, "0110" * 16 + "0011" * 16 + "1011" * 16, IMPLIES)
+    evaluate(64, 2, 192, "v0", [1] * 63 + [0], "1" * 63 + "0" + "1" * 63 + "0" + "0" * 64, GF_A0)
+    evaluate(64, 2, 192, "v1", [0] * 63 + [1], "0" * 63 + "1" + "0" * 63 + "1" + "1" * 64, FG_A0)
+    evaluate(1, 1, 128, "v0", [1], "10" * 64, NOTS)
+    say("By hand: M 16 has no bit too high; shared and unused parts, left equal to right; a longer buffer")
+    evaluate(2, 16, 2, "v1", [65535, 32768], "11", table((1, 15, 0)))
+    evaluate(2, 1, 4, "v0", [0, 1], "01 01", table((1, 0, 0), (8, 0, 0)))
+    evaluate(2, 1, 4, "v1", [0, 1], "01 11", table((1, 0, 0), (5, 0, 0)))
+    evaluate(2, 1, 9, "v1", [0, 1], "01 10 10 11", table((1, 0, 0), (2, 0, 0), (3, 1, 1), (4, 0, 1)))
+    evaluate(2, 1, 6, "v0", [0, 1], "01 11 01", table((1, 0, 0), (6, 0, 0), (1, 0, 0)))
+    say("The paper, refusals: T 65; M 0; no records; T 2, run of 1")
+    evaluate(65, 2, 200, "r1", [1] * 65, "", UNTIL)
+    evaluate(2, 0, 200, "r2", [0, 0], "", ATOM)
+    evaluate(2, 2, 200, "r7", [0, 0], "", b"")
+    evaluate(2, 2, 200, "r8", [0], "", UNTIL)
+    say("By hand: other limits; a run that is too long or has a bit at M or above; the buffer")
+    evaluate(0, 2, 200, "r1", [], "", UNTIL)
+    evaluate(257, 2, 200, "r1", [0], "", UNTIL)
+    evaluate(4294967297, 2, 200, "r1", [0], "", UNTIL)
+    evaluate(1, 17, 200, "r2", [0], "", UNTIL)
+    evaluate(1, 4294967297, 200, "r2", [0], "", ATOM)
+    evaluate(2, 2, 200, "r8", [], "", UNTIL)
+    evaluate(2, 2, 200, "r8", [0, 0, 0], "", UNTIL)
+    evaluate(2, 2, 200, "r8", [4, 0], "", UNTIL)
+    evaluate(2, 2, 200, "r8", [3, 32768], "", UNTIL)
+    evaluate(2, 15, 200, "r8", [0, 32768], "", UNTIL)
+    evaluate(1, 1, 200, "r8", [2], "", ATOM)
+    evaluate(2, 2, 5, "r11", [0, 0], "", UNTIL)
+    evaluate(2, 2, 6, "v0", [0, 0], "00 00 00", UNTIL)
+    evaluate(2, 2, 0, "r11", [0, 0], "", UNTIL)
+    say("By hand: tables that are not good")
+    for nodes in (
+        ATOM[:4], ATOM + b"\x4e", ATOM + ATOM[:4], NOTS + b"\x4e", NOTS + ATOM, b"\x4e\x45\x01\x00\x00",
+        b"\x4f\x44\x01\x00\x00", b"\x44\x4e\x01\x00\x00", table((0, 0, 0)), table((9, 0, 0)), table((255, 0, 0)),
+        table((2, 0, 0)), table((3, 0, 0)), table((1, 2, 0)), table((1, 255, 0)), table((1, 0, 1)),
+        *(table((1, 0, 0), second) for second in (
+            (2, 1, 0), (2, 0, 1), (6, 2, 0), (6, 0, 1), (7, 1, 0), (7, 0, 255),
+            (3, 0, 1), (3, 1, 0), (4, 0, 1), (5, 2, 0), (8, 0, 128), (8, 255, 0),
+        )),
+        table((8, 0, 0), (1, 0, 0)),
+    ):
+        evaluate(1, 2, 200, "r7", [0], "", nodes)
+    say("By hand: the lowest refusal wins")
+    evaluate(65, 0, 0, "r1", [], "", b"")
+    evaluate(64, 0, 0, "r2", [], "", b"")
+    evaluate(64, 1, 0, "r7", [], "", b"")
+    evaluate(64, 1, 0, "r8", [], "", ATOM)
+
+
+# What rowlist prints for `2 2` and `a0Ua1`, word for word.
+PAGE = """\
+0 = 0 +4 -0
+1 = 0 +5 -1
+2 = 0 +6 -2
+3 = 0 +7 -3
+4 >= 0 +8 -6
+5 >= 0 +4 +6 -8
+6 >= 0 +6 +9 -8
+7 >= -1 +8 -4 -9
+8 = 0 +9 -7
+9 = 1 +8"""
+
+
+def writing_rows():
+    page = [line.split(" ", 1)[1] for line in PAGE.split("\n")]
+    say("The paper: rowlist's example, `a0Ua1` with T 2 and M 2")
+    rows(2, 2, 140, "n10", page, UNTIL)
+    rows(2, 2, 999, "n10", page, UNTIL)
+    say("The paper, refusals: T 65; M 0; no records; 13 bytes for rows")
+    rows(65, 2, 9999, "r1", [], UNTIL)
+    rows(2, 0, 9999, "r2", [], ATOM)
+    rows(2, 2, 9999, "r7", [], b"")
+    rows(1, 1, 13, "r11", [], ATOM)
+    rows(2, 2, 13, "r11", [], UNTIL)
+    say("By hand: the buffer, other limits, the lowest refusal wins")
+    rows(1, 1, 27, "r11", [], ATOM)
+    rows(1, 1, 28, "n2", ["= 0 +1 -0", "= 1 +1"], ATOM)
+    rows(1, 1, 29, "n2", ["= 0 +1 -0", "= 1 +1"], ATOM)
+    rows(2, 2, 139, "r11", [], UNTIL)
+    rows(2, 2, 0, "r11", [], UNTIL)
+    rows(0, 1, 999, "r1", [], ATOM)
+    rows(4294967297, 1, 999, "r1", [], ATOM)
+    rows(1, 17, 999, "r2", [], ATOM)
+    rows(1, 4294967297, 999, "r2", [], ATOM)
+    rows(65, 0, 0, "r1", [], b"")
+    rows(64, 17, 0, "r2", [], b"")
+    rows(64, 16, 0, "r7", [], b"")
+    rows(1, 1, 999, "r7", [], table((1, 1, 0)))
+    rows(1, 1, 999, "r7", [], table((1, 0, 0), (8, 0, 1)))
+    rows(1, 1, 999, "r7", [], NOTS + ATOM)
+    say("By hand from the paper's table of rows: each kind with T 2")
+    a0_t2_m1 = ["= 0 +2 -0", "= 0 +3 -1"]
+    both_t2_m2 = ["= 0 +4 -0", "= 0 +5 -1", "= 0 +6 -2", "= 0 +7 -3"]
+    rows(2, 1, 70, "n5", a0_t2_m1 + ["= 1 +4 +2", "= 1 +5 +3", "= 1 +4"], table((1, 0, 0), (2, 0, 0)))
+    rows(2, 2, 154, "n11", both_t2_m2 + [
+        ">= 0 +4 -8", ">= 0 +6 -8", ">= -1 +8 -4 -6", ">= 0 +5 -9", ">= 0 +7 -9", ">= -1 +9 -5 -7", "= 1 +8",
+    ], table((1, 0, 0), (1, 1, 0), (3, 0, 1)))
+    rows(2, 2, 154, "n11", both_t2_m2 + [
+        ">= 0 +8 -4", ">= 0 +8 -6", ">= 0 +4 +6 -8", ">= 0 +9 -5", ">= 0 +9 -7", ">= 0 +5 +7 -9", "= 1 +8",
+    ], table((1, 0, 0), (1, 1, 0), (4, 0, 1)))
+    rows(2, 2, 154, "n11", both_t2_m2 + [
+        ">= 1 +8 +4", ">= 0 +8 -6", ">= -1 +6 -4 -8", ">= 1 +9 +5", ">= 0 +9 -7", ">= -1 +7 -5 -9", "= 1 +8",
+    ], IMPLIES)
+    rows(2, 1, 98, "n7", a0_t2_m1 + [
+        ">= 0 +4 -2", ">= 0 +4 -5", ">= 0 +2 +5 -4", "= 0 +5 -3", "= 1 +4",
+    ], table((1, 0, 0), (6, 0, 0)))
+    rows(2, 1, 98, "n7", a0_t2_m1 + [
+        ">= 0 +2 -4", ">= 0 +5 -4", ">= -1 +4 -2 -5", "= 0 +5 -3", "= 1 +4",
+    ], G_A0)
+    say("By hand: F, G and U with T 1 have their last row alone")
+    rows(1, 2, 42, "n3", ["= 0 +2 -1", "= 0 +3 -2", "= 1 +3"], F_A1)
+    rows(1, 1, 42, "n3", ["= 0 +1 -0", "= 0 +2 -1", "= 1 +2"], G_A0)
+    rows(1, 2, 56, "n4", ["= 0 +2 -0", "= 0 +3 -1", "= 0 +4 -3", "= 1 +4"], UNTIL)
+    say("By hand: left equal to right, terms neither merged nor dropped")
+    rows(1, 1, 70, "n5", [
+        "= 0 +1 -0", ">= 0 +1 -2", ">= 0 +1 -2", ">= -1 +2 -1 -1", "= 1 +2",
+    ], table((1, 0, 0), (3, 0, 0)))
+    rows(1, 1, 70, "n5", [
+        "= 0 +1 -0", ">= 0 +2 -1", ">= 0 +2 -1", ">= 0 +1 +1 -2", "= 1 +2",
+    ], table((1, 0, 0), (4, 0, 0)))
+    rows(1, 1, 70, "n5", [
+        "= 0 +1 -0", ">= 1 +2 +1", ">= 0 +2 -1", ">= -1 +1 -1 -2", "= 1 +2",
+    ], table((1, 0, 0), (5, 0, 0)))
+    rows(2, 1, 112, "n8", a0_t2_m1 + [
+        ">= 0 +4 -2", ">= 0 +2 +2 -4", ">= 0 +2 +5 -4", ">= -1 +4 -2 -5", "= 0 +5 -3", "= 1 +4",
+    ], table((1, 0, 0), (8, 0, 0)))
+    say("By hand: `G(a0>Fa1)`, T 3, M 2")
+    rows(3, 2, 420, "n30", [
+        "= 0 +6 -0", "= 0 +7 -1", "= 0 +8 -2", "= 0 +9 -3", "= 0 +10 -4", "= 0 +11 -5",
+        ">= 0 +12 -9", ">= 0 +12 -13", ">= 0 +9 +13 -12", ">= 0 +13 -10", ">= 0 +13 -14", ">= 0 +10 +14 -13",
+        "= 0 +14 -11",
+        ">= 1 +15 +6", ">= 0 +15 -12", ">= -1 +12 -6 -15", ">= 1 +16 +7", ">= 0 +16 -13", ">= -1 +13 -7 -16",
+        ">= 1 +17 +8", ">= 0 +17 -14", ">= -1 +14 -8 -17",
+        ">= 0 +15 -18", ">= 0 +19 -18", ">= -1 +18 -15 -19", ">= 0 +16 -19", ">= 0 +20 -19", ">= -1 +19 -16 -20",
+        "= 0 +20 -17",
+        "= 1 +18",
+    ], table((1, 0, 0), (1, 1, 0), (6, 1, 0), (5, 0, 2), (7, 3, 0)))
+    say("By hand: variables of two bytes, T 64 and M 16; nodes that the root does not use")
+    a15 = [f"= 0 +{1024 + slot} -{960 + slot}" for slot in range(64)]
+    rows(64, 16, 910, "n65", a15 + ["= 1 +1024"], table((1, 15, 0)))
+    rows(1, 1, 56, "n4", ["= 0 +1 -0", "= 1 +2 +1", "= 0 +3 -0", "= 1 +3"], table((1, 0, 0), (2, 0, 0), (1, 0, 0)))
+
+
+ONE = 1000000
+
+
+def judging():
+    say("The paper: `a0`, T 1, M 1")
+    judge(1, 1, 0, [ONE, 999999], "k0", ATOM)
+    judge(1, 1, 1, [ONE, 999999], "p2", ATOM)
+    judge(1, 1, 0, [500000, 500000], "b0", ATOM)
+    judge(1, 1, 0, [-1, 0], "o0", ATOM)
+    say("The paper, refusals: T 65; M 0; no records; no figures; tolerance 1,001")
+    judge(65, 1, 0, [ONE, ONE], "r1", ATOM)
+    judge(1, 0, 0, [ONE, ONE], "r2", ATOM)
+    judge(1, 1, 0, [ONE, ONE], "r7", b"")
+    judge(1, 1, 0, [], "r9", ATOM)
+    judge(1, 1, 1001, [ONE, ONE], "r10", ATOM)
+    say("By hand: other limits, one figure short or too many, tolerances")
+    judge(0, 1, 0, [], "r1", ATOM)
+    judge(1, 17, 0, [ONE] * 18, "r2", ATOM)
+    judge(1, 1, 0, [ONE], "r9", ATOM)
+    judge(1, 1, 0, [ONE] * 3, "r9", ATOM)
+    judge(2, 2, 0, [0] * 9, "r9", UNTIL)
+    judge(2, 2, 0, [0] * 11, "r9", UNTIL)
+    judge(1, 1, -1, [ONE, ONE], "r10", ATOM)
+    judge(1, 1, -1000, [ONE, ONE], "r10", ATOM)
+    judge(1, 1, 2147483647, [ONE, ONE], "r10", ATOM)
+    judge(1, 1, -2147483648, [ONE, ONE], "r10", ATOM)
+    judge(1, 1, 1000, [ONE, ONE], "p2", ATOM)
+    judge(1, 1, 0, [ONE, ONE], "p2", ATOM)
+    say("By hand: the lowest refusal wins")
+    judge(65, 0, -1, [], "r1", b"")
+    judge(64, 0, -1, [], "r2", b"")
+    judge(64, 1, -1, [], "r7", b"")
+    judge(64, 1, -1, [], "r9", ATOM)
+    judge(1, 1, 1001, [500000, 500000], "r10", ATOM)
+    say("By hand: outside is strict and comes first, with the lowest variable, slacks too")
+    judge(1, 1, 0, [0, -1], "o1", ATOM)
+    judge(1, 1, 0, [ONE + 1, 0], "o0", ATOM)
+    judge(1, 1, 0, [ONE, ONE + 1], "o1", ATOM)
+    judge(1, 1, 1, [ONE + 1, ONE + 1], "p2", ATOM)
+    judge(1, 1, 1, [ONE + 2, ONE + 1], "o0", ATOM)
+    judge(1, 1, 1, [-1, -1], "k1", ATOM)
+    judge(1, 1, 1, [-2, -1], "o0", ATOM)
+    judge(1, 1, 1000, [ONE + 1000, ONE + 1000], "p2", ATOM)
+    judge(1, 1, 1000, [ONE + 1000, ONE + 1001], "o1", ATOM)
+    judge(1, 1, 1000, [ONE, -1001], "o1", ATOM)
+    judge(1, 1, 1000, [ONE, -1000], "k0", ATOM)
+    judge(1, 1, 0, [500000, -1], "o1", ATOM)
+    judge(1, 1, 0, [2147483647, 2147483647], "o0", ATOM)
+    judge(1, 1, 1000, [-2147483648, 0], "o0", ATOM)
+    judge(1, 1, 1000, [ONE, 2147483647], "o1", ATOM)
+    judge(1, 1, 0, [0, -2147483648], "o1", ATOM)
+    say("By hand: not binary is strict and of atoms alone")
+    judge(1, 1, 0, [1, 1], "b0", ATOM)
+    judge(1, 1, 1, [1, 1], "k1", ATOM)
+    judge(1, 1, 1, [2, 2], "b0", ATOM)
+    judge(1, 1, 0, [999999, 999999], "b0", ATOM)
+    judge(1, 1, 1, [999999, 999999], "p2", ATOM)
+    judge(1, 1, 1000, [999000, 999000], "p2", ATOM)
+    judge(1, 1, 1000, [998999, 998999], "b0", ATOM)
+    judge(1, 1, 1000, [1000, 1000], "k1", ATOM)
+    judge(1, 1, 1000, [1001, 1001], "b0", ATOM)
+    judge(1, 1, 0, [ONE, 500000], "k0", ATOM)
+    judge(1, 2, 0, [ONE, 500000, ONE], "b1", ATOM)
+    say("By hand: = rows within e either way, the goal row last")
+    judge(1, 1, 0, [0, 0], "k1", ATOM)
+    judge(1, 1, 1, [999999, ONE], "p2", ATOM)
+    judge(1, 1, 1, [999999, ONE + 1], "k0", ATOM)
+    judge(1, 1, 1000, [ONE, 999000], "p2", ATOM)
+    judge(1, 1, 1000, [ONE, 998999], "k0", ATOM)
+    judge(64, 1, 0, [ONE] * 128, "p65", ATOM)
+    judge(64, 1, 0, [ONE] * 127 + [999999], "k63", ATOM)
+    judge(64, 1, 0, [0] + [ONE] * 63 + [0] + [ONE] * 63, "k64", ATOM)
+    say("By hand: `a0Ua1`, T 2, M 2, rows numbered as rowlist prints them")
+    met = [ONE, 0, 0, ONE, ONE, 0, 0, ONE, ONE, ONE]
+    judge(2, 2, 0, met, "p10", UNTIL)
+    judge(2, 2, 0, met[:4] + [0] + met[5:], "k0", UNTIL)
+    judge(2, 2, 0, met[:7] + [0] + met[8:], "k3", UNTIL)
+    judge(2, 2, 0, met[:9] + [0], "k6", UNTIL)
+    judge(2, 2, 0, met[:8] + [0, ONE], "k7", UNTIL)
+    judge(2, 2, 0, met[:8] + [0, 0], "k8", UNTIL)
+    judge(2, 2, 0, met[:8] + [500000, 500000], "k8", UNTIL)
+    judge(2, 2, 1, met[:8] + [999999, 999999], "p10", UNTIL)
+    judge(2, 2, 1, met[:8] + [999999, 999998], "k8", UNTIL)
+    never = [ONE, ONE, 0, 0, ONE, ONE, 0, 0]
+    judge(2, 2, 0, never + [0, 0], "k9", UNTIL)
+    judge(2, 2, 0, never + [ONE, ONE], "k8", UNTIL)
+    judge(2, 2, 0, never + [ONE, 0], "k6", UNTIL)
+    late = [0, 0, 0, ONE, 0, 0, 0, ONE]
+    judge(2, 2, 0, late + [0, ONE], "k9", UNTIL)
+    judge(2, 2, 0, late + [ONE, ONE], "k5", UNTIL)
+    judge(2, 2, 0, [0, 0, ONE, ONE, 0, 0, ONE, ONE, 0, ONE], "k4", UNTIL)
+    say("By hand: e once for a row, whatever its terms: `a0&a1`, T 1, M 2, third row P - p - q >= -1")
+    both = table((1, 0, 0), (1, 1, 0), (3, 0, 1))
+    judge(1, 2, 1, [ONE, ONE, ONE, ONE, 999999], "p6", both)
+    judge(1, 2, 1, [ONE, ONE, ONE + 1, ONE, 999999], "k4", both)
+    judge(1, 2, 2, [ONE, ONE, ONE + 1, ONE, 999999], "p6", both)
+
+
+# A rule of every kind: `G(a0>Fa1)&!(a2U!a0)|a1`, T 4, M 3.
+MIXED = table(
+    (1, 0, 0), (1, 1, 0), (6, 1, 0), (5, 0, 2), (7, 3, 0), (1, 2, 0), (1, 0, 0), (2, 6, 0), (8, 5, 7), (2, 8, 0),
+    (3, 4, 9), (1, 1, 0), (4, 10, 11),
+)
+
+
+def solution(run, truth):
+    """The figures of a run over three atoms and of the truth of its nodes."""
+    atoms = [number >> atom & 1 for atom in range(3) for number in run]
+    return [ONE * bit for bit in atoms + [int(bit) for bit in truth.replace(" ", "")]]
+
+
+def of_the_reference():
+    say("From the reference implementation in bench/: a rule of every kind, `G(a0>Fa1)&!(a2U!a0)|a1`")
+    read(3, 65, "n13", "G(a0>Fa1)&!(a2U!a0)|a1")
+    read(3, 64, "r11", "G(a0>Fa1)&!(a2U!a0)|a1")
+    for run, answer, truth, verdict in (
+        ([0, 1, 2, 4], "v0", "0100 0010 1110 1111 1111 0001 0100 1011 1011 0100 0100 0010 0110", "k97"),
+        ([5, 7, 4, 1], "v0", "1101 0100 1100 1110 0000 1110 1101 0010 1110 0001 0000 0100 0100", "k97"),
+        ([5, 5, 5, 7], "v1", "1111 0001 1111 1111 1111 1111 1111 0000 0000 1111 1111 0001 1111", "p98"),
+        ([2, 0, 0, 0], "v1", "0000 1000 1000 1111 1111 0000 0000 1111 1111 0000 0000 1000 1000", "p98"),
+        ([1, 4, 1, 3], "v1", "1011 0001 1111 1111 1111 0100 1011 0100 0100 1011 1011 0001 1011", "p98"),
+    ):
+        evaluate(4, 3, 52, answer, run, truth, MIXED)
+        judge(4, 3, 0, solution(run, truth), verdict, MIXED)
+
+
+def main():
+    say(HEAD)
+    reading()
+    evaluating()
+    writing_rows()
+    judging()
+    of_the_reference()
+    content = "".join(line + "\n" for line in LINES)
+    if sys.argv[1:] == ["--check"]:
+        if TARGET.read_text() != content:
+            sys.exit(f"{TARGET.name} differs from what this script makes")
+        print(f"{TARGET.name} is what this script makes")
+    else:
+        TARGET.parent.mkdir(parents=True, exist_ok=True)
+        TARGET.write_text(content)
+        cases = [line for line in LINES if not line.startswith("#")]
+        print(f"{len(cases)} cases, longest line {max(map(len, LINES))} bytes")
+
+
+if __name__ == "__main__":
+    main()

@@ -1,0 +1,245 @@
+#!/usr/bin/env python3
+"""Makes crates/known/data/spin.txt: the truth of rules over runs, as the model checker SPIN has it.
+
+    python3 tests/spin_vectors.py            writes the file (about seven minutes)
+    python3 tests/spin_vectors.py --check    says whether the file is what SPIN gives, and writes nothing
+
+Needs spin (Debian's package `spin`) and gcc. The file in the repository was made with
+    spin -V         Spin Version 6.5.2 -- 6 December 2019
+    gcc --version   gcc (Debian 12.2.0-14+deb12u1) 12.2.0
+    python3 -V      Python 3.11.7
+The rules and runs come from SEED alone, so the same file comes out each time.
+
+A line is one rule over one run:
+
+    T M n1,n2,..,nT BITS RULE
+
+n1.. are the run's numbers, BITS has a character for each slot (0, 1, or - where SPIN was not asked), RULE is the
+rest of the line. The rules are made as trees. Their text is written for the toolkit's reader, with the brackets
+that its grammar needs, some with more, and with spaces. SPIN gets the tree with every operation in brackets, so its
+own precedence plays no part.
+
+The model has one endless execution: the run slot by slot, the last slot for ever. `v` is the run's number and `s`
+the slot. For each rule and slot there are two claims: at s the rule holds, and at s its negation holds. SPIN must
+find exactly one of them true; a claim that is true for want of a check would show as two true ones.
+"""
+
+import random
+import re
+import subprocess
+import sys
+import tempfile
+from collections import Counter
+from pathlib import Path
+
+SEED = 20261115
+TREES_PER_RUN = 8
+CHAINS = ("U", ">", ">|&U")  # the operators of three more rules for each run, without brackets
+LARGEST_DEPTH = 6
+MOST_WEIGHT = 6  # SPIN's automata grow fast with the number of F, G and U
+TARGET = Path(__file__).resolve().parent.parent / "crates" / "known" / "data" / "spin.txt"
+
+# A tree is ("a", number), (operator, child) or (operator, left, right).
+SINGLE = "!FG"
+DOUBLE = ">|&U"  # loosest first
+WEIGHT = {"F": 1, "G": 1, "U": 2}
+SPIN_OPERATOR = {"!": "!", "F": "<>", "G": "[]", ">": "->", "|": "||", "&": "&&", "U": "U"}
+
+# The paper's known rules and runs, T 3 and M 2.
+U01 = ("U", ("a", 0), ("a", 1))
+KNOWN = [
+    (U01, [1, 1, 2], "a0 U a1"),
+    (U01, [1, 1, 1], "a0 U a1"),
+    (U01, [1, 0, 2], "a0 U a1"),
+    (("F", ("a", 1)), [0, 2, 0], "F a1"),
+    (("G", ("a", 0)), [0, 1, 1], "G a0"),
+    ((">", ("a", 0), ("a", 1)), [0, 1, 3], "a0>a1"),
+    (("G", ("F", ("a", 0))), [1, 1, 0], "GFa0"),
+    (("F", ("G", ("a", 0))), [0, 0, 1], "FGa0"),
+]
+
+
+def children(tree):
+    return () if tree[0] == "a" else tree[1:]
+
+
+def depth(tree):
+    return 1 + max(map(depth, children(tree))) if children(tree) else 0
+
+
+def operators(tree):
+    yield tree[0]
+    for child in children(tree):
+        yield from operators(child)
+
+
+def weight(tree):
+    return sum(WEIGHT.get(operator, 0) for operator in operators(tree))
+
+
+def random_tree(rng, levels, atoms, top=None, allowed=MOST_WEIGHT):
+    """A tree of exactly `levels` levels of operators, of at most the weight that is allowed."""
+    if levels == 0:
+        return ("a", rng.choice(atoms))
+    operator = top or rng.choice("!FFGG>>||&&UUU")
+    if WEIGHT.get(operator, 0) > allowed:
+        operator = rng.choice("!>|&")
+    allowed -= WEIGHT.get(operator, 0)
+    deep = random_tree(rng, levels - 1, atoms, None, allowed)
+    if operator in SINGLE:
+        return (operator, deep)
+    for _ in range(9):  # two equal parts say little, but M 1 leaves no choice
+        other = random_tree(rng, rng.randint(0, min(2, levels - 1)), atoms, None, allowed - weight(deep))
+        if other != deep:
+            break
+    return (operator, deep, other) if rng.random() < 0.5 else (operator, other, deep)
+
+
+def grouped(parts, between):
+    """The tree of parts with operators between them and no brackets: the loosest splits, at its first place."""
+    if not between:
+        return parts[0]
+    loosest = min(between, key=DOUBLE.index)
+    at = between.index(loosest)
+    return (loosest, grouped(parts[: at + 1], between[:at]), grouped(parts[at + 1 :], between[at + 1 :]))
+
+
+def random_chain(rng, atoms, choice):
+    """A rule of three to five parts without brackets, where grouping decides."""
+    count = rng.randint(3, 5)
+    parts = []
+    for _ in range(count):
+        part = ("a", rng.choice([atom for atom in atoms if not parts or ("a", atom) != parts[-1]] or atoms))
+        parts.append((rng.choice("!!FG"), part) if rng.random() < 0.2 else part)
+    return grouped(parts, [rng.choice(choice) for _ in range(count - 1)])
+
+
+def text(tree, rng, spaces, brackets, level=0):
+    """The rule as the toolkit reads it. Left of an operator binds more tightly than it, right as tightly."""
+    gap = lambda: " " * rng.randint(1, 3) if rng.random() < spaces else ""
+    operator = tree[0]
+    own = DOUBLE.index(operator) if operator in DOUBLE else len(DOUBLE)
+    if own < level or rng.random() < brackets:
+        return f"{gap()}({text(tree, rng, spaces, brackets * 0.7)}){gap()}"
+    if operator == "a":
+        return f"{gap()}a{tree[1]}{gap()}"
+    if operator in SINGLE:
+        return f"{gap()}{operator}{text(tree[1], rng, spaces, brackets, len(DOUBLE))}"
+    left = text(tree[1], rng, spaces, brackets, own + 1)
+    right = text(tree[2], rng, spaces, brackets, own)
+    return f"{left}{operator}{right}"
+
+
+def spin_text(tree):
+    if tree[0] == "a":
+        return f"((v & {2 ** tree[1]}) != 0)"
+    operator = SPIN_OPERATOR[tree[0]]
+    if len(tree) == 2:
+        return f"({operator} {spin_text(tree[1])})"
+    return f"({spin_text(tree[1])} {operator} {spin_text(tree[2])})"
+
+
+def random_run(rng, slots, m):
+    """Numbers in which each atom stays for a while, so that untils are met late or just missed."""
+    change = rng.choice([0.1, 0.25, 0.5])
+    value = rng.randrange(2**m)
+    numbers = []
+    for _ in range(slots):
+        numbers.append(value)
+        value ^= sum(2**atom for atom in range(m) if rng.random() < change)
+    return numbers
+
+
+def plan(rng):
+    """(M, run, [(tree, text, asked slots)]) for each run."""
+    runs = [(2, run, [(tree, words, [1, 2, 3])]) for tree, run, words in KNOWN]
+    horizons = [*range(1, 9), *range(1, 9), 1, 9, 10, 12, 13, 15, 16, 17, 20, 24, 31, 32, 33]
+    horizons += [40, 47, 48, 50, 55, 60, 61, 63, 64, 64, 64]
+    for number, slots in enumerate(horizons):
+        m = (5 * number + 1) % 16 + 1
+        run = random_run(rng, slots, m)
+        trees = []
+        for place in range(number * TREES_PER_RUN, (number + 1) * TREES_PER_RUN):
+            atoms = rng.sample(range(m), min(m, rng.randint(2, 4)))
+            trees.append(random_tree(rng, place % LARGEST_DEPTH + 1, atoms, (SINGLE + DOUBLE)[place % 7]))
+        trees += [random_chain(rng, range(min(m, 4)), choice) for choice in CHAINS]
+        rules = []
+        for tree in trees:
+            spaces, brackets = rng.choice([(0, 0), (0, 0), (0.3, 0), (0, 0.25), (0.25, 0.25)])
+            asked = range(1, slots + 1)
+            if slots > 8:
+                asked = sorted({1, slots - 1, slots, *rng.sample(range(2, slots - 1), 2)})
+            rules.append((tree, text(tree, rng, spaces, brackets), asked))
+        runs.append((m, run, rules))
+    return runs
+
+
+def model(run, rules):
+    steps = "".join(f"  d_step {{ v = {value}; s = {slot} }};\n" for slot, value in enumerate(run[1:], 2))
+    lines = [
+        f"int v = {run[0]};\nint s = 1;\nactive proctype Run() {{\n{steps}"
+        f"  do :: d_step {{ v = {run[-1]}; s = {len(run)} }} od\n}}"
+    ]
+    for number, (tree, _, asked) in enumerate(rules):
+        for slot in asked:
+            lines.append(f"ltl f{number}_{slot} {{ [] ((s == {slot}) -> {spin_text(tree)}) }}")
+            lines.append(f"ltl n{number}_{slot} {{ [] ((s == {slot}) -> (! {spin_text(tree)})) }}")
+    return "\n".join(lines) + "\n"
+
+
+def claim_holds(folder, name):
+    command = ["./pan", "-a", "-m10000", "-w12", "-N", name]
+    out = subprocess.run(command, cwd=folder, capture_output=True, text=True, check=True).stdout
+    errors = re.search(r"errors: (\d+)", out)
+    if f"({name})" not in out or not errors or "max search depth too small" in out:
+        sys.exit(f"pan did not check {name}:\n{out}")
+    return errors.group(1) == "0"
+
+
+def truths(run, rules):
+    """For each rule the truth at each asked slot, from SPIN."""
+    with tempfile.TemporaryDirectory() as folder:
+        Path(folder, "run.pml").write_text(model(run, rules))
+        subprocess.run(["spin", "-a", "run.pml"], cwd=folder, check=True, stdout=subprocess.DEVNULL, timeout=600)
+        subprocess.run(["gcc", "-O0", "-w", "-o", "pan", "pan.c"], cwd=folder, check=True)
+        answers = []
+        for number, (tree, words, asked) in enumerate(rules):
+            answer = {}
+            for slot in asked:
+                holds, fails = (claim_holds(folder, f"{kind}{number}_{slot}") for kind in "fn")
+                if holds == fails:
+                    sys.exit(f"SPIN finds both or neither: {words!r} over {run} at slot {slot}")
+                answer[slot] = holds
+            answers.append(answer)
+        return answers
+
+
+def main():
+    lines, kinds, depths, horizons, atom_counts, bits = [], Counter(), Counter(), Counter(), Counter(), Counter()
+    for m, run, rules in plan(random.Random(SEED)):
+        for (tree, words, asked), answer in zip(rules, truths(run, rules)):
+            row = "".join(str(int(answer[slot])) if slot in answer else "-" for slot in range(1, len(run) + 1))
+            lines.append(f"{len(run)} {m} {','.join(map(str, run))} {row} {words}\n")
+            kinds.update(set(operators(tree)))
+            depths[depth(tree)] += 1
+            horizons[len(run)] += 1
+            atom_counts[m] += 1
+            bits.update(row)
+        print(f"T {len(run):2} M {m:2}: {len(lines)} rules", flush=True)
+    titles = ("rules by kind", "rules by depth", "rules by T", "rules by M", "slots by truth")
+    for title, counts in zip(titles, (kinds, depths, horizons, atom_counts, bits)):
+        print(f"{title}: " + ", ".join(f"{key} {counts[key]}" for key in sorted(counts)))
+    assert len(lines) >= 300 and set(kinds) == set("a" + SINGLE + DOUBLE) and min(kinds.values()) >= 40
+    assert set(depths) == set(range(1, LARGEST_DEPTH + 1)) and {1, 64} <= set(horizons) and {1, 16} <= set(atom_counts)
+    content = "".join(lines)
+    if sys.argv[1:] == ["--check"]:
+        if TARGET.read_text() != content:
+            sys.exit(f"{TARGET.name} differs from what SPIN gives")
+        print(f"{TARGET.name} is what SPIN gives")
+    else:
+        TARGET.parent.mkdir(parents=True, exist_ok=True)
+        TARGET.write_text(content)
+
+
+if __name__ == "__main__":
+    main()
