@@ -2,15 +2,14 @@
 use mathlib.Core.Path.{_≡_, refl, sym, ap, _∙_}
 use mathlib.Core.Bool.{Bool, true, false, cond}
 use mathlib.Core.List.{List, [], _∷_}
-use Prim.Native.Nat.{ℕ, _+_, _-_, _*_, min, _≤_, _<_}
+use Prim.Native.Nat.{ℕ, zero, suc, _+_, _-_, _*_, min, _≤_, _<_}
 use native.Mathlib.Omega.{arith}
 use lib.ListN.{length, getD, drop}
-use borrow.Author.Tests.{eq-eqb, ne-eqb}
 use Rattle.rules.specs.Reading.Lexer
-use Rattle.rules.specs.Reading.Lexer.{start, digits, value, isDigit, Numeric, tokenAt, signAt, pastSign, token-none, token-sign, token-bad, token-atom, numeral-empty, numeral-zero}
+use Rattle.rules.specs.Reading.Lexer.{start, digits, value, isDigit, Numeric, tokenAt, signAt, sign-is, sign-token, token-past, token-none, token-sign, token-bad, token-atom, numeral-empty, numeral-zero}
 use Rattle.lexer.specs.declared.Token.{Token}
 use Rattle.lexer.specs.declared.Token.the-variants.{Other, Sign, Atom}
-use Rattle.lexer.specs.Capped.{capped, none-of, sign-of, atom-of}
+use Rattle.lexer.specs.Capped.{capped}
 
 -- ---- 255 stands for all numbers from there on, and stays so
 
@@ -49,23 +48,18 @@ module _ (s : List ℕ) (at p : ℕ) (past : p ≡ start s at) where
     pub one-digit : (end ≡ p + 1 → ⊥) → end ≤ p + 1 + 1 → Atom v end ≡ capped (tokenAt s at)
     one-digit f l = atom-found (record { one-up = omega arith; no-zero = λ m g. omega arith })
 
--- ---- a sign, by the token
+-- ---- a sign, by the byte where its token begins
 
-module _ (s : List ℕ) (at byte : ℕ) (x : Token) (token-is : x ≡ capped (tokenAt s at)) where
-  past-is : (t : Lexer.Token) → tokenAt s at ≡ t → signAt s at byte ≡ pastSign byte t
-  unfolding signAt
-  past-is t e = ap (pastSign byte) e
+module _ (s : List ℕ) (at p byte : ℕ) (past : p ≡ start s at) where
+  pub byte-found : (byte ≡ 97 → ⊥) → p < length s → getD s p 0 ≡ byte → p + 1 ≡ signAt s at byte
+  byte-found ne h e =
+      sym (token-past s at byte (p + 1) (token-sign s at p past h (λ f. ne (sym e ∙ f)) ∙ ap (λ (x : ℕ). Lexer.Token.sign x (p + 1)) e))
 
-  pub sign-same : (b next : ℕ) → x ≡ Sign b next → b ≡ byte → next ≡ signAt s at byte
-  sign-same b next f h = sym (past-is (Lexer.Token.sign b next) (sign-of (tokenAt s at) x b next token-is f) ∙ rw (eq-eqb b byte h) refl)
-
-  pub sign-differs : (b next : ℕ) → x ≡ Sign b next → (b ≡ byte → ⊥) → 0 ≡ signAt s at byte
-  sign-differs b next f h = sym (past-is (Lexer.Token.sign b next) (sign-of (tokenAt s at) x b next token-is f) ∙ rw (ne-eqb b byte h) refl)
-
-  pub sign-atom : (a next : ℕ) → x ≡ Atom a next → 0 ≡ signAt s at byte
-  sign-atom a next f =
-      let g = atom-of (tokenAt s at) x a next token-is f in
-      sym (past-is (Lexer.Token.atom (g .number) next) (g .is))
-
-  pub sign-none : x ≡ Other → 0 ≡ signAt s at byte
-  sign-none f = sym (past-is Lexer.Token.none (none-of (tokenAt s at) x token-is f))
+  pub byte-missing : (p < length s → getD s p 0 ≡ byte → ⊥) → 0 ≡ signAt s at byte
+  byte-missing ne = go (signAt s at byte) refl
+    where
+      go : (x : ℕ) → signAt s at byte ≡ x → 0 ≡ signAt s at byte
+      go zero e = sym e
+      go (suc q) e =
+          let g = sign-is s at byte (suc q) (sign-token s at byte q e) in
+          absurd (ne (omega (arith, g .inside)) (ap (λ (i : ℕ). getD s i 0) past ∙ g .byte))

@@ -104,16 +104,14 @@ pub fn token_at(text: &[u8], at: usize) -> Token
 
 // The position past the sign `byte`, where that is the token at `at`, and else 0.
 pub fn sign_at(text: &[u8], at: usize, byte: u8) -> usize
+    requires { ⌜ (byte ≡ 97 → ⊥) ⌝ }
     ensures { λ r. ⌜ r ≡ signAt (now (text .entry)) at byte ⌝ }
 {
-    match token_at(text, at) {
-        Token::Sign { byte: b, next } => {
-            if b == byte {
-                return next;
-            }
-            0
+    let p = skip(text, at);
+    if p < text.len() {
+        if text[p] == byte {
+            return p + 1;
         }
-        Token::Atom { number: _, next: _ } => 0,
-        Token::Other => 0,
     }
+    0
 }

@@ -7,7 +7,7 @@ use Prim.Native.Nat.{ℕ, zero, suc, _+_, _-_, _*_, max, _≤_, _<_}
 use native.Mathlib.Omega.{arith}
 use native.Mathlib.Nat.{add-zero, add-suc, suc-add}
 use lib.ListN.{length, set}
-use lib.Seq.{sets}
+use lib.Seq.{sets, length-sets}
 use borrow.Author.Tests.{ne-eqb}
 use Rattle.rules.specs.Rule.{Unary, Binary, Rule, size}
 use Rattle.rules.specs.Rule.Unary.{not, eventually, always}
@@ -25,7 +25,7 @@ use Rattle.lexer.specs.Capped.{capped, none-of, sign-of, atom-of}
 use Rattle.reader.specs.declared.Step.{Step}
 use Rattle.reader.specs.declared.Step.the-variants.{Fail, Part}
 use Rattle.reader.specs.Records.{top, entry, records, length-records}
-use Rattle.reader.specs.Steps.{Ready, Told, Room, joined, joinedIn, applied, appliedIn, prefixKind, closed, closedAt}
+use Rattle.reader.specs.Steps.{Ready, Told, Room, Wrote, joined, JoinedIn, applied, AppliedIn, prefixKind, closed, closedAt}
 
 -- ---- a run of stores in two halves
 
@@ -41,15 +41,22 @@ behind out n p ys =
     sets-append out (5 * n) (records n p) ys
     ∙ ap (λ (k : ℕ). sets (sets out (5 * n) (records n p)) k ys) (omega (arith, length-records n p))
 
-binary-wrote : (out out₁ out₂ : List ℕ) (n nodes : ℕ) (o : Binary) (p q : Rule) → out₁ ≡ sets out (5 * n) (records n p) → nodes ≡ n + size p → out₂ ≡ sets out₁ (5 * nodes) (records nodes q)
-    → sets out₂ (5 * (nodes + size q)) (entry (binaryKind o) (nodes - 1) (nodes + size q - 1)) ≡ sets out (5 * n) (records n (Rule.binary o p q))
-unfolding records
-binary-wrote out out₁ out₂ n nodes o p q e c f = rw (f, e, c) (sym (behind out n p _ ∙ behind (sets out (5 * n) (records n p)) (n + size p) q _))
+-- what is written leaves the length as it is
+wrote-long : (out out₁ : List ℕ) (i : ℕ) (bytes : List ℕ) → Wrote out i bytes out₁ → length out ≡ 640 → length out₁ ≡ 640
+wrote-long out out₁ i bytes e h = ap length (e h) ∙ length-sets out i bytes ∙ h
 
-unary-wrote : (out out₁ : List ℕ) (n nodes : ℕ) (u : Unary) (p : Rule) → out₁ ≡ sets out (5 * n) (records n p) → nodes ≡ n + size p
-    → sets out₁ (5 * nodes) (entry (unaryKind u) (nodes - 1) 0) ≡ sets out (5 * n) (records n (Rule.unary u p))
+binary-wrote : (out out₁ out₂ out₃ : List ℕ) (n nodes : ℕ) (o : Binary) (p q : Rule) → Wrote out (5 * n) (records n p) out₁ → nodes ≡ n + size p → Wrote out₁ (5 * nodes) (records nodes q) out₂
+    → Wrote out₂ (5 * (nodes + size q)) (entry (binaryKind o) (nodes - 1) (nodes + size q - 1)) out₃ → Wrote out (5 * n) (records n (Rule.binary o p q)) out₃
 unfolding records
-unary-wrote out out₁ n nodes u p e c = rw (e, c) (sym (behind out n p _))
+binary-wrote out out₁ out₂ out₃ n nodes o p q e c f g h =
+    let k = wrote-long out out₁ (5 * n) (records n p) e h in
+    let l = wrote-long out₁ out₂ (5 * nodes) (records nodes q) f k in
+    g l ∙ rw (f k, e h, c) (sym (behind out n p _ ∙ behind (sets out (5 * n) (records n p)) (n + size p) q _))
+
+unary-wrote : (out out₁ out₂ : List ℕ) (n nodes : ℕ) (u : Unary) (p : Rule) → Wrote out (5 * n) (records n p) out₁ → nodes ≡ n + size p
+    → Wrote out₁ (5 * nodes) (entry (unaryKind u) (nodes - 1) 0) out₂ → Wrote out (5 * n) (records n (Rule.unary u p)) out₂
+unfolding records
+unary-wrote out out₁ out₂ n nodes u p e c f h = f (wrote-long out out₁ (5 * n) (records n p) e h) ∙ rw (e h, c) (sym (behind out n p _))
 
 -- ---- what a level told, by its step
 
@@ -58,7 +65,7 @@ pub record Got (x : Parsed) (n : ℕ) (before after : List ℕ) (next nodes high
   pub is : x ≡ Parsed.part rule next
   pub count : nodes ≡ n + size rule
   pub highest : high ≡ top rule
-  pub wrote : after ≡ sets before (5 * n) (records n rule)
+  pub wrote : Wrote before (5 * n) (records n rule) after
 
 never : {A : Type 0} (r : Step) (next nodes high : ℕ) → r ≡ Fail → r ≡ Part next nodes high → A
 never r next nodes high p q = let z : _≡_ {A = ℕ} 0 1 = cc in absurd (omega arith)
@@ -134,14 +141,14 @@ module _ (o : Binary) (s : List ℕ) (at n : ℕ) (out out₁ : List ℕ) (r : S
           let g = left in
           (omega (arith, size-positive (g .rule)), room-at (parsed (of o) s q) refl told₂)
 
-      module _ (out₃ : List ℕ) (r₃ : Step) (step-is : r₃ ≡ joined high right) (wrote : out₃ ≡ joinedIn right (binaryKind o) nodes out₂) where
+      module _ (out₃ : List ℕ) (r₃ : Step) (step-is : r₃ ≡ joined high right) (wrote : JoinedIn right (binaryKind o) nodes out₂ out₃) where
         joined-at : (x : Parsed) → parsed (of o) s q ≡ x → Told x nodes out₁ out₂ right → Told (Parser.join o (left .rule) x) n out out₃ r₃
         joined-at Parsed.fail e h = step-is ∙ ap (joined high) h
         joined-at (Parsed.part p end) e h =
             let g = left in (
               step-is ∙ ap (joined high) (h .0) ∙ ap (λ (m : ℕ). Part end m (max high (top p))) (omega (arith, g .count))
                   ∙ ap (λ (x : ℕ). Part end (n + size (Rule.binary o (g .rule) p)) (max x (top p))) (g .highest),
-              wrote ∙ ap (λ (x : Step). joinedIn x (binaryKind o) nodes out₂) (h .0) ∙ binary-wrote out out₁ out₂ n nodes o (g .rule) p (g .wrote) (g .count) (h .1),
+              binary-wrote out out₁ out₂ out₃ n nodes o (g .rule) p (g .wrote) (g .count) (h .1) (subst (λ (x : Step). JoinedIn x (binaryKind o) nodes out₂ out₃) (h .0) wrote),
             )
 
         pub level-joined : Told (parsed (of o) s at) n out out₃ r₃
@@ -169,13 +176,13 @@ module _ (s : List ℕ) (at n : ℕ) (x : Token) (a next : ℕ) (token-is : x �
       let b = ends-as s at (Lexer.Token.atom (g .number) next) (g .is) in
       omega (arith, b, ready .short, ready .few)
 
-  pub single-atom : (out out₁ : List ℕ) → out₁ ≡ sets out (5 * n) (entry 1 a 0) → Told (parsed single s at) n out out₁ (Part next (n + 1) a)
+  pub single-atom : (out out₁ : List ℕ) → Wrote out (5 * n) (entry 1 a 0) out₁ → Told (parsed single s at) n out out₁ (Part next (n + 1) a)
   unfolding records
   single-atom out out₁ w =
       let g = atom-of (tokenAt s at) x a next token-is atom-is in
       told-as (parsed single s at) (Parsed.part (Rule.atom (g .number)) next) n out out₁ (Part next (n + 1) a)
       (single-as s at (Lexer.Token.atom (g .number) next) (g .is))
-      (ap (Part next (n + 1)) (g .cut), w ∙ ap (λ (y : ℕ). sets out (5 * n) (entry 1 y 0)) (g .cut))
+      (ap (Part next (n + 1)) (g .cut), λ h. w h ∙ ap (λ (y : ℕ). sets out (5 * n) (entry 1 y 0)) (g .cut))
 
 module _ (s : List ℕ) (at n : ℕ) (out : List ℕ) (x : Token) (b next : ℕ) (token-is : x ≡ capped (tokenAt s at)) (sign-is : x ≡ Sign b next) where
   found : tokenAt s at ≡ Lexer.Token.sign b next
@@ -192,7 +199,7 @@ module _ (s : List ℕ) (at n : ℕ) (out : List ℕ) (x : Token) (b next : ℕ)
 
   -- a bracket
   module _ (open-is : b ≡ 40) (out₁ : List ℕ) (r r₁ : Step) (told : Told (parsed (of implies) s next) n out out₁ r) (closed-is : r₁ ≡ closed s r) where
-    closed-as : (p : Rule) (y : ℕ) → out₁ ≡ sets out (5 * n) (records n p) → r₁ ≡ closedAt (n + size p) (top p) y → Told (Parser.closeAt p y) n out out₁ r₁
+    closed-as : (p : Rule) (y : ℕ) → Wrote out (5 * n) (records n p) out₁ → r₁ ≡ closedAt (n + size p) (top p) y → Told (Parser.closeAt p y) n out out₁ r₁
     closed-as p zero w e = e
     closed-as p (suc q) w e = (e, w)
 
@@ -231,12 +238,13 @@ module _ (s : List ℕ) (at n : ℕ) (out : List ℕ) (x : Token) (b next : ℕ)
       pub cap-room : Room inner
       cap-room = room-over (parsed single s next) refl told
 
-      module _ (some-kind : kind ≡ 0 → ⊥) (out₂ : List ℕ) (r : Step) (step-is : r ≡ applied inner) (wrote : out₂ ≡ appliedIn inner kind out₁) where
+      module _ (some-kind : kind ≡ 0 → ⊥) (out₂ : List ℕ) (r : Step) (step-is : r ≡ applied inner) (wrote : AppliedIn inner kind out₁ out₂) where
         over : (u : Unary) (y : Parsed) → kind ≡ unaryKind u → Told y n out out₁ inner → Told (apply u y) n out out₂ r
         over u Parsed.fail k h = step-is ∙ ap applied h
         over u (Parsed.part p end) k h = (
           step-is ∙ ap applied (h .0) ∙ ap (λ (m : ℕ). Part end m (top p)) (omega arith),
-          wrote ∙ ap (λ (y : Step). appliedIn y kind out₁) (h .0) ∙ ap (λ (y : ℕ). sets out₁ (5 * (n + size p)) (entry y (n + size p - 1) 0)) k ∙ unary-wrote out out₁ n (n + size p) u p (h .1) refl,
+          unary-wrote out out₁ out₂ n (n + size p) u p (h .1) refl
+              (subst (λ (y : ℕ). Wrote out₁ (5 * (n + size p)) (entry y (n + size p - 1) 0) out₂) k (subst (λ (y : Step). AppliedIn y kind out₁ out₂) (h .0) wrote)),
         )
 
         prefix-at : (y : Option Unary) → unaryOf b ≡ y → kind ≡ prefixKind y → Told (parsed single s at) n out out₂ r
@@ -263,8 +271,14 @@ close-past s inner next m b past e f ne = sym (ap (closed s) e ∙ ap (closedAt 
 pub room-of : (r : Step) (next m b : ℕ) → r ≡ Part next m b → Room r → (1 ≤ m) × (5 * m + 5 ≤ 5120)
 room-of r next m b e h = rw e at h
 
-pub join-told : (r : Step) (next m b k a t c : ℕ) (out out₁ : List ℕ) → r ≡ Part next m b → c ≡ max t b → out₁ ≡ sets out (5 * m) (entry k (a - 1) (m - 1)) → (Part next (m + 1) c ≡ joined t r) × (out₁ ≡ joinedIn r k a out)
-join-told r next m b k a t c out out₁ e f h = (ap (Part next (m + 1)) f ∙ sym (ap (joined t) e), h ∙ sym (ap (λ (y : Step). joinedIn y k a out) e))
+pub join-told : (r : Step) (next m b k a t c : ℕ) (out out₁ : List ℕ) → r ≡ Part next m b → c ≡ max t b → Wrote out (5 * m) (entry k (a - 1) (m - 1)) out₁ → (Part next (m + 1) c ≡ joined t r) × JoinedIn r k a out out₁
+join-told r next m b k a t c out out₁ e f h = (ap (Part next (m + 1)) f ∙ sym (ap (joined t) e), subst (λ (y : Step). JoinedIn y k a out out₁) (sym e) h)
 
-pub cap-told : (r : Step) (next m b k : ℕ) (out out₁ : List ℕ) → r ≡ Part next m b → out₁ ≡ sets out (5 * m) (entry k (m - 1) 0) → (Part next (m + 1) b ≡ applied r) × (out₁ ≡ appliedIn r k out)
-cap-told r next m b k out out₁ e h = (sym (ap applied e), h ∙ sym (ap (λ (y : Step). appliedIn y k out) e))
+pub cap-told : (r : Step) (next m b k : ℕ) (out out₁ : List ℕ) → r ≡ Part next m b → Wrote out (5 * m) (entry k (m - 1) 0) out₁ → (Part next (m + 1) b ≡ applied r) × AppliedIn r k out out₁
+cap-told r next m b k out out₁ e h = (sym (ap applied e), subst (λ (y : Step). AppliedIn y k out out₁) (sym e) h)
+
+pub join-none : (r : Step) (k a t : ℕ) (out : List ℕ) → r ≡ Fail → (Fail ≡ joined t r) × JoinedIn r k a out out
+join-none r k a t out e = (sym (ap (joined t) e), subst (λ (y : Step). JoinedIn y k a out out) (sym e) refl)
+
+pub cap-none : (r : Step) (k : ℕ) (out : List ℕ) → r ≡ Fail → (Fail ≡ applied r) × AppliedIn r k out out
+cap-none r k out e = (sym (ap applied e), subst (λ (y : Step). AppliedIn y k out out) (sym e) refl)

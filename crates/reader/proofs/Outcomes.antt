@@ -96,7 +96,7 @@ module _ (m : ℕ) (s out : List ℕ) where
                       refuses Room (outcome-of (some p) reading-is
                       ∙ rw (below-top m p (omega arith), lt-ltb (top p) m (omega (arith, first .highest)), le-leb (size p) 128 (omega (arith, first .count)), lt-leb (5 * size p) (length out) (omega (arith, first .count))) refl)
 
-                  module _ (room : 5 * nodes ≤ length out) (wide : length scratch ≡ 5120) where
+                  module _ (room : 5 * nodes ≤ length out) (wide : length scratch ≡ 640) where
                     outcome-is : readOutcome m s (length out) ≡ answered (wrote (size (first .rule)) (tableBytes (nodesOf (first .rule))))
                     outcome-is =
                         let p = first .rule in
@@ -108,7 +108,7 @@ module _ (m : ℕ) (s out : List ℕ) where
                     scratch-is =
                         let g = first in
                         let l = length-records 0 (g .rule) in
-                        ap (take (5 * nodes)) (g .wrote ∙ sets-eq (records 0 (g .rule)) scratch 0 (omega (arith, g .count)))
+                        ap (take (5 * nodes)) (g .wrote wide ∙ sets-eq (records 0 (g .rule)) scratch 0 (omega (arith, g .count)))
                         ∙ take-at (records 0 (g .rule)) (drop (0 + length (records 0 (g .rule))) scratch) (5 * nodes) (omega (arith, g .count))
 
                     table-is : take (5 * nodes) scratch₁ ≡ tableBytes (nodesOf (first .rule))
@@ -120,7 +120,7 @@ module _ (m : ℕ) (s out : List ℕ) where
                     part-length = omega (arith, ap length scratch-is, length-records 0 (first .rule), first .count)
 
                     pub part-fits : 5 * nodes ≤ length scratch₁
-                    part-fits = omega (arith, ap length (first .wrote), length-sets scratch (5 * 0) (records 0 (first .rule)))
+                    part-fits = omega (arith, ap length (first .wrote wide), length-sets scratch (5 * 0) (records 0 (first .rule)))
 
                     pub all-read : (out₁ : List ℕ) → out₁ ≡ take (length (take (5 * nodes) scratch₁)) (take (5 * nodes) scratch₁) ++ drop (length (take (5 * nodes) scratch₁)) out → Kept m s out out₁ (Value nodes)
                     all-read out₁ e =

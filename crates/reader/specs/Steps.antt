@@ -37,12 +37,16 @@ pub record Ready (text : List ℕ) (at n : ℕ) : Type 0 where
   pub short : length text ≤ 1024
   pub few : n ≤ at
 
+-- bytes are written into the scratch from `at` on, as far as it goes: it has room for the records of 128 nodes
+abbrev pub Wrote : (before : List ℕ) (at : ℕ) (bytes after : List ℕ) → Type 0
+Wrote before at bytes after = length before ≡ 640 → after ≡ sets before at bytes
+
 -- what a level tells of what it parsed: its step, and the records of the nodes from n on
 abbrev pub Told : Parsed → (n : ℕ) → (before after : List ℕ) → Step → Type 0
 Told Parsed.fail n before after r = r ≡ Fail
-Told (Parsed.part p next) n before after r = (r ≡ Part next (n + size p) (top p)) × (after ≡ sets before (5 * n) (records n p))
+Told (Parsed.part p next) n before after r = (r ≡ Part next (n + size p) (top p)) × Wrote before (5 * n) (records n p) after
 
--- there is a last node, and room for one more
+-- there is a last node, and no more than a short text can have
 abbrev pub Room : Step → Type 0
 Room Fail = Unit {0}
 Room (Part next m b) = (1 ≤ m) × (5 * m + 5 ≤ 5120)
@@ -52,18 +56,18 @@ abbrev pub joined : (t : ℕ) → Step → Step
 joined t Fail = Fail
 joined t (Part next m b) = Part next (m + 1) (max t b)
 
-abbrev pub joinedIn : Step → (kind a : ℕ) → List ℕ → List ℕ
-joinedIn Fail kind a out = out
-joinedIn (Part next m b) kind a out = sets out (5 * m) (entry kind (a - 1) (m - 1))
+abbrev pub JoinedIn : Step → (kind a : ℕ) → (before after : List ℕ) → Type 0
+JoinedIn Fail kind a before after = after ≡ before
+JoinedIn (Part next m b) kind a before after = Wrote before (5 * m) (entry kind (a - 1) (m - 1)) after
 
 -- one node more, over one part
 abbrev pub applied : Step → Step
 applied Fail = Fail
 applied (Part next m b) = Part next (m + 1) b
 
-abbrev pub appliedIn : Step → (kind : ℕ) → List ℕ → List ℕ
-appliedIn Fail kind out = out
-appliedIn (Part next m b) kind out = sets out (5 * m) (entry kind (m - 1) 0)
+abbrev pub AppliedIn : Step → (kind : ℕ) → (before after : List ℕ) → Type 0
+AppliedIn Fail kind before after = after ≡ before
+AppliedIn (Part next m b) kind before after = Wrote before (5 * m) (entry kind (m - 1) 0) after
 
 -- the kind of an operator of one side, and 0 for none
 abbrev pub prefixKind : Option Unary → ℕ

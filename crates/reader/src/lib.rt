@@ -2,12 +2,11 @@
 ghost use mathlib.Core.Path.{_≡_};
 ghost use Prim.Native.Nat.{_+_, _*_, max, _≤_};
 ghost use lib.ListN.{length};
-ghost use lib.Seq.{sets};
 ghost use Rattle.rules.specs.Reading.Parser.{parsed, unaryOf};
 ghost use Rattle.rules.specs.Outcome.{result, buffer, readOutcome};
 ghost use Rattle.answers.specs.Told.{told};
 ghost use Rattle.reader.specs.Records.{entry};
-ghost use Rattle.reader.specs.Steps.{ruleLevel, orLevel, andLevel, untilLevel, singleLevel, Ready, Told, Room, joined, joinedIn, applied, appliedIn, prefixKind, closed};
+ghost use Rattle.reader.specs.Steps.{ruleLevel, orLevel, andLevel, untilLevel, singleLevel, Ready, Wrote, Told, Room, joined, JoinedIn, applied, AppliedIn, prefixKind, closed};
 
 // No phrase, or one that ends before `next`: `nodes` nodes are written so far, and `top` is the phrase's highest atom number.
 pub enum Step {
@@ -25,11 +24,14 @@ fn larger(a: usize, b: usize) -> usize
     if a < b { b } else { a }
 }
 
-// Writes node `n`'s record.
-fn put(out: &mut [u8; 5120], n: usize, kind: u8, left: usize, right: usize)
+// Writes node `n`'s record, where it is one of the first 128: the records of a rule with more are not wanted.
+fn put(out: &mut [u8; 640], n: usize, kind: u8, left: usize, right: usize)
     requires { ⌜ 5 * n + 5 ≤ 5120 ⌝ }
-    ensures { λ _. ⌜ now (out .exit) ≡ sets (now (out .entry)) (5 * n) (entry kind left right) ⌝ }
+    ensures { λ _. ⌜ Wrote (now (out .entry)) (5 * n) (entry kind left right) (now (out .exit)) ⌝ }
 {
+    if 128 <= n {
+        return;
+    }
     let i = 5 * n;
     let mark = table::MARK;
     out[i] = mark[0];
@@ -40,9 +42,9 @@ fn put(out: &mut [u8; 5120], n: usize, kind: u8, left: usize, right: usize)
 }
 
 // The node over the left part, whose last node is `nodes` - 1, and the right part.
-fn join(out: &mut [u8; 5120], kind: u8, nodes: usize, top: usize, right: Step) -> Step
+fn join(out: &mut [u8; 640], kind: u8, nodes: usize, top: usize, right: Step) -> Step
     requires { ⌜ (1 ≤ nodes) × Room right ⌝ }
-    ensures { λ r. ⌜ (r ≡ joined top right) × (now (out .exit) ≡ joinedIn right kind nodes (now (out .entry))) ⌝ }
+    ensures { λ r. ⌜ (r ≡ joined top right) × JoinedIn right kind nodes (now (out .entry)) (now (out .exit)) ⌝ }
 {
     match right {
         Step::Fail => Step::Fail,
@@ -63,9 +65,9 @@ fn join(out: &mut [u8; 5120], kind: u8, nodes: usize, top: usize, right: Step) -
 }
 
 // The node over one part.
-fn cap(out: &mut [u8; 5120], kind: u8, inner: Step) -> Step
+fn cap(out: &mut [u8; 640], kind: u8, inner: Step) -> Step
     requires { ⌜ Room inner ⌝ }
-    ensures { λ r. ⌜ (r ≡ applied inner) × (now (out .exit) ≡ appliedIn inner kind (now (out .entry))) ⌝ }
+    ensures { λ r. ⌜ (r ≡ applied inner) × AppliedIn inner kind (now (out .entry)) (now (out .exit)) ⌝ }
 {
     match inner {
         Step::Fail => Step::Fail,
@@ -121,7 +123,7 @@ fn close(text: &[u8], inner: Step) -> Step
 }
 
 // Rule: Or, or Or > Rule.
-fn rule(text: &[u8], at: usize, n: usize, out: &mut [u8; 5120]) -> Step
+fn rule(text: &[u8], at: usize, n: usize, out: &mut [u8; 640]) -> Step
     requires { ⌜ Ready (now text) at n ⌝ }
     ensures { λ r. ⌜ Told (parsed ruleLevel (now (text .entry)) at) n (now (out .entry)) (now (out .exit)) r ⌝ }
 {
@@ -139,7 +141,7 @@ fn rule(text: &[u8], at: usize, n: usize, out: &mut [u8; 5120]) -> Step
 }
 
 // Or: And, or And | Or.
-fn or(text: &[u8], at: usize, n: usize, out: &mut [u8; 5120]) -> Step
+fn or(text: &[u8], at: usize, n: usize, out: &mut [u8; 640]) -> Step
     requires { ⌜ Ready (now text) at n ⌝ }
     ensures { λ r. ⌜ Told (parsed orLevel (now (text .entry)) at) n (now (out .entry)) (now (out .exit)) r ⌝ }
 {
@@ -157,7 +159,7 @@ fn or(text: &[u8], at: usize, n: usize, out: &mut [u8; 5120]) -> Step
 }
 
 // And: Until, or Until & And.
-fn and(text: &[u8], at: usize, n: usize, out: &mut [u8; 5120]) -> Step
+fn and(text: &[u8], at: usize, n: usize, out: &mut [u8; 640]) -> Step
     requires { ⌜ Ready (now text) at n ⌝ }
     ensures { λ r. ⌜ Told (parsed andLevel (now (text .entry)) at) n (now (out .entry)) (now (out .exit)) r ⌝ }
 {
@@ -175,7 +177,7 @@ fn and(text: &[u8], at: usize, n: usize, out: &mut [u8; 5120]) -> Step
 }
 
 // Until: Single, or Single U Until.
-fn until(text: &[u8], at: usize, n: usize, out: &mut [u8; 5120]) -> Step
+fn until(text: &[u8], at: usize, n: usize, out: &mut [u8; 640]) -> Step
     requires { ⌜ Ready (now text) at n ⌝ }
     ensures { λ r. ⌜ Told (parsed untilLevel (now (text .entry)) at) n (now (out .entry)) (now (out .exit)) r ⌝ }
 {
@@ -193,7 +195,7 @@ fn until(text: &[u8], at: usize, n: usize, out: &mut [u8; 5120]) -> Step
 }
 
 // Single: ! Single, or F Single, or G Single, or an atom, or ( Rule ).
-fn single(text: &[u8], at: usize, n: usize, out: &mut [u8; 5120]) -> Step
+fn single(text: &[u8], at: usize, n: usize, out: &mut [u8; 640]) -> Step
     requires { ⌜ Ready (now text) at n ⌝ }
     ensures { λ r. ⌜ Told (parsed singleLevel (now (text .entry)) at) n (now (out .entry)) (now (out .exit)) r ⌝ }
 {
@@ -236,7 +238,7 @@ pub fn read(text: &[u8], m: usize, out: &mut [u8]) -> answers::Answer
     if 1024 < text.len() {
         return answers::Answer::Refused(answers::Refusal::LongText);
     }
-    let mut scratch = [0u8; 5120];
+    let mut scratch = [0u8; 640];
     match rule(text, 0, 0, &mut scratch) {
         Step::Fail => answers::Answer::Refused(answers::Refusal::Grammar),
         Step::Part { next, nodes, top } => {

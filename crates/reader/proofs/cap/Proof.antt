@@ -1,6 +1,6 @@
 -- `reader::cap` meets its contract.
 use native.Mathlib.Omega.{arith}
-use Rattle.reader.proofs.Laws.{room-of, cap-told}
+use Rattle.reader.proofs.Laws.{room-of, cap-none, cap-told}
 use borrow.Author.Needs.{needs}
 use Rattle.reader.proofs.cap.Statement.{statement}
 use Rattle.reader.proofs.cap.Tie as tie
@@ -21,7 +21,7 @@ add-t10 : tie.Need-add-t10
 add-t10 c = omega (arith, room-of _ _ _ _ (c .before .before .before .inner .given .1) (c .before .before .before .before .before .pre))
 
 returns : tie.Need-returns
-returns c = search needs
+returns c = cap-none _ _ _ (c .enum-told .given .1)
 
 returns-2 : tie.Need-returns-2
 returns-2 c = cap-told _ _ _ _ _ _ _ (c .before .before .before .inner .given .1) (c .put .ensures)

@@ -1,6 +1,6 @@
 -- `reader::join` meets its contract.
 use native.Mathlib.Omega.{arith}
-use Rattle.reader.proofs.Laws.{room-of, join-told}
+use Rattle.reader.proofs.Laws.{room-of, join-none, join-told}
 use borrow.Author.Needs.{needs}
 use Rattle.reader.proofs.join.Statement.{statement}
 use Rattle.reader.proofs.join.Tie as tie
@@ -27,7 +27,7 @@ add-t13 : tie.Need-add-t13
 add-t13 c = omega (arith, room-of _ _ _ _ (c .before .before .before .before .right .given .1) (c .before .before .before .before .before .before .pre .1))
 
 returns : tie.Need-returns
-returns c = search needs
+returns c = join-none _ _ _ _ _ (c .enum-told .given .1)
 
 returns-2 : tie.Need-returns-2
 returns-2 c = join-told _ _ _ _ _ _ _ _ _ _ (c .before .before .before .before .right .given .1) (c .larger .ensures) (c .before .put .ensures)

@@ -1,8 +1,25 @@
--- `reader::put` meets its contract.
+-- `reader::put` meets its contract. A record past the 128th is past the scratch's end, where a store changes nothing.
+use mathlib.Core.Path.{_≡_, refl, sym, ap, _∙_}
+use mathlib.Core.List.{List, [], _∷_}
+use Prim.Native.Nat.{ℕ, suc, _*_, _≤_}
 use native.Mathlib.Numerals.{towards-suc}
+use native.Mathlib.Omega.{arith}
+use lib.ListN.{length}
+use lib.Seq.{sets, set-out}
+use Rattle.reader.specs.Records.{entry}
 use borrow.Author.Needs.{needs}
 use Rattle.reader.proofs.put.Statement.{statement}
 use Rattle.reader.proofs.put.Tie as tie
+
+sets-out : (l : List ℕ) (i : ℕ) (vs : List ℕ) → length l ≤ i → sets l i vs ≡ l
+sets-out l i [] h = refl
+sets-out l i (v ∷ vs) h = ap (λ (x : List ℕ). sets x (suc i) vs) (set-out l i v h) ∙ sets-out l (suc i) vs (omega arith)
+
+returns : tie.Need-returns
+returns c h =
+    let a = c .before .args in
+    let past : length (a .out .now) ≤ 5 * a .n = omega (arith, c .if1 .taken, h) in
+    sym (sets-out (a .out .now) (5 * a .n) (entry (a .kind) (a .left) (a .right)) past)
 
 mul-i : tie.Need-mul-i
 mul-i c = search needs
@@ -46,13 +63,14 @@ add-out-4 c = search needs
 element-write-out-5 : tie.Need-element-write-out-5
 element-write-out-5 c = search needs
 
-returns : tie.Need-returns
-returns c = simp towards-suc
+returns-2 : tie.Need-returns-2
+returns-2 c h = simp towards-suc
 
 pub put-spec : {M : Type 1} → statement M
 put-spec =
     tie.close
     (tie.spec
+    returns
     mul-i
     array-read-out
     element-write-out
@@ -67,4 +85,4 @@ put-spec =
     cast-out-2
     add-out-4
     element-write-out-5
-    returns)
+    returns-2)
