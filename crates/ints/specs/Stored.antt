@@ -4,7 +4,7 @@ use Prim.Native.Nat.{ℕ, suc, _+_, _^_, _≤_, _<_}
 use native.Mathlib.Nat.{le-refl}
 use native.Mathlib.Omega.{arith}
 use lib.Dec.{T, leb}
-use lib.IntN.{ℤ, pos, negsuc, natAbs}
+use lib.IntN.{ℤ, pos, negsuc, natAbs, _+ℤ_}
 use lib.Signed.{mag, natAbs-le, leZ}
 use mir.Syntax.{Width, w64}
 use mir.Val.{SFits, hbits, toZ, ofZ}
@@ -34,3 +34,13 @@ cast-fits {w′ = w′} t f = subst⁻¹ (SFits w′) (toZ-ofZ f) (sfits-widen t
 
 pub cast-back : {w : Width} (w′ : Width) {z : ℤ} → T (leb (hbits w) (hbits w′)) → SFits w z → toZ w′ (ofZ w′ (toZ w (ofZ w z))) ≡ z
 cast-back w′ t f = toZ-ofZ (cast-fits t f) ∙ toZ-ofZ f
+
+-- numbers well inside 64 bits: read back, and so their sum
+pub back : (z : ℤ) → natAbs z ≤ 1099511627776 → toZ w64 (ofZ w64 z) ≡ z
+back z h = toZ-ofZ (sfits-abs z (omega arith))
+
+pub small-back : (z : ℤ) → natAbs z ≤ 1099511627776 → natAbs (toZ w64 (ofZ w64 z)) ≤ 1099511627776
+small-back z h = subst⁻¹ (λ (x : ℤ). natAbs x ≤ 1099511627776) (back z h) h
+
+pub sum-back : (a b : ℤ) → natAbs a ≤ 1099511627776 → natAbs b ≤ 1099511627776 → toZ w64 (ofZ w64 a) +ℤ toZ w64 (ofZ w64 b) ≡ a +ℤ b
+sum-back a b h g = ap₂ _+ℤ_ (back a h) (back b g)

@@ -1,11 +1,11 @@
 -- One, zero and the figure of a truth, in millionths.
 use mathlib.Core.Bool.{Bool, true, false}
 use lib.IntN.{ℤ, pos}
-use Rattle.rules.specs.Judge as Judge
+use Rattle.rules.specs.Quantities
 use Rattle.millionths.specs.declared.Millionths.{Millionths}
 
 abbrev pub one : Millionths
-one = record { value = pos Judge.one }
+one = record { value = pos Quantities.one }
 
 abbrev pub nought : Millionths
 nought = record { value = pos 0 }

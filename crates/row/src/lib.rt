@@ -2,10 +2,11 @@
 use table::Kind;
 ghost use mathlib.Core.Path.{_≡_};
 ghost use mathlib.Core.List.{List, [], _∷_};
-ghost use Prim.Native.Nat.{_+_, _≤_, _<_};
+ghost use Prim.Native.Nat.{_+_, _*_, _≤_, _<_};
 ghost use lib.IntN.{pos, negsuc};
+ghost use Rattle.rules.specs.Rows as Definitions;
 ghost use Rattle.rules.specs.Rows.{ge, eq, plus, minus, sameRows, notRows, andRows, orRows, impliesRows, untilRows};
-ghost use Rattle.row.specs.Kinds.{kindRows, slotCount};
+ghost use Rattle.row.specs.Kinds.{kindRows, slotCount, leftPart};
 ghost use Rattle.row.specs.Meaning.{rowOf, listOf};
 
 pub enum Relation {
@@ -35,6 +36,39 @@ pub enum Rows {
     One(Row),
     Three(Row, Row, Row),
     Four(Row, Row, Row, Row),
+}
+
+// The first variable of a part of the variables, with t slots to a part.
+pub fn place(part: usize, t: usize) -> u16
+    requires { ⌜ (part ≤ 400) × (t ≤ 64) ⌝ }
+    ensures { λ r. ⌜ (r ≡ part * t) × (r ≤ 25600) ⌝ }
+{
+    (part * t) as u16
+}
+
+// The variable of node n at a slot.
+pub fn slack(t: usize, m: usize, n: usize, slot: usize) -> u16
+    requires { ⌜ (t ≤ 64) × (m ≤ 16) × (n ≤ 128) × (1 ≤ slot) × (slot ≤ 64) ⌝ }
+    ensures { λ r. ⌜ r ≡ Definitions.slack t m n slot ⌝ }
+{
+    place(m + n, t) + (slot - 1) as u16
+}
+
+// The part of the variables that a node's left part has: an atom's own, or a node's after the m atoms'.
+pub fn left_part(kind: Kind, m: usize, left: usize) -> usize
+    requires { ⌜ (m ≤ 16) × (left < 256) ⌝ }
+    ensures { λ r. ⌜ (r ≡ leftPart kind m left) × (r ≤ 400) ⌝ }
+{
+    match kind {
+        Kind::Atom => left,
+        Kind::Not => m + left,
+        Kind::And => m + left,
+        Kind::Or => m + left,
+        Kind::Implies => m + left,
+        Kind::Eventually => m + left,
+        Kind::Always => m + left,
+        Kind::Until => m + left,
+    }
 }
 
 // a − b = 0

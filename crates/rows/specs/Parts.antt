@@ -1,14 +1,14 @@
 -- The bytes of a table's rows, part by part, as the writer makes them.
 use mathlib.Core.Path.{_≡_, refl, sym, ap, ap₂, _∙_}
 use mathlib.Core.List.{List, [], _∷_, _++_, append-nil}
-use Prim.Native.Nat.{ℕ, _+_, _-_, _*_, _≤_, _<_}
+use Prim.Native.Nat.{ℕ, _+_, _-_, _*_, _≤_}
 use lib.IntN.{pos}
 use native.Mathlib.Omega.{arith}
 use lib.Dec.{ltb}
 use lib.ListN.{length, length-append}
 use Rattle.lists.specs.Flat.{flat, flat-same, flat-zero, flat-more}
 use Rattle.rules.specs.Table.{Node, nodeAt}
-use Rattle.rules.specs.Rows.{Row, eq, plus, rowBytes, rowsBytes, rowsAt, slotsRows, slackRows, goalRow, rowsOf}
+use Rattle.rules.specs.Rows.{Row, eq, plus, slack, rowBytes, rowsBytes, rowsAt, slotsRows, slackRows, goalRow, rowsOf}
 use Rattle.rules.specs.RowParts.{rowsBytes-append, rowsBytes-flat, slots-parts, nodes-parts}
 use Rattle.rules.specs.RowRecords.{length-rows, rows-recordable}
 use Rattle.table.specs.Nodes.{nodeBy}
@@ -82,8 +82,5 @@ module _ (T M : ℕ) (ns : List Node) where
     pub before-goal : length (nodesBytes T M ns n) + 14 ≡ 14 * length (rowsOf T M ns)
     before-goal = sym (length-append (nodesBytes T M ns n) (rowBytes (goalRow T M ns))) ∙ ap length bytes-are ∙ length-all
 
-    pub goal-is : {v : ℕ} → 1 ≤ n → v ≡ (M + n - 1) * T → eq (plus v ∷ []) (pos 1) ≡ goalRow T M ns
-    goal-is h f =
-        let k : M + n - 1 ≡ M + (length ns - 1) = omega arith in
-        let g : (M + (length ns - 1)) * T ≡ (M + (length ns - 1)) * T + 0 = omega arith in
-        ap (λ (v : ℕ). eq (plus v ∷ []) (pos 1)) (f ∙ ap (λ (i : ℕ). i * T) k ∙ g)
+    pub goal-is : {v : ℕ} → v ≡ slack T M (n - 1) 1 → eq (plus v ∷ []) (pos 1) ≡ goalRow T M ns
+    goal-is f = ap (λ (v : ℕ). eq (plus v ∷ []) (pos 1)) (f ∙ ap (λ (k : ℕ). slack T M (k - 1) 1) (sym e))

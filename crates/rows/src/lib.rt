@@ -12,34 +12,9 @@ ghost use Rattle.rules.specs.TableTest.{recordCount, nodesIn};
 ghost use Rattle.rules.specs.Outcome.{result, buffer, rowsOutcome};
 ghost use Rattle.answers.specs.Told.{told};
 ghost use Rattle.table.specs.Checks.{Ready};
-ghost use Rattle.row.specs.Kinds.{leftPart, nodeCount};
+ghost use Rattle.row.specs.Kinds.{nodeCount};
 ghost use Rattle.rows.specs.Parts.{nodeBytes, nodesBytes, countTo};
 ghost use Rattle.rows.specs.Answers.{rowsAnswer};
-
-// The first variable of a part of the variables, with t slots to a part.
-fn place(part: usize, t: usize) -> u16
-    requires { ⌜ (part ≤ 400) × (t ≤ 64) ⌝ }
-    ensures { λ r. ⌜ (r ≡ part * t) × (r ≤ 25600) ⌝ }
-{
-    (part * t) as u16
-}
-
-// The part of the variables that a node's left part has: an atom's own, or a node's after the m atoms'.
-fn left_part(kind: Kind, m: usize, left: usize) -> usize
-    requires { ⌜ (m ≤ 16) × (left < 256) ⌝ }
-    ensures { λ r. ⌜ (r ≡ leftPart kind m left) × (r ≤ 400) ⌝ }
-{
-    match kind {
-        Kind::Atom => left,
-        Kind::Not => m + left,
-        Kind::And => m + left,
-        Kind::Or => m + left,
-        Kind::Implies => m + left,
-        Kind::Eventually => m + left,
-        Kind::Always => m + left,
-        Kind::Until => m + left,
-    }
-}
 
 // Writes a node's rows at t slots from the place `at` on, and returns the next place.
 // `big`, `p` and `q` are the variables of the node and its parts at the first slot.
@@ -69,9 +44,9 @@ fn write_nodes(table: &[u8], n: usize, t: usize, m: usize, out: &mut [u8]) -> us
     while i < n {
         let node = table::node_at(table, i);
         let kind = node.kind;
-        let big = place(m + i, t);
-        let p = place(left_part(kind, m, node.left), t);
-        let q = place(m + node.right, t);
+        let big = row::place(m + i, t);
+        let p = row::place(row::left_part(kind, m, node.left), t);
+        let q = row::place(m + node.right, t);
         next = write_node(out, next, kind, t as u16, big, p, q);
         i += 1;
     }
@@ -116,7 +91,7 @@ fn write_all(table: &[u8], n: usize, t: usize, m: usize, out: &mut [u8])
     ensures { λ _. ⌜ now (out .exit) ≡ splice 0 (rowsBytes (rowsOf t m (nodesIn (now (table .entry))))) (now (out .entry)) ⌝ }
 {
     let next = write_nodes(table, n, t, m, out);
-    record::put_row(out, next, row::goal(place(m + n - 1, t)));
+    record::put_row(out, next, row::goal(row::slack(t, m, n - 1, 1)));
 }
 
 // Writes the rows, where the checks are passed and there is room.

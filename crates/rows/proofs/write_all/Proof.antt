@@ -15,7 +15,6 @@ use Rattle.rows.proofs.write_all.Reads as reads
 use Rattle.rows.proofs.write_all.Lts as lts
 use Rattle.record.proofs.put_row.Reads as put-row-reads
 use Rattle.row.proofs.goal.Reads as goal-reads
-use Rattle.rows.proofs.place.Reads as place-reads
 use Rattle.rows.proofs.write_nodes.Reads as write-nodes-reads
 
 nodes-are : (c : tie.Start) → length (nodesIn (c .args .table .now)) ≡ c .args .n
@@ -24,41 +23,37 @@ nodes-are c = length-nodesIn (c .args .m) (c .args .table .now) ∙ sym (c .pre 
 goal-place : (c : tie.Start) → length (nodesBytes (c .args .t) (c .args .m) (nodesIn (c .args .table .now)) (c .args .n)) + 14 ≡ 14 * length (rowsOf (c .args .t) (c .args .m) (nodesIn (c .args .table .now)))
 goal-place c = before-goal (c .args .t) (c .args .m) (nodesIn (c .args .table .now)) (c .args .n) (nodes-are c)
 
--- src/lib.rt:119:9
+-- src/lib.rt:127:9
 write-nodes-requires : tie.Need-write-nodes-requires
 write-nodes-requires c κs =
     let a = c .before .before .before in
     let g = goal-place a in
     (omega (arith, a .pre .0 .0 .slots-high, a .pre .0 .0 .atoms-high, a .pre .0 .0 .few-nodes, a .pre .0 .1), omega (arith, a .pre .1))
 
--- src/lib.rt:120:48
-add-place : tie.Need-add-place
-add-place c = search needs
+-- src/lib.rt:128:54
+sub-slack : tie.Need-sub-slack
+sub-slack c = search needs
 
--- src/lib.rt:120:48
-sub-place : tie.Need-sub-place
-sub-place c = search needs
+-- src/lib.rt:128:42
+slack-requires : tie.Need-slack-requires
+slack-requires c κs = search needs
 
--- src/lib.rt:120:42
-place-requires : tie.Need-place-requires
-place-requires c κs = search needs
-
--- src/lib.rt:120:32
+-- src/lib.rt:128:32
 goal-requires : tie.Need-goal-requires
 goal-requires c κs = search needs
 
--- src/lib.rt:120:5
+-- src/lib.rt:128:5
 put-row-requires : tie.Need-put-row-requires
 put-row-requires c κs =
     let a = c .before .before .before .before .before .before .before .before .before in
     let g = goal-place a in
     omega (arith, a .pre .1)
 
--- src/lib.rt:114:1
+-- src/lib.rt:122:1
 same-length : tie.Need-same-length
 same-length c = search needs
 
--- src/lib.rt:114:1
+-- src/lib.rt:122:1
 returns : tie.Need-returns
 returns c =
     let w = c .before .before .before .before .before .before .before .before in
@@ -66,7 +61,7 @@ returns c =
     let x = a .args in
     let ns = nodesIn (x .table .now) in
     let g = goal-place a in
-    let goal = goal-is (x .t) (x .m) ns (x .n) (nodes-are a) (omega (arith, a .pre .0 .0 .some-nodes, a .pre .0 .1)) (c .before .before .before .before .place .ensures .0) in
+    let goal = goal-is (x .t) (x .m) ns (x .n) (nodes-are a) (c .before .before .before .before .slack .ensures) in
     let r = c .before .before .before .goal .result in
     splice-as 0 (x .out .now)
     (splice-then 0 (w .write-nodes .result) (nodesBytes (x .t) (x .m) ns (x .n)) (recordOf r) (x .out .now) _ _ (w .write-nodes .ensures .1) (c .before .before .put-row .ensures .1) (omega arith) (omega (arith, a .pre .1)))
@@ -77,9 +72,8 @@ write-all-spec =
     tie.close
     (tie.spec
     write-nodes-requires
-    add-place
-    sub-place
-    place-requires
+    sub-slack
+    slack-requires
     goal-requires
     put-row-requires
     same-length

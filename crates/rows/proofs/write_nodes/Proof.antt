@@ -9,8 +9,8 @@ use Rattle.rows.proofs.write_nodes.Statement.{statement}
 use Rattle.rows.proofs.write_nodes.Tie as tie
 use Rattle.rows.proofs.write_nodes.Reads as reads
 use Rattle.rows.proofs.write_nodes.Lts as lts
-use Rattle.rows.proofs.left_part.Reads as left-part-reads
-use Rattle.rows.proofs.place.Reads as place-reads
+use Rattle.row.proofs.left_part.Reads as left-part-reads
+use Rattle.row.proofs.place.Reads as place-reads
 use Rattle.rows.proofs.write_node.Reads as write-node-reads
 use Rattle.table.proofs.node_at.Reads as node-at-reads
 

@@ -1,10 +1,10 @@
 use mathlib.Core.Path.{refl}
 use native.Mathlib.Nat.{mul-le-mul}
 use native.Mathlib.Omega.{arith}
-use Rattle.rows.proofs.place.Statement.{statement}
-use Rattle.rows.proofs.place.Tie as tie
-use Rattle.rows.proofs.place.Reads as reads
-use Rattle.rows.proofs.place.Lts as lts
+use Rattle.row.proofs.place.Statement.{statement}
+use Rattle.row.proofs.place.Tie as tie
+use Rattle.row.proofs.place.Reads as reads
+use Rattle.row.proofs.place.Lts as lts
 
 -- src/lib.rt:24:6
 mul-result : tie.Need-mul-result

@@ -1,10 +1,10 @@
 use mathlib.Core.Path.{refl}
 use native.Mathlib.Omega.{arith}
 use borrow.Author.Needs.{needs}
-use Rattle.rows.proofs.left_part.Statement.{statement}
-use Rattle.rows.proofs.left_part.Tie as tie
-use Rattle.rows.proofs.left_part.Reads as reads
-use Rattle.rows.proofs.left_part.Lts as lts
+use Rattle.row.proofs.left_part.Statement.{statement}
+use Rattle.row.proofs.left_part.Tie as tie
+use Rattle.row.proofs.left_part.Reads as reads
+use Rattle.row.proofs.left_part.Lts as lts
 
 -- src/lib.rt:33:23
 enum-told : tie.Need-enum-told

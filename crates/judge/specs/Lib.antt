@@ -1,0 +1,3 @@
+pub mod Ruled
+pub mod Searches
+pub mod Parts

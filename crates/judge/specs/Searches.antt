@@ -1,0 +1,160 @@
+-- The searches of the judge: for the first variable that fails a test, and for the first broken row.
+use mathlib.Core.Path.{_≡_, refl, sym, ap, _∙_}
+use mathlib.Core.Bool.{Bool, true, false, cond}
+use mathlib.Core.List.{List, [], _∷_, _++_, append-assoc}
+use mathlib.Core.Option.{Option, none, some}
+use Prim.Native.Nat.{ℕ, zero, suc, _+_, _≤_}
+use native.Mathlib.Numerals.{add-one}
+use native.Mathlib.Omega.{arith}
+use lib.ListN.{length, getD, length-append}
+use lib.Seq.{getD-append-seam}
+use Rattle.lists.specs.First.{first}
+use Rattle.lists.specs.Flat.{flat, flat-zero, flat-more}
+use Rattle.rules.specs.Rows.{Row}
+use Rattle.row.specs.declared.Row as Value
+use Rattle.row.specs.declared.Rows.{Rows}
+use Rattle.row.specs.declared.Rows.the-variants.{One, Three, Four}
+use Rattle.row.specs.Meaning.{rowOf, listOf}
+use Rattle.judge.specs.declared.Found.{Found}
+use Rattle.judge.specs.declared.Found.the-variants.{At, Nowhere}
+use Rattle.judge.specs.declared.Search.{Search}
+use Rattle.judge.specs.declared.Search.the-variants.{Clear, Broken}
+
+abbrev pub found : Found → Option ℕ
+found (At v) = some v
+found Nowhere = none
+
+-- ---- rows one after the other
+
+-- one more row is tested, if none was broken
+abbrev pub next : (Row → Bool) → Search → Row → Search
+next f (Clear i) r = cond (f r) (Broken i) (Clear (i + 1))
+next f (Broken i) r = Broken i
+
+unfoldable pub tested : (Row → Bool) → Search → List Row → Search
+tested f s [] = s
+tested f s (r ∷ rs) = tested f (next f s r) rs
+
+pub tested-none : (f : Row → Bool) (s : Search) → tested f s [] ≡ s
+unfolding tested
+tested-none f s = refl
+
+pub tested-one : (f : Row → Bool) (s : Search) (r : Row) → tested f s (r ∷ []) ≡ next f s r
+unfolding tested
+tested-one f s r = refl
+
+pub tested-append : (f : Row → Bool) (s : Search) (a b : List Row) → tested f s (a ++ b) ≡ tested f (tested f s a) b
+unfolding tested
+tested-append f s [] b = refl
+tested-append f s (r ∷ a) b = tested-append f (next f s r) a b
+
+-- a loop over parts of rows
+pub tested-start : (f : Row → Bool) (s : Search) (g : ℕ → List Row) → tested f s (flat g 0) ≡ s
+tested-start f s g = ap (tested f s) (flat-zero g) ∙ tested-none f s
+
+pub tested-more : (f : Row → Bool) (s : Search) (g : ℕ → List Row) (k : ℕ) → tested f s (flat g (k + 1)) ≡ tested f (tested f s (flat g k)) (g k)
+tested-more f s g k = ap (tested f s) (flat-more g k) ∙ tested-append f s (flat g k) (g k)
+
+-- ---- what it finds
+
+abbrev pub broken : Search → Option ℕ
+broken (Clear i) = none
+broken (Broken i) = some i
+
+unfoldable pub reached : Search → ℕ
+reached (Clear i) = i
+reached (Broken i) = i
+
+-- one more row, as the call that tests it ensures
+pub record Next (f : Row → Bool) (s : Search) (r : Row) (x : Search) : Type 0 where
+  pub is : x ≡ next f s r
+  pub by-one : reached x ≤ reached s + 1
+
+module _ (f : Row → Bool) (s : Search) (r : Row) (i : ℕ) where
+  pub already-broken : s ≡ Broken i → Next f s r (Broken i)
+  unfolding reached
+  already-broken e = record { is = sym (ap (λ (x : Search). next f x r) e); by-one = rw e (omega arith) }
+
+  pub now-broken : s ≡ Clear i → f r ≡ true → Next f s r (Broken i)
+  unfolding reached
+  now-broken e t =
+      record {
+        is = sym (ap (λ (x : Search). next f x r) e ∙ ap (λ (b : Bool). cond b (Broken i) (Clear (i + 1))) t);
+        by-one = rw e (omega arith);
+      }
+
+  pub still-clear : s ≡ Clear i → f r ≡ false → Next f s r (Clear (i + 1))
+  unfolding reached
+  still-clear e t =
+      record {
+        is = sym (ap (λ (x : Search). next f x r) e ∙ ap (λ (b : Bool). cond b (Broken i) (Clear (i + 1))) t);
+        by-one = rw e (omega arith);
+      }
+
+pub reached-clear : (s : Search) (i : ℕ) → s ≡ Clear i → reached s ≡ i
+unfolding reached
+reached-clear s i e = rw e
+
+pub reached-start : reached (Clear 0) ≡ 0
+unfolding reached
+reached-start = refl
+
+-- the rows of a node at a slot
+module _ (f : Row → Bool) (s : Search) (rows : Rows) where
+  pub one-tested : {a : Value.Row} {x : Search} → rows ≡ One a → Next f s (rowOf a) x → x ≡ tested f s (listOf rows)
+  unfolding tested
+  one-tested e p = rw e (p .is)
+
+  pub three-tested : {a b c : Value.Row} {x y z : Search} → rows ≡ Three a b c → Next f s (rowOf a) x → Next f x (rowOf b) y → Next f y (rowOf c) z → z ≡ tested f s (listOf rows)
+  unfolding tested
+  three-tested {a} {b} {c} e p q r =
+      rw e (r .is ∙ ap (λ (u : Search). next f u (rowOf c)) (q .is ∙ ap (λ (u : Search). next f u (rowOf b)) (p .is)))
+
+  pub four-tested : {a b c d : Value.Row} {w x y z : Search} → rows ≡ Four a b c d →
+      Next f s (rowOf a) w → Next f w (rowOf b) x → Next f x (rowOf c) y → Next f y (rowOf d) z → z ≡ tested f s (listOf rows)
+  unfolding tested
+  four-tested {a} {b} {c} {d} e p q r t =
+      rw e (t .is ∙ ap (λ (u : Search). next f u (rowOf d)) (r .is ∙ ap (λ (u : Search). next f u (rowOf c)) (q .is ∙ ap (λ (u : Search). next f u (rowOf b)) (p .is))))
+
+stuck : (f : Row → Bool) (i : ℕ) (rs : List Row) → tested f (Broken i) rs ≡ Broken i
+unfolding tested
+stuck f i [] = refl
+stuck f i (r ∷ rs) = stuck f i rs
+
+module _ (f : Row → Bool) (d : Row) where
+  test-at : List Row → ℕ → Bool
+  test-at l i = f (getD l i d)
+
+  -- the rows rs stand after p in l, and the search is at the first of them
+  from : (rs p l : List Row) → p ++ rs ≡ l → broken (tested f (Clear (length p)) rs) ≡ first (λ i. f (getD l i d)) (length rs) (length p)
+  unfolding tested first
+  from [] p l e = refl
+  from (r ∷ rs) p l e =
+      let here : getD l (length p) d ≡ r = ap (λ (x : List Row). getD x (length p) d) (sym e) ∙ getD-append-seam p r rs d in
+      let size : length (p ++ (r ∷ [])) ≡ suc (length p) = length-append p (r ∷ []) ∙ add-one (length p) in
+      go (f r) refl here size (from rs (p ++ (r ∷ [])) l (append-assoc p (r ∷ []) rs ∙ e))
+    where
+      go : (b : Bool) → f r ≡ b → getD l (length p) d ≡ r → length (p ++ (r ∷ [])) ≡ suc (length p) →
+          broken (tested f (Clear (length (p ++ (r ∷ [])))) rs) ≡ first (λ i. f (getD l i d)) (length rs) (length (p ++ (r ∷ []))) →
+          broken (tested f (cond (f r) (Broken (length p)) (Clear (length p + 1))) rs) ≡ cond (f (getD l (length p) d)) (some (length p)) (first (λ i. f (getD l i d)) (length rs) (suc (length p)))
+      go true t here size later = rw (here, t) (ap broken (stuck f (length p) rs))
+      go false t here size later = rw (here, t, add-one (length p), ← size) later
+
+  pub first-broken : (l : List Row) → broken (tested f (Clear 0) l) ≡ first (λ i. f (getD l i d)) (length l) 0
+  first-broken l = from l [] l refl
+
+-- a search that finds none has counted the rows
+pub all-clear : (f : Row → Bool) (l : List Row) (i n : ℕ) → tested f (Clear i) l ≡ Clear n → n ≡ i + length l
+unfolding tested
+all-clear f [] i n e = let z : i ≡ n = cc in omega arith
+all-clear f (r ∷ rs) i n e = go (f r) refl (all-clear f rs (i + 1) n)
+  where
+    step : (b : Bool) → f r ≡ b → tested f (cond b (Broken i) (Clear (i + 1))) rs ≡ Clear n
+    step b t = sym (ap (λ (b : Bool). tested f (cond b (Broken i) (Clear (i + 1))) rs) t) ∙ e
+
+    go : (b : Bool) → f r ≡ b → (tested f (Clear (i + 1)) rs ≡ Clear n → n ≡ i + 1 + length rs) → n ≡ i + suc (length rs)
+    go true t later =
+        let z : Broken i ≡ Clear n = sym (stuck f i rs) ∙ step true t in
+        let y : _≡_ {A = ℕ} 0 1 = cc in
+        absurd (omega arith)
+    go false t later = let z = later (step false t) in omega arith

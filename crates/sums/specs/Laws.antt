@@ -1,0 +1,54 @@
+-- Laws of the tests on figures and sums.
+use mathlib.Core.Path.{_≡_, refl, sym, ap₂, _∙_}
+use mathlib.Core.Bool.{true, false}
+use mathlib.Core.List.{List}
+use Prim.Native.Nat.{ℕ, suc}
+use native.Mathlib.Omega.{arith}
+use borrow.Author.Tests.{ltb-true}
+use lib.IntN.{ℤ, pos, negsuc, natAbs, _+ℤ_, _-ℤ_, _*ℤ_, +ℤ-idl, +ℤ-idr}
+use lib.Signed.{ltZ}
+use Rattle.rules.specs.Quantities.{one}
+use Rattle.rules.specs.Rows.{valueAt, sumOf}
+use Rattle.rules.specs.Verdicts.{apart, isBroken}
+use Rattle.row.specs.declared.Relation.the-variants.{AtLeast, Equal}
+use Rattle.row.specs.declared.Term.{Term}
+use Rattle.row.specs.declared.Terms.{Terms}
+use Rattle.row.specs.declared.Terms.the-variants.{Single, Pair, Triple}
+use Rattle.row.specs.declared.Row.{Row}
+use Rattle.row.specs.Meaning.{termsOf, rowOf}
+
+-- below 0, a number's size is what it is less than 0
+pub size-below : (d : ℤ) → ltZ d (pos 0) ≡ true → pos 0 -ℤ d ≡ pos (natAbs d)
+size-below (pos n) e = absurd (let h = ltb-true n 0 e in omega arith)
+size-below (negsuc n) e = +ℤ-idl (pos (suc n))
+
+pub size-above : (d : ℤ) → ltZ d (pos 0) ≡ false → d ≡ pos (natAbs d)
+size-above (pos n) e = refl
+size-above (negsuc n) e = let z : _≡_ {A = ℕ} 0 1 = cc in absurd (omega arith)
+
+-- ---- a row's sum, term by term
+
+abbrev Is : List ℤ → ℤ → Term → Type 0
+Is xs z t = z ≡ t .coefficient *ℤ valueAt xs (t .variable)
+
+module _ (xs : List ℤ) (terms : Terms) where
+  abbrev total : ℤ
+  total = sumOf xs (termsOf terms)
+
+  pub single-sum : {a : Term} (x : ℤ) → terms ≡ Single a → Is xs x a → x ≡ total
+  single-sum x t p = rw t (p ∙ sym (+ℤ-idr _))
+
+  pub pair-sum : {a b : Term} (x y : ℤ) → terms ≡ Pair a b → Is xs x a → Is xs y b → x +ℤ y ≡ total
+  pair-sum x y t p q = rw t (ap₂ _+ℤ_ p (q ∙ sym (+ℤ-idr _)))
+
+  pub triple-sum : {a b c : Term} (x y z : ℤ) → terms ≡ Triple a b c → Is xs x a → Is xs y b → Is xs z c → x +ℤ (y +ℤ z) ≡ total
+  triple-sum x y z t p q r = rw t (ap₂ _+ℤ_ p (ap₂ _+ℤ_ q (r ∙ sym (+ℤ-idr _))))
+
+-- ---- a row against its sum
+
+module _ (e : ℕ) (xs : List ℤ) (row : Row) (s b : ℤ) (p : s ≡ sumOf xs (termsOf (row .terms))) (q : b ≡ row .right *ℤ pos one) where
+  pub short-broken : row .relation ≡ AtLeast → ltZ s (b -ℤ pos e) ≡ isBroken e xs (rowOf row)
+  short-broken t = rw (p, q, t)
+
+  pub apart-broken : row .relation ≡ Equal → apart e b s ≡ isBroken e xs (rowOf row)
+  apart-broken t = rw (p, q, t)

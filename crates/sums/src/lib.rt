@@ -1,0 +1,130 @@
+// The tests of the judge: of one figure, and of a row's sum.
+use millionths::Millionths;
+use row::Relation;
+use row::Row;
+use row::Term;
+use row::Terms;
+ghost use mathlib.Core.Path.{_≡_};
+ghost use Prim.Native.Nat.{_+_, _≤_};
+ghost use lib.IntN.{ℤ, pos, natAbs, _-ℤ_, _*ℤ_};
+ghost use lib.Signed.{ltZ};
+ghost use Rattle.rules.specs.Quantities as Quantities;
+ghost use Rattle.rules.specs.Rows.{valueAt, sumOf};
+ghost use Rattle.rules.specs.Verdicts.{apart, isOutside, isNotBinary, isBroken};
+ghost use Rattle.row.specs.Meaning.{termsOf, rowOf};
+
+// Below −e or above one and e.
+pub fn is_outside(figure: i32, e: u16) -> bool
+    ensures { λ r. ⌜ r ≡ isOutside e figure ⌝ }
+{
+    let x = figure as i64;
+    let zero = Millionths::ZERO.value as i64;
+    let one = Millionths::ONE.value as i64;
+    if x < zero - e as i64 {
+        true
+    } else {
+        one + (e as i64) < x
+    }
+}
+
+// A number without its sign.
+fn size(d: i64) -> i64
+    requires { ⌜ natAbs d ≤ 2199023255552 ⌝ }
+    ensures { λ r. ⌜ r ≡ pos (natAbs d) ⌝ }
+{
+    if d < 0 { 0 - d } else { d }
+}
+
+// More than e from b.
+fn is_apart(e: u16, b: i64, x: i64) -> bool
+    requires { ⌜ (natAbs b ≤ 1099511627776) × (natAbs x ≤ 1099511627776) ⌝ }
+    ensures { λ r. ⌜ r ≡ apart e b x ⌝ }
+{
+    (e as i64) < size(x - b)
+}
+
+// b, less e.
+fn lowered(b: i64, e: u16) -> i64
+    requires { ⌜ natAbs b ≤ 128000000 ⌝ }
+    ensures { λ r. ⌜ (r ≡ b -ℤ pos e) × (natAbs r ≤ 1099511627776) ⌝ }
+{
+    b - (e as i64)
+}
+
+fn is_below(x: i64, b: i64) -> bool
+    ensures { λ r. ⌜ r ≡ ltZ x b ⌝ }
+{
+    x < b
+}
+
+// More than e from both zero and one.
+pub fn is_not_binary(figure: i32, e: u16) -> bool
+    ensures { λ r. ⌜ r ≡ isNotBinary e figure ⌝ }
+{
+    let x = figure as i64;
+    if is_apart(e, Millionths::ZERO.value as i64, x) {
+        is_apart(e, Millionths::ONE.value as i64, x)
+    } else {
+        false
+    }
+}
+
+fn wide(v: u16) -> usize
+    ensures { λ r. ⌜ r ≡ v ⌝ }
+{
+    v as usize
+}
+
+// The figure of a variable.
+fn figure_of(figures: &[i32], variable: u16) -> i32
+    ensures { λ r. ⌜ r ≡ valueAt (now (figures .entry)) variable ⌝ }
+{
+    let at = wide(variable);
+    if at < figures.len() { figures[at] } else { 0 }
+}
+
+// A coefficient times a figure.
+fn product(coefficient: i8, figure: i32) -> i64
+    ensures { λ r. ⌜ (r ≡ coefficient *ℤ figure) × (natAbs r ≤ 274877906944) ⌝ }
+{
+    (coefficient as i64) * (figure as i64)
+}
+
+// A right side in millionths.
+fn scaled(right: i8) -> i64
+    ensures { λ r. ⌜ (r ≡ right *ℤ pos Quantities.one) × (natAbs r ≤ 128000000) ⌝ }
+{
+    (right as i64) * (Millionths::ONE.value as i64)
+}
+
+fn term(figures: &[i32], t: Term) -> i64
+    ensures { λ r. ⌜ (r ≡ t .coefficient *ℤ valueAt (now (figures .entry)) (t .variable)) × (natAbs r ≤ 274877906944) ⌝ }
+{
+    product(t.coefficient, figure_of(figures, t.variable))
+}
+
+// The sum of a row's terms over the figures.
+fn row_sum(figures: &[i32], terms: Terms) -> i64
+    ensures { λ r. ⌜ (r ≡ sumOf (now (figures .entry)) (termsOf terms)) × (natAbs r ≤ 824633720832) ⌝ }
+{
+    match terms {
+        Terms::Single(a) => term(figures, a),
+        Terms::Pair(a, b) => term(figures, a) + term(figures, b),
+        Terms::Triple(a, b, c) => term(figures, a) + (term(figures, b) + term(figures, c)),
+    }
+}
+
+// Whether the figures break a row.
+pub fn is_broken(row: Row, figures: &[i32], e: u16) -> bool
+    ensures { λ r. ⌜ r ≡ isBroken e (now (figures .entry)) (rowOf row) ⌝ }
+{
+    let relation = row.relation;
+    let right = scaled(row.right);
+    let least = lowered(right, e);
+    let terms = row.terms;
+    let sum = row_sum(figures, terms);
+    match relation {
+        Relation::AtLeast => is_below(sum, least),
+        Relation::Equal => is_apart(e, right, sum),
+    }
+}
