@@ -13,8 +13,10 @@ use Rattle.rules.specs.Table.{Node, Good, ruleAt, root}
 use Rattle.rules.specs.Truth.{Holds, endless}
 use Rattle.rules.specs.Rows.{Relation, Row, valueAt, sumOf, atomVariable, slack, rowsOf}
 use Rattle.rules.specs.Rows.Relation.{at-least, equal}
-use Rattle.rules.specs.Judge.{Verdict, Judged}
-use Rattle.rules.specs.Refusals.{RunGood}
+use Rattle.rules.specs.Judge.{None, Verdict, Judged}
+use Rattle.rules.specs.Refusals.{RunGood, JudgeRefused}
+use Rattle.rules.specs.Demands.{Answer}
+use Rattle.rules.specs.Demands.Answer.{answered}
 
 -- "A ≥ row holds when its sum is at least the right side times 1,000,000, less e. An = row holds when the difference is at most e either way."
 abbrev pub HoldsBy : Relation → (e : ℕ) → (right sum : ℤ) → Type 0
@@ -49,3 +51,17 @@ abbrev pub PassedIsTrue : Type 0
 PassedIsTrue =
     (T M : ℕ) (table : List ℕ) (ns : List Node) (figures : List ℤ) (n : ℕ) → 1 ≤ T → Good M table ns → length figures ≡ (M + length ns) * T →
     Judged T M 0 ns figures (Verdict.passed n) → TrulyMet T M ns figures
+
+-- ---- of a ruling that meets the judge's contract
+
+-- the judge passes exactly where nothing refuses and every limit, every row and every atom is right within the tolerance
+abbrev pub PassedMeans : (t m : ℕ) (table : List ℕ) (figures : List ℤ) (tolerance : ℤ) (ruling : Answer Verdict) → Type 0
+PassedMeans t m table figures tolerance ruling =
+    (n : ℕ) → (ruling ≡ answered (Verdict.passed n)) ↔
+    (None (JudgeRefused t m table figures tolerance) ×
+    ((ns : List Node) × (e : ℕ) × Good m table ns × (tolerance ≡ pos e) × (n ≡ length (rowsOf t m ns)) × Passes t m e ns figures))
+
+-- figures passed with tolerance 0: the bridge from the judge to the rule
+abbrev pub PassedAtZero : (t m : ℕ) (table : List ℕ) (figures : List ℤ) (tolerance : ℤ) (ruling : Answer Verdict) → Type 0
+PassedAtZero t m table figures tolerance ruling =
+    (n : ℕ) → tolerance ≡ pos 0 → ruling ≡ answered (Verdict.passed n) → (ns : List Node) × Good m table ns × TrulyMet t m ns figures

@@ -4,7 +4,7 @@ use mathlib.Core.Bool.{Bool, true, false}
 use mathlib.Core.Logic.{_↔_, _⊎_, inl, inr, ⊎-elim}
 use mathlib.Core.List.{List, [], _∷_, _++_}
 use Prim.Native.Nat.{ℕ, zero, suc, _+_, _-_, _*_, _/_, _%_, _^_, _≤_, _<_}
-use native.Mathlib.Decide.{decLt}
+use native.Mathlib.Decide.{decLt, decLe, ℕ-discrete}
 use native.Mathlib.Nat.{eq-or-lt-of-le, pow-suc, pow-zero, mul-add-div-right, mul-add-mod-self-right, div-eq-of-lt, mod-eq-of-lt, div-lt-iff-lt-mul, mod-lt, div-add-mod', mul-le-mul-right, mul-assoc}
 use native.Mathlib.Omega.{arith}
 use lib.Pow.{pow-add, pow-pos}
@@ -22,11 +22,14 @@ use Rattle.rules.specs.Rows.{Relation, Row, Meets, MeetsBy, valueAt, sumOf, ato
 use Rattle.rules.specs.Rows.Relation.{at-least, equal}
 use Rattle.rules.specs.Judge.{Apart, BrokenBy, None, Verdict, OutsideAt, NotBinaryAt, BrokenAt, Judged}
 use Rattle.rules.specs.Judge.Judged.{is-outside, is-not-binary, is-broken, is-passed}
-use Rattle.rules.specs.Refusals.{RunGood}
+use Rattle.rules.specs.Refusals.{RunGood, TableRefused, JudgeRefused}
 use Rattle.rules.specs.Demands.{Fits, OnlyTheTruth}
 use Rattle.rules.specs.Solution.Truths.{place-lt}
-use Rattle.rules.specs.Theorems.{only-the-truth}
-use Rattle.demands.specs.Passed.{HoldsBy, RowHolds, Passes, PassedIff, TrulyMet, PassedIsTrue}
+use Rattle.rules.specs.Theorems.{only-the-truth, judge-exact}
+use Rattle.rules.specs.Outcome.{judgeOutcome}
+use Rattle.rules.specs.Demands.{Answer}
+use Rattle.rules.specs.Demands.Answer.{answered}
+use Rattle.demands.specs.Passed.{HoldsBy, RowHolds, Passes, PassedIff, TrulyMet, PassedIsTrue, PassedMeans, PassedAtZero}
 
 -- ---- orders that are refuted
 
@@ -257,3 +260,46 @@ module _ (T M : ℕ) (table : List ℕ) (ns : List Node) (xs : List ℤ) (0<T : 
 
 pub passed-is-true : PassedIsTrue
 passed-is-true T M table ns xs n 0<T good count j = truly-met T M table ns xs 0<T good count (passes T M 0 ns xs n refl j)
+
+-- ---- of a ruling
+
+count-is : {T M e n : ℕ} {ns : List Node} {xs : List ℤ} {v : Verdict} → v ≡ Verdict.passed n → Judged T M e ns xs v → n ≡ length (rowsOf T M ns)
+count-is f (is-outside h) = let z : _≡_ {A = ℕ} 0 1 = cc in absurd (omega arith)
+count-is f (is-not-binary p h) = let z : _≡_ {A = ℕ} 0 1 = cc in absurd (omega arith)
+count-is f (is-broken p q h) = let z : _≡_ {A = ℕ} 0 1 = cc in absurd (omega arith)
+count-is f (is-passed p q r) = cc
+
+module _ (t m : ℕ) (table : List ℕ) (figures : List ℤ) (tolerance : ℤ) (ruling : Answer Verdict) (told : ruling ≡ judgeOutcome t m table figures tolerance) where
+  exact : (v : Verdict) → (ruling ≡ answered v) ↔
+      (None (JudgeRefused t m table figures tolerance) × ((ns : List Node) × (e : ℕ) × Good m table ns × (tolerance ≡ pos e) × Judged t m e ns figures v))
+  exact v = rw told (judge-exact t m table figures tolerance .answers v)
+
+  pub passed-means : PassedMeans t m table figures tolerance ruling
+  passed-means n = (
+    λ f.
+        let x = exact (Verdict.passed n) .0 f in
+        let j = x .1 .4 in
+        (x .0, (x .1 .0, x .1 .1, x .1 .2, x .1 .3, count-is refl j, passes t m (x .1 .1) (x .1 .0) figures n refl j)),
+    λ x.
+        let (ns, e, good, tol, count, p) = x .1 in
+        exact (Verdict.passed n) .1 (x .0, (ns, e, good, tol, rw count (passed-iff t m e ns figures .1 p))),
+  )
+
+  pub passed-at-zero : PassedAtZero t m table figures tolerance ruling
+  passed-at-zero n zero-is f =
+      let x = exact (Verdict.passed n) .0 f in
+      let ns = x .1 .0 in
+      let z : x .1 .1 ≡ 0 = ap natAbs (sym (x .1 .3) ∙ zero-is) in (
+        ns,
+        x .1 .2,
+        passed-is-true t m table ns figures n (slots (x .0) (decLe 1 t)) (x .1 .2) (counted ns (x .0) (x .1 .2) (ℕ-discrete (length figures) ((m + length ns) * t)))
+            (subst (λ (e : ℕ). Judged t m e ns figures (Verdict.passed n)) z (x .1 .4)),
+      )
+    where
+      slots : None (JudgeRefused t m table figures tolerance) → Dec (1 ≤ t) → 1 ≤ t
+      slots none (yes h) = h
+      slots none (no h) = absurd (none 1 (JudgeRefused.table-refused (TableRefused.slots (λ s. h (s .0)))))
+
+      counted : (ns : List Node) → None (JudgeRefused t m table figures tolerance) → Good m table ns → Dec (length figures ≡ (m + length ns) * t) → length figures ≡ (m + length ns) * t
+      counted ns none good (yes h) = h
+      counted ns none good (no h) = absurd (none 9 (JudgeRefused.miscounted good h))

@@ -1,10 +1,13 @@
 // The demands, as the contracts of functions that only make the calls.
 ghost use Rattle.answers.specs.Told.{told};
-ghost use Rattle.demands.specs.Demand1.{ReaderRefuses, EvaluatorRefuses, RowWriterRefuses};
-ghost use Rattle.demands.specs.Demand2.{ReaderAnswers, EvaluatorAnswers, RowWriterAnswers};
+ghost use Rattle.judge.specs.Ruled.{ruled};
+ghost use Rattle.demands.specs.Demand1.{ReaderRefuses, EvaluatorRefuses, RowWriterRefuses, JudgeRefuses};
+ghost use Rattle.demands.specs.Demand2.{ReaderAnswers, EvaluatorAnswers, RowWriterAnswers, JudgeAnswers};
 ghost use Rattle.demands.specs.Demand3.{Demanded};
+ghost use Rattle.demands.specs.Passed.{PassedMeans, PassedAtZero};
 use answers::Answer;
 use answers::Refusal;
+use judge::Ruling;
 
 // Demands 1 and 2 of the reader.
 pub fn read(text: &[u8], m: usize, out: &mut [u8]) -> Answer
@@ -28,6 +31,16 @@ pub fn write_rows(table: &[u8], t: usize, m: usize, out: &mut [u8]) -> Answer
     ensures { λ r. ⌜ RowWriterAnswers t m (now (table .entry)) (told r) (now (out .entry)) (now (out .exit)) ⌝ }
 {
     rows::write_rows(table, t, m, out)
+}
+
+// Demands 1 and 2 of the judge, and what a passed verdict means.
+pub fn judge_figures(table: &[u8], t: usize, m: usize, figures: &[i32], e: i32) -> Ruling
+    ensures { λ r. ⌜ JudgeRefuses t m (now (table .entry)) (now (figures .entry)) e (ruled r) ⌝ }
+    ensures { λ r. ⌜ JudgeAnswers t m (now (table .entry)) (now (figures .entry)) e (ruled r) ⌝ }
+    ensures { λ r. ⌜ PassedMeans t m (now (table .entry)) (now (figures .entry)) e (ruled r) ⌝ }
+    ensures { λ r. ⌜ PassedAtZero t m (now (table .entry)) (now (figures .entry)) e (ruled r) ⌝ }
+{
+    judge::judge(table, t, m, figures, e)
 }
 
 // The node count, the row count and the root's truth at slot 1, or the first refusal.

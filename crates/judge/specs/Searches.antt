@@ -3,7 +3,7 @@ use mathlib.Core.Path.{_≡_, refl, sym, ap, _∙_}
 use mathlib.Core.Bool.{Bool, true, false, cond}
 use mathlib.Core.List.{List, [], _∷_, _++_, append-assoc}
 use mathlib.Core.Option.{Option, none, some}
-use Prim.Native.Nat.{ℕ, zero, suc, _+_, _≤_}
+use Prim.Native.Nat.{ℕ, suc, _+_, _≤_}
 use native.Mathlib.Numerals.{add-one}
 use native.Mathlib.Omega.{arith}
 use lib.ListN.{length, getD, length-append}
@@ -122,9 +122,6 @@ stuck f i [] = refl
 stuck f i (r ∷ rs) = stuck f i rs
 
 module _ (f : Row → Bool) (d : Row) where
-  test-at : List Row → ℕ → Bool
-  test-at l i = f (getD l i d)
-
   -- the rows rs stand after p in l, and the search is at the first of them
   from : (rs p l : List Row) → p ++ rs ≡ l → broken (tested f (Clear (length p)) rs) ≡ first (λ i. f (getD l i d)) (length rs) (length p)
   unfolding tested first

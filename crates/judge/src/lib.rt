@@ -6,7 +6,6 @@ use table::Checked;
 use table::Kind;
 ghost use mathlib.Core.Path.{_≡_};
 ghost use Prim.Native.Nat.{_+_, _*_, _≤_, _<_};
-ghost use lib.IntN.{pos};
 ghost use lib.ListN.{length};
 ghost use Rattle.lists.specs.First.{first};
 ghost use Rattle.rules.specs.Rows.{rowsOf};

@@ -5,7 +5,6 @@ pub mod First
 pub mod Scan
 pub mod Tabulate
 pub mod Flat
-pub mod Tally
 pub mod Place
 pub mod Splice
 pub mod Stores

@@ -1,7 +1,7 @@
 -- One, zero and the figure of a truth, in millionths.
 use mathlib.Core.Bool.{Bool, true, false}
-use lib.IntN.{ℤ, pos}
-use Rattle.rules.specs.Quantities
+use lib.IntN.{pos}
+use Rattle.rules.specs.Quantities as Quantities
 use Rattle.millionths.specs.declared.Millionths.{Millionths}
 
 abbrev pub one : Millionths

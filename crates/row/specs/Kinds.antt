@@ -2,13 +2,13 @@
 use mathlib.Core.Path.{_≡_, refl, sym, ap, _∙_}
 use mathlib.Core.Bool.{Bool, true, false, cond}
 use mathlib.Core.List.{List}
-use Prim.Native.Nat.{ℕ, zero, suc, _+_, _-_, _*_, _≤_, _<_}
+use Prim.Native.Nat.{ℕ, _+_, _-_, _*_, _≤_, _<_}
 use native.Mathlib.Omega.{arith}
 use lib.Dec.{ltb}
 use borrow.Author.Tests.{lt-ltb, le-ltb}
 use lib.ListN.{length, length-append}
 use Rattle.lists.specs.Flat.{flat, flat-more, length-flat-even}
-use Rattle.rules.specs.Rows.{Row, sameRows, notRows, andRows, orRows, impliesRows, untilRows, slack, rowsAt, slotsRows}
+use Rattle.rules.specs.Rows.{Row, sameRows, notRows, andRows, orRows, impliesRows, untilRows, rowsAt, slotsRows}
 use Rattle.rules.specs.RowParts.{slots-parts}
 use Rattle.table.specs.Nodes.{nodeBy}
 use Rattle.table.specs.declared.Kind.{Kind}

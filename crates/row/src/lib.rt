@@ -1,7 +1,7 @@
 // Rows as values: the rows of a node at a slot.
 use table::Kind;
 ghost use mathlib.Core.Path.{_≡_};
-ghost use mathlib.Core.List.{List, [], _∷_};
+ghost use mathlib.Core.List.{[], _∷_};
 ghost use Prim.Native.Nat.{_+_, _*_, _≤_, _<_};
 ghost use lib.IntN.{pos, negsuc};
 ghost use Rattle.rules.specs.Rows as Definitions;

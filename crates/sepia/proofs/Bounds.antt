@@ -4,25 +4,27 @@ use mathlib.Core.Bool.{Bool, true, false}
 use mathlib.Core.List.{List, [], _∷_}
 use Prim.Native.Nat.{ℕ, zero, suc, _+_, _*_, _≤_, _<_}
 use native.Mathlib.Nat.{mul-le-mul}
-use native.Mathlib.Decide.{decLe}
+use native.Mathlib.Decide.{decLe, ℕ-discrete}
 use native.Mathlib.Omega.{arith}
 use lib.Dec.{ltb}
 use lib.ListN.{length, length-append}
+use lib.IntN.{ℤ}
 use Rattle.rules.specs.Rule.{Unary, Binary, size}
 use Rattle.rules.specs.Rule.Unary.{not, eventually, always}
 use Rattle.rules.specs.Rule.Binary.{and, or, implies, until}
-use Rattle.rules.specs.Table.{Node}
+use Rattle.rules.specs.Table.{Node, Good}
 use Rattle.rules.specs.Table.Node.{atom, unary, binary}
 use Rattle.rules.specs.Truth.{TruthByte}
 use Rattle.rules.specs.Rows.{unaryRows, binaryRows, rowsAt, slotsRows, nodesRows, slackRows, goalRow, rowsOf}
-use Rattle.rules.specs.Judge.{None}
-use Rattle.rules.specs.Refusals.{TextRefused, ReadRefused, TableRefused, RowsRefused}
+use Rattle.rules.specs.Judge.{None, Verdict, Judged}
+use Rattle.rules.specs.Judge.Judged.{is-outside, is-not-binary, is-broken, is-passed}
+use Rattle.rules.specs.Refusals.{TextRefused, ReadRefused, TableRefused, RowsRefused, JudgeRefused}
 use Rattle.rules.specs.Demands.{Answer, Written, Exact}
 use Rattle.rules.specs.Demands.Answer.{refused, answered}
 use Rattle.rules.specs.Demands.Written.{wrote}
-use Rattle.rules.specs.Outcome.{result, readOutcome, evaluateOutcome, rowsOutcome}
-use Rattle.rules.specs.Theorems.{reader-exact, evaluator-exact, rows-exact}
-use Rattle.sepia.specs.Boundary.{Fits}
+use Rattle.rules.specs.Outcome.{result, readOutcome, evaluateOutcome, rowsOutcome, judgeOutcome}
+use Rattle.rules.specs.Theorems.{reader-exact, evaluator-exact, rows-exact, judge-exact}
+use Rattle.sepia.specs.Boundary.{Fits, verdictValue, VerdictFits}
 
 -- an outcome's result fits, where every result that it may have does
 fits : (Refused : ℕ → Type 0) (Is : Written → Type 0) (a : Answer Written) → Exact Refused Is a →
@@ -99,3 +101,28 @@ write-rows-fits t m table room =
     let e : n ≡ length (rowsOf t m (i .0)) = cc (i .2) in
     let slots : t ≤ 64 = bound t 64 (λ h. none 1 (RowsRefused.table-refused (TableRefused.slots (λ s. omega arith)))) in
     rw e (rows-few t m (i .0) slots (i .1 .few)))
+
+-- ---- the judge's variables and rows
+
+judged-small : {T M e : ℕ} {ns : List Node} {xs : List ℤ} {v : Verdict} → T ≤ 64 → M ≤ 16 → length ns ≤ 128 → length xs ≡ (M + length ns) * T → Judged T M e ns xs v → verdictValue v < 4294967296
+judged-small {T} {M} {ns = ns} h m k c (is-outside x) =
+    let few : M + length ns ≤ 144 = omega arith in
+    omega (arith, x .holds .0, mul-le-mul few h)
+judged-small {T} {M} h m k c (is-not-binary p x) = omega (arith, x .holds .0, mul-le-mul m h)
+judged-small {T} {M} {ns = ns} h m k c (is-broken p q x) = omega (arith, x .holds .0, rows-few T M ns h k)
+judged-small {T} {M} {ns = ns} h m k c (is-passed p q r) = rows-few T M ns h k
+
+pub judge-fits : (t m : ℕ) (table : List ℕ) (figures : List ℤ) (tolerance : ℤ) → VerdictFits (judgeOutcome t m table figures tolerance)
+judge-fits t m table figures tolerance = go (judgeOutcome t m table figures tolerance) refl
+  where
+    counted : None (JudgeRefused t m table figures tolerance) → (ns : List Node) → Good m table ns → Dec (length figures ≡ (m + length ns) * t) → length figures ≡ (m + length ns) * t
+    counted none ns good (yes h) = h
+    counted none ns good (no h) = absurd (none 9 (JudgeRefused.miscounted good h))
+
+    go : (x : Answer Verdict) → judgeOutcome t m table figures tolerance ≡ x → VerdictFits x
+    go (refused k) e = tt
+    go (answered v) e =
+        let (none, (ns, d, good, tol, j)) = judge-exact t m table figures tolerance .answers v .0 e in
+        let slots : t ≤ 64 = bound t 64 (λ h. none 1 (JudgeRefused.table-refused (TableRefused.slots (λ s. omega arith)))) in
+        let atoms : m ≤ 16 = bound m 16 (λ h. none 2 (JudgeRefused.table-refused (TableRefused.atoms (λ s. omega arith)))) in
+        judged-small slots atoms (good .few) (counted none ns good (ℕ-discrete (length figures) ((m + length ns) * t))) j

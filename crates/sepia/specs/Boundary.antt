@@ -2,7 +2,10 @@
 use Prim.Native.Nat.{ℕ, _<_}
 use Rattle.rules.specs.Demands.{Answer}
 use Rattle.rules.specs.Demands.Answer.{refused, answered}
+use Rattle.rules.specs.Judge.{Verdict}
+use Rattle.rules.specs.Judge.Verdict.{outside, not-binary, broken, passed}
 use Rattle.sepia.specs.declared.SepiaAnswer.{SepiaAnswer}
+use Rattle.sepia.specs.declared.SepiaVerdict.{SepiaVerdict}
 
 -- refusal 0: value is the result
 abbrev pub inC : Answer ℕ → SepiaAnswer
@@ -13,3 +16,24 @@ inC (answered n) = record { refusal = 0; value = n }
 abbrev pub Fits : Answer ℕ → Type 0
 Fits (refused k) = Unit {0}
 Fits (answered n) = n < 4294967296
+
+-- verdict 0 outside, 1 not binary, 2 broken, 3 passed, and its variable, row or row count
+abbrev pub verdictNumber : Verdict → ℕ
+verdictNumber (outside v) = 0
+verdictNumber (not-binary v) = 1
+verdictNumber (broken i) = 2
+verdictNumber (passed n) = 3
+
+abbrev pub verdictValue : Verdict → ℕ
+verdictValue (outside v) = v
+verdictValue (not-binary v) = v
+verdictValue (broken i) = i
+verdictValue (passed n) = n
+
+abbrev pub verdictInC : Answer Verdict → SepiaVerdict
+verdictInC (refused k) = record { refusal = k; verdict = 0; value = 0 }
+verdictInC (answered v) = record { refusal = 0; verdict = verdictNumber v; value = verdictValue v }
+
+abbrev pub VerdictFits : Answer Verdict → Type 0
+VerdictFits (refused k) = Unit {0}
+VerdictFits (answered v) = verdictValue v < 4294967296

@@ -3,8 +3,11 @@ ghost use mathlib.Core.Path.{_≡_};
 ghost use lib.ListN.{length};
 ghost use Rattle.rules.specs.Outcome.{result, buffer, readOutcome, evaluateOutcome, rowsOutcome, judgeOutcome};
 ghost use Rattle.answers.specs.Told.{told};
-ghost use Rattle.sepia.specs.Boundary.{inC, Fits};
+ghost use Rattle.judge.specs.Ruled.{ruled, verdictOf};
+ghost use Rattle.sepia.specs.Boundary.{inC, Fits, verdictNumber, verdictValue, verdictInC, VerdictFits};
 use answers::Answer;
+use judge::Ruling;
+use judge::Verdict;
 
 // A refusal's number, or 0 and the result.
 #[repr(C)]
@@ -60,4 +63,66 @@ pub extern "C" fn sepia_rows(table: &[u8], t: usize, m: usize, out: &mut [u8]) -
     ensures { λ _. ⌜ now (out .exit) ≡ buffer (rowsOutcome t m (now (table .entry)) (length (now (out .entry)))) (now (out .entry)) ⌝ }
 {
     plain(rows::write_rows(table, t, m, out))
+}
+
+// A refusal's number; or 0, the verdict's number and its value.
+#[repr(C)]
+pub struct SepiaVerdict {
+    pub refusal: u32,
+    pub verdict: u32,
+    pub value: u32,
+}
+
+fn verdict_number(verdict: Verdict) -> u32
+    ensures { λ r. ⌜ r ≡ verdictNumber (verdictOf verdict) ⌝ }
+{
+    match verdict {
+        Verdict::Outside(_) => 0,
+        Verdict::NotBinary(_) => 1,
+        Verdict::Broken(_) => 2,
+        Verdict::Passed(_) => 3,
+    }
+}
+
+fn verdict_value(verdict: Verdict) -> usize
+    ensures { λ r. ⌜ r ≡ verdictValue (verdictOf verdict) ⌝ }
+{
+    match verdict {
+        Verdict::Outside(v) => v,
+        Verdict::NotBinary(v) => v,
+        Verdict::Broken(i) => i,
+        Verdict::Passed(n) => n,
+    }
+}
+
+fn plain_verdict(ruling: Ruling) -> SepiaVerdict
+    requires { ⌜ VerdictFits (ruled ruling) ⌝ }
+    ensures { λ r. ⌜ r ≡ verdictInC (ruled ruling) ⌝ }
+{
+    match ruling {
+        Ruling::Refused(r) => SepiaVerdict {
+            refusal: answers::number(r),
+            verdict: 0,
+            value: 0,
+        },
+        Ruling::Judged(v) => SepiaVerdict {
+            refusal: 0,
+            verdict: verdict_number(v),
+            value: verdict_value(v) as u32,
+        },
+    }
+}
+
+// Judges a solver's figures.
+#[no_mangle]
+pub extern "C" fn sepia_judge(
+    table: &[u8],
+    t: usize,
+    m: usize,
+    figures: &[i32],
+    e: i32,
+) -> SepiaVerdict
+    ensures { λ r. ⌜ r ≡ verdictInC (judgeOutcome t m (now (table .entry)) (now (figures .entry)) e) ⌝ }
+{
+    plain_verdict(judge::judge(table, t, m, figures, e))
 }

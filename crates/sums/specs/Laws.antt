@@ -1,8 +1,8 @@
 -- Laws of the tests on figures and sums.
 use mathlib.Core.Path.{_≡_, refl, sym, ap₂, _∙_}
-use mathlib.Core.Bool.{true, false}
+use mathlib.Core.Bool.{Bool, true, false}
 use mathlib.Core.List.{List}
-use Prim.Native.Nat.{ℕ, suc}
+use Prim.Native.Nat.{ℕ, suc, _≤_}
 use native.Mathlib.Omega.{arith}
 use borrow.Author.Tests.{ltb-true}
 use lib.IntN.{ℤ, pos, negsuc, natAbs, _+ℤ_, _-ℤ_, _*ℤ_, +ℤ-idl, +ℤ-idr}
@@ -10,6 +10,7 @@ use lib.Signed.{ltZ}
 use Rattle.rules.specs.Quantities.{one}
 use Rattle.rules.specs.Rows.{valueAt, sumOf}
 use Rattle.rules.specs.Verdicts.{apart, isBroken}
+use Rattle.millionths.specs.Unit.{ofTruth}
 use Rattle.row.specs.declared.Relation.the-variants.{AtLeast, Equal}
 use Rattle.row.specs.declared.Term.{Term}
 use Rattle.row.specs.declared.Terms.{Terms}
@@ -25,6 +26,10 @@ size-below (negsuc n) e = +ℤ-idl (pos (suc n))
 pub size-above : (d : ℤ) → ltZ d (pos 0) ≡ false → d ≡ pos (natAbs d)
 size-above (pos n) e = refl
 size-above (negsuc n) e = let z : _≡_ {A = ℕ} 0 1 = cc in absurd (omega arith)
+
+pub truth-small : (b : Bool) → natAbs (ofTruth b .value) ≤ 1000000
+truth-small true = omega arith
+truth-small false = omega arith
 
 -- ---- a row's sum, term by term
 

@@ -11,6 +11,7 @@ ghost use lib.Signed.{ltZ};
 ghost use Rattle.rules.specs.Quantities as Quantities;
 ghost use Rattle.rules.specs.Rows.{valueAt, sumOf};
 ghost use Rattle.rules.specs.Verdicts.{apart, isOutside, isNotBinary, isBroken};
+ghost use Rattle.millionths.specs.Unit.{ofTruth};
 ghost use Rattle.row.specs.Meaning.{termsOf, rowOf};
 
 // Below −e or above one and e.
@@ -57,13 +58,23 @@ fn is_below(x: i64, b: i64) -> bool
     x < b
 }
 
-// More than e from both zero and one.
+// The figure of a truth.
+fn truth_figure(truth: bool) -> i64
+    ensures { λ r. ⌜ (r ≡ ofTruth truth .value) × (natAbs r ≤ 1000000) ⌝ }
+{
+    let figure = Millionths::from_truth(truth);
+    figure.value as i64
+}
+
+// More than e from the figures of both truths.
 pub fn is_not_binary(figure: i32, e: u16) -> bool
     ensures { λ r. ⌜ r ≡ isNotBinary e figure ⌝ }
 {
     let x = figure as i64;
-    if is_apart(e, Millionths::ZERO.value as i64, x) {
-        is_apart(e, Millionths::ONE.value as i64, x)
+    let zero = truth_figure(false);
+    let one = truth_figure(true);
+    if is_apart(e, zero, x) {
+        is_apart(e, one, x)
     } else {
         false
     }

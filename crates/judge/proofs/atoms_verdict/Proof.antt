@@ -1,46 +1,34 @@
+-- `judge::atoms_verdict` meets its contract. An atom that is not binary is found, or none. Assumes nothing.
 use mathlib.Core.Path.{sym, ap, _∙_}
+use borrow.Author.Needs.{needs}
 use Rattle.judge.specs.Searches.{found}
 use Rattle.judge.specs.Parts.{atoms-found, atoms-clear}
-use borrow.Author.Needs.{needs}
 use Rattle.judge.proofs.atoms_verdict.Statement.{statement}
 use Rattle.judge.proofs.atoms_verdict.Tie as tie
-use Rattle.judge.proofs.atoms_verdict.Reads as reads
-use Rattle.judge.proofs.atoms_verdict.Lts as lts
-use Rattle.judge.proofs.first_not_binary.Reads as first-not-binary-reads
-use Rattle.judge.proofs.rows_verdict.Reads as rows-verdict-reads
-use Rattle.row.proofs.place.Reads as place-reads
 
--- src/lib.rt:179:17
 place-requires : tie.Need-place-requires
 place-requires c κs = search needs
 
--- src/lib.rt:179:17
 cast-atoms : tie.Need-cast-atoms
 cast-atoms c = search needs
 
--- src/lib.rt:180:9
 first-not-binary-requires : tie.Need-first-not-binary-requires
 first-not-binary-requires c κs = search needs
 
--- src/lib.rt:182:19
 enum-known-binary : tie.Need-enum-known-binary
 enum-known-binary c = search needs
 
--- src/lib.rt:183:27
 enum-told : tie.Need-enum-told
 enum-told c = search needs
 
--- src/lib.rt:183:27
 rows-verdict-requires : tie.Need-rows-verdict-requires
 rows-verdict-requires c κs = search needs
 
--- src/lib.rt:175:1
 returns : tie.Need-returns
 returns c =
     let k = c .before .before .before in
     atoms-found _ _ _ _ _ _ _ (k .before .place .ensures .0) (sym (k .first-not-binary .ensures) ∙ ap found (c .before .binary .given .1))
 
--- src/lib.rt:175:1
 returns-2 : tie.Need-returns-2
 returns-2 c =
     let k = c .before .before .before in

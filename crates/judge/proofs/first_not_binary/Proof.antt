@@ -1,9 +1,10 @@
+-- `judge::first_not_binary` meets its contract. The loop's invariant: the search from here on finds what the whole search does. Assumes nothing.
 use mathlib.Core.Path.{_≡_, sym, ap, _∙_}
 use Prim.Native.Nat.{_≤_, _-_}
 use native.Mathlib.Omega.{arith}
 use borrow.Author.Needs.{needs}
 use lib.IntN.{pos}
-use lib.ListN.{length, getD}
+use lib.ListN.{getD}
 use mir.Syntax.{w32}
 use Rattle.lists.specs.First.{first}
 use Rattle.lists.specs.Scan.{scan-start, scan-found, scan-more, scan-over}
@@ -12,9 +13,6 @@ use Rattle.rules.specs.Verdicts.{isNotBinary}
 use Rattle.judge.specs.Parts.{notBinaryAt}
 use Rattle.judge.proofs.first_not_binary.Statement.{statement}
 use Rattle.judge.proofs.first_not_binary.Tie as tie
-use Rattle.judge.proofs.first_not_binary.Reads as reads
-use Rattle.judge.proofs.first_not_binary.Lts as lts
-use Rattle.sums.proofs.is_not_binary.Reads as is-not-binary-reads
 
 abbrev Inv-loop : tie.InvT-loop
 Inv-loop figures n e v₀ v = (v ≤ n) × (first (notBinaryAt e figures) (n - v) v ≡ first (notBinaryAt e figures) (n) 0)
@@ -27,45 +25,36 @@ test-is c =
     let a = c .before .before .before .before .args in
     c .is-not-binary .ensures ∙ ap (isNotBinary (a .e)) (told-back w32 (getD (a .figures .now) (c .before .before .before .loop .v) (pos 0)) (c .before .is-not-binary-arg .given))
 
--- src/lib.rt:72:5
 loop-holds : tie.Need-loop-holds Inv-loop μ-loop
 loop-holds c = (omega arith, scan-start _ _)
 
--- src/lib.rt:73:32
 mul-is-not-binary : tie.Need-mul-is-not-binary Inv-loop μ-loop
 mul-is-not-binary c = search needs
 
--- src/lib.rt:73:32
 shared-slice-copy-out-is-not-binary : tie.Need-shared-slice-copy-out-is-not-binary Inv-loop μ-loop
 shared-slice-copy-out-is-not-binary c = search needs
 
--- src/lib.rt:73:12
 is-not-binary-requires : tie.Need-is-not-binary-requires Inv-loop μ-loop
 is-not-binary-requires c κs = search needs
 
--- src/lib.rt:74:13
 returns : tie.Need-returns Inv-loop μ-loop
 returns c =
     let l = c .before .before .before .before in
     let a = l .before .args in
     sym (scan-found (notBinaryAt (a .e) (a .figures .now)) (a .n) (l .loop .v) (omega arith) (sym (test-is (c .before)) ∙ c .if1 .taken)) ∙ l .loop .inv .1
 
--- src/lib.rt:76:9
 add-v : tie.Need-add-v Inv-loop μ-loop
 add-v c = search needs
 
--- src/lib.rt:72:5
 loop-less : tie.Need-loop-less Inv-loop μ-loop
 loop-less c = search needs
 
--- src/lib.rt:72:5
 loop-again : tie.Need-loop-again Inv-loop μ-loop
 loop-again c =
     let l = c .before .before .before .before in
     let a = l .before .args in
     (omega arith, sym (scan-more (notBinaryAt (a .e) (a .figures .now)) (a .n) (l .loop .v) (omega arith) (sym (test-is (c .before)) ∙ c .if1 .left)) ∙ l .loop .inv .1)
 
--- src/lib.rt:67:1
 returns-2 : tie.Need-returns-2 Inv-loop μ-loop
 returns-2 c =
     let l = c .before in

@@ -1,34 +1,26 @@
+-- `judge::judge` meets its contract. By what the checks found. Assumes nothing.
 use mathlib.Core.Path.{refl, sym, ap, _∙_}
+use borrow.Author.Needs.{needs}
 use mir.Facts.{toZ-ofZ}
 use Rattle.table.specs.Checks.{ready}
 use Rattle.judge.specs.Ruled.{counted, judge-checked}
-use borrow.Author.Needs.{needs}
 use Rattle.judge.proofs.judge.Statement.{statement}
 use Rattle.judge.proofs.judge.Tie as tie
-use Rattle.judge.proofs.judge.Reads as reads
-use Rattle.judge.proofs.judge.Lts as lts
-use Rattle.judge.proofs.judge_checked.Reads as judge-checked-reads
-use Rattle.table.proofs.check.Reads as check-reads
 
--- src/lib.rt:231:9
 check-requires : tie.Need-check-requires
 check-requires c κs = search needs
 
--- src/lib.rt:233:26
 enum-known-checked : tie.Need-enum-known-checked
 enum-known-checked c = search needs
 
--- src/lib.rt:234:28
 enum-told : tie.Need-enum-told
 enum-told c = search needs
 
--- src/lib.rt:234:28
 judge-checked-requires : tie.Need-judge-checked-requires
 judge-checked-requires c κs =
     let k = c .before .before in
     ready _ _ _ (sym (k .check .ensures) ∙ c .enum-told .given .1)
 
--- src/lib.rt:228:1
 returns : tie.Need-returns
 returns c =
     let k = c .before .before .before in
@@ -37,7 +29,6 @@ returns c =
     let f = sym (k .check .ensures) ∙ c .before .checked .given .1 in
     rw (e, f) refl
 
--- src/lib.rt:228:1
 returns-2 : tie.Need-returns-2
 returns-2 c =
     let k = c .before .before .before in

@@ -1,39 +1,28 @@
+-- `judge::test_all` meets its contract. The nodes' rows, and then the goal row. Assumes nothing.
 use mathlib.Core.Path.{sym, ap, _∙_}
+use borrow.Author.Needs.{needs}
 use Rattle.rules.specs.TableTest.{nodesIn, length-nodesIn}
 use Rattle.rules.specs.Verdicts.{isBroken}
 use Rattle.judge.specs.Searches.{next}
 use Rattle.judge.specs.Parts.{all-tested}
-use borrow.Author.Needs.{needs}
 use Rattle.judge.proofs.test_all.Statement.{statement}
 use Rattle.judge.proofs.test_all.Tie as tie
-use Rattle.judge.proofs.test_all.Reads as reads
-use Rattle.judge.proofs.test_all.Lts as lts
-use Rattle.judge.proofs.test_nodes.Reads as test-nodes-reads
-use Rattle.judge.proofs.test_row.Reads as test-row-reads
-use Rattle.row.proofs.goal.Reads as goal-reads
-use Rattle.row.proofs.slack.Reads as slack-reads
 
--- src/lib.rt:158:9
 test-nodes-requires : tie.Need-test-nodes-requires
 test-nodes-requires c κs = search needs
 
--- src/lib.rt:159:49
 sub-slack : tie.Need-sub-slack
 sub-slack c = search needs
 
--- src/lib.rt:159:32
 slack-requires : tie.Need-slack-requires
 slack-requires c κs = search needs
 
--- src/lib.rt:159:22
 goal-requires : tie.Need-goal-requires
 goal-requires c κs = search needs
 
--- src/lib.rt:159:5
 test-row-requires : tie.Need-test-row-requires
 test-row-requires c κs = search needs
 
--- src/lib.rt:154:1
 returns : tie.Need-returns
 returns c =
     let k = c .before .before .before in

@@ -1,3 +1,4 @@
+-- `judge::test_node` meets its contract. The loop's invariant: the rows of the slots passed are tested. Assumes nothing.
 use mathlib.Core.Path.{_≡_, sym, ap, _∙_}
 use Prim.Native.Nat.{ℕ, _+_, _-_, _*_, _≤_}
 use native.Mathlib.Omega.{arith}
@@ -9,10 +10,6 @@ use Rattle.judge.specs.Searches.{tested, tested-start, tested-more, reac
 use Rattle.judge.specs.Parts.{slotRows, nodeRows}
 use Rattle.judge.proofs.test_node.Statement.{statement}
 use Rattle.judge.proofs.test_node.Tie as tie
-use Rattle.judge.proofs.test_node.Reads as reads
-use Rattle.judge.proofs.test_node.Lts as lts
-use Rattle.judge.proofs.test_rows.Reads as test-rows-reads
-use Rattle.row.proofs.slot_rows.Reads as slot-rows-reads
 
 abbrev Inv-loop : tie.InvT-loop
 Inv-loop kind t big p q figures e done₀ s₀ done s = (s ≤ t) × (done ≡ tested (isBroken e figures) done₀ (flat (slotRows kind t big p q) s)) × (reached done ≤ reached done₀ + 4 * s)
@@ -20,43 +17,33 @@ Inv-loop kind t big p q figures e done₀ s₀ done s = (s ≤ t) × (done ≡ t
 abbrev μ-loop : tie.MeasureT-loop
 μ-loop kind t big p q figures e done₀ s₀ done s = t - s
 
--- src/lib.rt:126:5
 loop-holds : tie.Need-loop-holds Inv-loop μ-loop
 loop-holds c = (omega arith, sym (tested-start _ _ _), omega arith)
 
--- src/lib.rt:127:41
 add-slot-rows : tie.Need-add-slot-rows Inv-loop μ-loop
 add-slot-rows c = search needs
 
--- src/lib.rt:127:52
 add-slot-rows-2 : tie.Need-add-slot-rows-2 Inv-loop μ-loop
 add-slot-rows-2 c = search needs
 
--- src/lib.rt:127:61
 add-slot-rows-3 : tie.Need-add-slot-rows-3 Inv-loop μ-loop
 add-slot-rows-3 c = search needs
 
--- src/lib.rt:127:68
 add-slot-rows-4 : tie.Need-add-slot-rows-4 Inv-loop μ-loop
 add-slot-rows-4 c = search needs
 
--- src/lib.rt:127:13
 slot-rows-requires : tie.Need-slot-rows-requires Inv-loop μ-loop
 slot-rows-requires c κs = search needs
 
--- src/lib.rt:128:9
 test-rows-requires : tie.Need-test-rows-requires Inv-loop μ-loop
 test-rows-requires c κs = omega arith
 
--- src/lib.rt:129:9
 add-s : tie.Need-add-s Inv-loop μ-loop
 add-s c = search needs
 
--- src/lib.rt:126:5
 loop-less : tie.Need-loop-less Inv-loop μ-loop
 loop-less c = search needs
 
--- src/lib.rt:126:5
 loop-again : tie.Need-loop-again Inv-loop μ-loop
 loop-again c =
     let l = c .before .before .before in
@@ -69,7 +56,6 @@ loop-again c =
       omega (arith, c .test-rows .ensures .1),
     )
 
--- src/lib.rt:120:1
 returns : tie.Need-returns Inv-loop μ-loop
 unfolding nodeRows
 returns c =

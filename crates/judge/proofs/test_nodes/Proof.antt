@@ -1,3 +1,4 @@
+-- `judge::test_nodes` meets its contract. The loop's invariant: the rows of the nodes passed are tested. Assumes nothing.
 use mathlib.Core.Path.{_≡_, sym, ap, _∙_}
 use Prim.Native.Nat.{ℕ, _-_, _*_, _≤_}
 use native.Mathlib.Omega.{arith}
@@ -11,12 +12,6 @@ use Rattle.judge.specs.Searches.{tested, tested-start, tested-more, reac
 use Rattle.judge.specs.Parts.{nodeRows, partRows, rowsTo, node-part}
 use Rattle.judge.proofs.test_nodes.Statement.{statement}
 use Rattle.judge.proofs.test_nodes.Tie as tie
-use Rattle.judge.proofs.test_nodes.Reads as reads
-use Rattle.judge.proofs.test_nodes.Lts as lts
-use Rattle.judge.proofs.test_node.Reads as test-node-reads
-use Rattle.row.proofs.left_part.Reads as left-part-reads
-use Rattle.row.proofs.place.Reads as place-reads
-use Rattle.table.proofs.node_at.Reads as node-at-reads
 
 abbrev Inv-loop : tie.InvT-loop
 Inv-loop table n t m figures e done₀ i₀ done i = (i ≤ n) × (done ≡ tested (isBroken e figures) (Clear 0) (flat (partRows t m (nodesIn table)) i)) × (reached done ≤ 256 * i)
@@ -24,39 +19,30 @@ Inv-loop table n t m figures e done₀ i₀ done i = (i ≤ n) × (done ≡ test
 abbrev μ-loop : tie.MeasureT-loop
 μ-loop table n t m figures e done₀ i₀ done i = n - i
 
--- src/lib.rt:141:5
 loop-holds : tie.Need-loop-holds Inv-loop μ-loop
 loop-holds c = (omega arith, sym (tested-start _ _ _), omega (arith, reached-start))
 
--- src/lib.rt:142:13
 node-at-requires : tie.Need-node-at-requires Inv-loop μ-loop
 node-at-requires c κs = search needs
 
--- src/lib.rt:144:30
 add-place : tie.Need-add-place Inv-loop μ-loop
 add-place c = search needs
 
--- src/lib.rt:144:13
 place-requires : tie.Need-place-requires Inv-loop μ-loop
 place-requires c κs = search needs
 
--- src/lib.rt:145:28
 left-part-requires : tie.Need-left-part-requires Inv-loop μ-loop
 left-part-requires c κs = search needs
 
--- src/lib.rt:145:13
 place-requires-2 : tie.Need-place-requires-2 Inv-loop μ-loop
 place-requires-2 c κs = search needs
 
--- src/lib.rt:146:28
 add-place-2 : tie.Need-add-place-2 Inv-loop μ-loop
 add-place-2 c = search needs
 
--- src/lib.rt:146:13
 place-requires-3 : tie.Need-place-requires-3 Inv-loop μ-loop
 place-requires-3 c κs = search needs
 
--- src/lib.rt:147:38
 cast-test-node : tie.Need-cast-test-node Inv-loop μ-loop
 cast-test-node c = search needs
 
@@ -71,19 +57,15 @@ part c =
     node-part (a .t) (a .m) (nodesIn (a .table .now)) (nd .before .before .loop .i) (nd .node-at .result .kind) (nd .node-at .result .left) (nd .node-at .result .right)
     (nd .node-at .ensures .is) (two .before .before .place .ensures .0) (two .place2 .ensures .0 ∙ ap (λ (x : ℕ). x * a .t) (two .before .left-part .ensures .0)) (c .place3 .ensures .0)
 
--- src/lib.rt:147:9
 test-node-requires : tie.Need-test-node-requires Inv-loop μ-loop
 test-node-requires c κs = omega arith
 
--- src/lib.rt:148:9
 add-i : tie.Need-add-i Inv-loop μ-loop
 add-i c = search needs
 
--- src/lib.rt:141:5
 loop-less : tie.Need-loop-less Inv-loop μ-loop
 loop-less c = search needs
 
--- src/lib.rt:141:5
 loop-again : tie.Need-loop-again Inv-loop μ-loop
 loop-again c =
     let turn = c .before .before .before .before .before .before .before in
@@ -98,7 +80,6 @@ loop-again c =
       omega (arith, c .test-node .ensures .1),
     )
 
--- src/lib.rt:135:1
 returns : tie.Need-returns Inv-loop μ-loop
 unfolding rowsTo
 returns c =

@@ -1,61 +1,46 @@
+-- `judge::test_rows` meets its contract. By the number of rows. Assumes nothing.
 use native.Mathlib.Omega.{arith}
-use Rattle.judge.specs.Searches.{one-tested, three-tested, four-tested}
 use borrow.Author.Needs.{needs}
+use Rattle.judge.specs.Searches.{one-tested, three-tested, four-tested}
 use Rattle.judge.proofs.test_rows.Statement.{statement}
 use Rattle.judge.proofs.test_rows.Tie as tie
-use Rattle.judge.proofs.test_rows.Reads as reads
-use Rattle.judge.proofs.test_rows.Lts as lts
-use Rattle.judge.proofs.test_row.Reads as test-row-reads
 
--- src/lib.rt:104:19
 enum-known-rows : tie.Need-enum-known-rows
 enum-known-rows c = search needs
 
--- src/lib.rt:104:25
 test-row-requires : tie.Need-test-row-requires
 test-row-requires c κs = search needs
 
--- src/lib.rt:105:21
 enum-known-rows-2 : tie.Need-enum-known-rows-2
 enum-known-rows-2 c = search needs
 
--- src/lib.rt:106:17
 test-row-requires-2 : tie.Need-test-row-requires-2
 test-row-requires-2 c κs = search needs
 
--- src/lib.rt:107:17
 test-row-requires-3 : tie.Need-test-row-requires-3
 test-row-requires-3 c κs = search needs
 
--- src/lib.rt:108:13
 test-row-requires-4 : tie.Need-test-row-requires-4
 test-row-requires-4 c κs = search needs
 
--- src/lib.rt:110:20
 enum-known-rows-3 : tie.Need-enum-known-rows-3
 enum-known-rows-3 c = search needs
 
--- src/lib.rt:111:17
 test-row-requires-5 : tie.Need-test-row-requires-5
 test-row-requires-5 c κs = search needs
 
--- src/lib.rt:112:17
 test-row-requires-6 : tie.Need-test-row-requires-6
 test-row-requires-6 c κs = search needs
 
--- src/lib.rt:113:17
 test-row-requires-7 : tie.Need-test-row-requires-7
 test-row-requires-7 c κs = search needs
 
--- src/lib.rt:114:13
 test-row-requires-8 : tie.Need-test-row-requires-8
 test-row-requires-8 c κs = search needs
 
--- src/lib.rt:99:1
 returns : tie.Need-returns
 returns c = (one-tested _ _ _ (c .before .before .rows .given .1) (c .test-row .ensures), omega (arith, c .test-row .ensures .by-one))
 
--- src/lib.rt:99:1
 returns-2 : tie.Need-returns-2
 returns-2 c =
     let p = c .before .before .test-row2 .ensures in
@@ -63,7 +48,6 @@ returns-2 c =
     let r = c .test-row4 .ensures in
     (three-tested _ _ _ (c .before .before .before .before .rows2 .given .1) p q r, omega (arith, p .by-one, q .by-one, r .by-one))
 
--- src/lib.rt:99:1
 returns-3 : tie.Need-returns-3
 returns-3 c =
     let p = c .before .before .before .test-row5 .ensures in

@@ -1,5 +1,7 @@
+-- `record::put_row` meets its contract. By the number of terms. Assumes nothing.
 use mathlib.Core.Path.{_≡_, ap, _∙_}
 use Prim.Native.Nat.{ℕ}
+use borrow.Author.Needs.{needs}
 use mir.Syntax.{w8}
 use mir.Val.{SFits, toZ, ofZ}
 use mir.Facts.{toZ-ofZ}
@@ -7,93 +9,66 @@ use Rattle.lists.specs.Filling.{splice-as}
 use Rattle.rules.specs.Rows.{signedByte}
 use Rattle.row.specs.declared.Row.{Row}
 use Rattle.record.specs.Records.{recordOf, single-bytes, pair-bytes, triple-bytes}
-use borrow.Author.Needs.{needs}
 use Rattle.record.proofs.put_row.Statement.{statement}
 use Rattle.record.proofs.put_row.Tie as tie
-use Rattle.record.proofs.put_row.Reads as reads
-use Rattle.record.proofs.put_row.Lts as lts
-use Rattle.record.proofs.pack.Reads as pack-reads
-use Rattle.record.proofs.put_record.Reads as put-record-reads
-use Rattle.record.proofs.relation_byte.Reads as relation-byte-reads
-use Rattle.record.proofs.signed_byte.Reads as signed-byte-reads
-use Rattle.record.proofs.unused.Reads as unused-reads
 
 right-is : (row : Row) (b : ℕ) → b ≡ signedByte (toZ w8 (ofZ w8 (row .right))) → SFits w8 (row .right) → b ≡ signedByte (row .right)
 right-is row b e f = e ∙ ap signedByte (toZ-ofZ f)
 
--- src/lib.rt:308:9
 relation-byte-requires : tie.Need-relation-byte-requires
 relation-byte-requires c κs = search needs
 
--- src/lib.rt:309:9
 signed-byte-requires : tie.Need-signed-byte-requires
 signed-byte-requires c κs = search needs
 
--- src/lib.rt:312:23
 enum-known-terms : tie.Need-enum-known-terms
 enum-known-terms c = search needs
 
--- src/lib.rt:312:69
 pack-requires : tie.Need-pack-requires
 pack-requires c κs = search needs
 
--- src/lib.rt:312:78
 unused-requires : tie.Need-unused-requires
 unused-requires c κs = search needs
 
--- src/lib.rt:312:88
 unused-requires-2 : tie.Need-unused-requires-2
 unused-requires-2 c κs = search needs
 
--- src/lib.rt:312:29
 put-record-requires : tie.Need-put-record-requires
 put-record-requires c κs = search needs
 
--- src/lib.rt:313:21
 enum-known-terms-2 : tie.Need-enum-known-terms-2
 enum-known-terms-2 c = search needs
 
--- src/lib.rt:313:70
 pack-requires-2 : tie.Need-pack-requires-2
 pack-requires-2 c κs = search needs
 
--- src/lib.rt:313:79
 pack-requires-3 : tie.Need-pack-requires-3
 pack-requires-3 c κs = search needs
 
--- src/lib.rt:313:88
 unused-requires-3 : tie.Need-unused-requires-3
 unused-requires-3 c κs = search needs
 
--- src/lib.rt:313:30
 put-record-requires-2 : tie.Need-put-record-requires-2
 put-record-requires-2 c κs = search needs
 
--- src/lib.rt:314:23
 enum-known-terms-3 : tie.Need-enum-known-terms-3
 enum-known-terms-3 c = search needs
 
--- src/lib.rt:314:75
 pack-requires-4 : tie.Need-pack-requires-4
 pack-requires-4 c κs = search needs
 
--- src/lib.rt:314:84
 pack-requires-5 : tie.Need-pack-requires-5
 pack-requires-5 c κs = search needs
 
--- src/lib.rt:314:93
 pack-requires-6 : tie.Need-pack-requires-6
 pack-requires-6 c κs = search needs
 
--- src/lib.rt:314:35
 put-record-requires-3 : tie.Need-put-record-requires-3
 put-record-requires-3 c κs = search needs
 
--- src/lib.rt:303:1
 same-length : tie.Need-same-length
 same-length c = search needs
 
--- src/lib.rt:303:1
 returns : tie.Need-returns
 unfolding recordOf
 returns c =
@@ -106,11 +81,9 @@ returns c =
           (single-bytes row _ _ _ (s .before .before .relation-byte .ensures) (right-is row _ (s .signed-byte .ensures) (search needs)) (t .terms .given .1) (u .before .before .before .pack .ensures) (u .before .before .unused .ensures) (u .before .unused2 .ensures)),
     )
 
--- src/lib.rt:303:1
 same-length-2 : tie.Need-same-length-2
 same-length-2 c = search needs
 
--- src/lib.rt:303:1
 returns-2 : tie.Need-returns-2
 unfolding recordOf
 returns-2 c =
@@ -123,11 +96,9 @@ returns-2 c =
           (pair-bytes row _ _ _ (s .before .before .relation-byte .ensures) (right-is row _ (s .signed-byte .ensures) (search needs)) (t .terms2 .given .1) (u .before .before .before .pack2 .ensures) (u .before .before .pack3 .ensures) (u .before .unused3 .ensures)),
     )
 
--- src/lib.rt:303:1
 same-length-3 : tie.Need-same-length-3
 same-length-3 c = search needs
 
--- src/lib.rt:303:1
 returns-3 : tie.Need-returns-3
 unfolding recordOf
 returns-3 c =

@@ -1,102 +1,83 @@
-use native.Mathlib.Omega.{arith}
-use Rattle.record.specs.Records.{length-record, one-record, three-records, four-records, length-one, length-three, length-four}
-use Rattle.lists.specs.Filling.{splice-as, splice-then}
+-- `record::put_rows` meets its contract. By the number of rows, each record straight after the last. Assumes nothing.
 use mathlib.Core.Path.{sym}
-use lib.ListN.{length-append}
+use native.Mathlib.Omega.{arith}
 use borrow.Author.Needs.{needs}
+use lib.ListN.{length-append}
+use Rattle.lists.specs.Filling.{splice-as, splice-then}
+use Rattle.record.specs.Records.{length-record, one-record, three-records, four-records, length-one, length-three, length-four}
 use Rattle.record.proofs.put_rows.Statement.{statement}
 use Rattle.record.proofs.put_rows.Tie as tie
-use Rattle.record.proofs.put_rows.Reads as reads
-use Rattle.record.proofs.put_rows.Lts as lts
-use Rattle.record.proofs.put_row.Reads as put-row-reads
 
--- src/lib.rt:379:19
 enum-known-rows : tie.Need-enum-known-rows
 enum-known-rows c = search needs
 
--- src/lib.rt:379:25
 put-row-requires : tie.Need-put-row-requires
 put-row-requires c κs =
     let t = c .before .before in
     omega (arith, rw (t .rows .given .1, length-one) at (t .before .before .before .pre))
 
--- src/lib.rt:380:21
 enum-known-rows-2 : tie.Need-enum-known-rows-2
 enum-known-rows-2 c = search needs
 
--- src/lib.rt:381:17
 put-row-requires-2 : tie.Need-put-row-requires-2
 put-row-requires-2 c κs =
     let t = c .before .before in
     omega (arith, rw (t .rows2 .given .1, length-three) at (t .before .before .before .pre))
 
--- src/lib.rt:382:17
 put-row-requires-3 : tie.Need-put-row-requires-3
 put-row-requires-3 c κs =
     let t = c .before .before .before .before .before .before in
     omega (arith, rw (t .rows2 .given .1, length-three) at (t .before .before .before .pre))
 
--- src/lib.rt:383:13
 put-row-requires-4 : tie.Need-put-row-requires-4
 put-row-requires-4 c κs =
     let t = c .before .before .before .before .before .before .before .before .before .before in
     omega (arith, rw (t .rows2 .given .1, length-three) at (t .before .before .before .pre))
 
--- src/lib.rt:385:20
 enum-known-rows-3 : tie.Need-enum-known-rows-3
 enum-known-rows-3 c = search needs
 
--- src/lib.rt:386:17
 put-row-requires-5 : tie.Need-put-row-requires-5
 put-row-requires-5 c κs =
     let t = c .before .before in
     omega (arith, rw (t .rows3 .given .1, length-four) at (t .before .before .before .pre))
 
--- src/lib.rt:387:17
 put-row-requires-6 : tie.Need-put-row-requires-6
 put-row-requires-6 c κs =
     let t = c .before .before .before .before .before .before in
     omega (arith, rw (t .rows3 .given .1, length-four) at (t .before .before .before .pre))
 
--- src/lib.rt:388:17
 put-row-requires-7 : tie.Need-put-row-requires-7
 put-row-requires-7 c κs =
     let t = c .before .before .before .before .before .before .before .before .before .before in
     omega (arith, rw (t .rows3 .given .1, length-four) at (t .before .before .before .pre))
 
--- src/lib.rt:389:13
 put-row-requires-8 : tie.Need-put-row-requires-8
 put-row-requires-8 c κs =
     let t = c .before .before .before .before .before .before .before .before .before .before .before .before .before .before in
     omega (arith, rw (t .rows3 .given .1, length-four) at (t .before .before .before .pre))
 
--- src/lib.rt:374:1
 same-length : tie.Need-same-length
 same-length c = search needs
 
--- src/lib.rt:374:1
 returns : tie.Need-returns
 returns c =
     let t = c .before .before .before .before .before in
     let h = rw (t .rows .given .1, length-one) at (t .before .before .before .pre) in
     rw (t .rows .given .1) (rw length-one (omega arith), splice-as _ _ (c .before .before .put-row .ensures .1) (sym (one-record _)))
 
--- src/lib.rt:374:1
 same-length-2 : tie.Need-same-length-2
 same-length-2 c = search needs
 
--- src/lib.rt:374:1
 returns-2 : tie.Need-returns-2
 returns-2 c =
     let t = c .before .before .before .before .before .before .before .before .before .before .before .before .before in
     let h = rw (t .rows2 .given .1, length-three) at (t .before .before .before .pre) in
     rw (t .rows2 .given .1) (rw length-three (omega arith), splice-as _ _ (splice-then _ _ _ _ _ _ _ (splice-then _ _ _ _ _ _ _ (c .before .before .before .before .before .before .before .before .before .before .put-row2 .ensures .1) (c .before .before .before .before .before .before .put-row3 .ensures .1) (simp (length-append, length-record) (omega arith)) (omega arith)) (c .before .before .put-row4 .ensures .1) (simp (length-append, length-record) (omega arith)) (omega arith)) (sym (three-records _ _ _)))
 
--- src/lib.rt:374:1
 same-length-3 : tie.Need-same-length-3
 same-length-3 c = search needs
 
--- src/lib.rt:374:1
 returns-3 : tie.Need-returns-3
 returns-3 c =
     let t = c .before .before .before .before .before .before .before .before .before .before .before .before .before .before .before .before .before in

@@ -1,4 +1,4 @@
--- Below 0 the byte is 256 more, and else the number itself.
+-- `record::signed_byte` meets its contract. Below 0 the byte is 256 more, and else the number itself. Assumes nothing.
 use mathlib.Core.Path.{_≡_, sym, ap, _∙_, subst⁻¹}
 use native.Mathlib.Omega.{arith}
 use lib.Dec.{T}

@@ -1,20 +1,16 @@
+-- `row::place` meets its contract. The product is bounded by those of the bounds. Assumes nothing.
 use mathlib.Core.Path.{refl}
 use native.Mathlib.Nat.{mul-le-mul}
 use native.Mathlib.Omega.{arith}
 use Rattle.row.proofs.place.Statement.{statement}
 use Rattle.row.proofs.place.Tie as tie
-use Rattle.row.proofs.place.Reads as reads
-use Rattle.row.proofs.place.Lts as lts
 
--- src/lib.rt:24:6
 mul-result : tie.Need-mul-result
 mul-result c = omega (arith, mul-le-mul (c .pre .0) (c .pre .1))
 
--- src/lib.rt:24:5
 cast-result : tie.Need-cast-result
 cast-result c = omega (arith, mul-le-mul (c .pre .0) (c .pre .1))
 
--- src/lib.rt:20:1
 returns : tie.Need-returns
 returns c = (refl, mul-le-mul (c .pre .0) (c .pre .1))
 

@@ -1,3 +1,4 @@
+-- `rows::count_nodes` meets its contract. The loop's invariant: the sum is the number of rows of the nodes passed. Assumes nothing.
 use mathlib.Core.Path.{_≡_, sym, ap, ap₂, _∙_}
 use Prim.Native.Nat.{ℕ, _+_, _-_, _*_, _≤_}
 use native.Mathlib.Omega.{arith}
@@ -6,10 +7,6 @@ use Rattle.rules.specs.TableTest.{nodesIn}
 use Rattle.rows.specs.Parts.{countTo, count-none, count-more}
 use Rattle.rows.proofs.count_nodes.Statement.{statement}
 use Rattle.rows.proofs.count_nodes.Tie as tie
-use Rattle.rows.proofs.count_nodes.Reads as reads
-use Rattle.rows.proofs.count_nodes.Lts as lts
-use Rattle.rows.proofs.node_count.Reads as node-count-reads
-use Rattle.table.proofs.node_at.Reads as node-at-reads
 
 abbrev Inv-loop : tie.InvT-loop
 Inv-loop table n t sum₀ i₀ sum i = (i ≤ n) × ((M : ℕ) → sum ≡ countTo t M (nodesIn table) i) × (sum ≤ 256 * i)
@@ -17,31 +14,24 @@ Inv-loop table n t sum₀ i₀ sum i = (i ≤ n) × ((M : ℕ) → sum ≡ count
 abbrev μ-loop : tie.MeasureT-loop
 μ-loop table n t sum₀ i₀ sum i = n - i
 
--- src/lib.rt:103:5
 loop-holds : tie.Need-loop-holds Inv-loop μ-loop
 loop-holds c = (omega arith, λ M. sym (count-none _ M _), omega arith)
 
--- src/lib.rt:104:13
 node-at-requires : tie.Need-node-at-requires Inv-loop μ-loop
 node-at-requires c κs = search needs
 
--- src/lib.rt:106:16
 node-count-requires : tie.Need-node-count-requires Inv-loop μ-loop
 node-count-requires c κs = search needs
 
--- src/lib.rt:106:9
 add-sum : tie.Need-add-sum Inv-loop μ-loop
 add-sum c = search needs
 
--- src/lib.rt:107:9
 add-i : tie.Need-add-i Inv-loop μ-loop
 add-i c = search needs
 
--- src/lib.rt:103:5
 loop-less : tie.Need-loop-less Inv-loop μ-loop
 loop-less c = search needs
 
--- src/lib.rt:103:5
 loop-again : tie.Need-loop-again Inv-loop μ-loop
 loop-again c =
     let l = c .before .before .before in
@@ -53,7 +43,6 @@ loop-again c =
       omega arith,
     )
 
--- src/lib.rt:97:1
 returns : tie.Need-returns Inv-loop μ-loop
 returns c =
     let a = c .before .before .before in

@@ -1,36 +1,27 @@
+-- `rows::node_count` meets its contract. All slots but the last, and the last. Assumes nothing.
 use mathlib.Core.Path.{ap, ap₂, _∙_}
 use Prim.Native.Nat.{ℕ, _+_, _-_, _*_}
 use native.Mathlib.Omega.{arith}
-use Rattle.row.specs.Kinds.{nodeCount}
 use borrow.Author.Needs.{needs}
+use Rattle.row.specs.Kinds.{nodeCount}
 use Rattle.rows.proofs.node_count.Statement.{statement}
 use Rattle.rows.proofs.node_count.Tie as tie
-use Rattle.rows.proofs.node_count.Reads as reads
-use Rattle.rows.proofs.node_count.Lts as lts
-use Rattle.row.proofs.slot_count.Reads as slot-count-reads
-use Rattle.rows.proofs.times.Reads as times-reads
 
--- src/lib.rt:93:11
 sub-times : tie.Need-sub-times
 sub-times c = search needs
 
--- src/lib.rt:93:18
 slot-count-requires : tie.Need-slot-count-requires
 slot-count-requires c κs = search needs
 
--- src/lib.rt:93:5
 times-requires : tie.Need-times-requires
 times-requires c κs = search needs
 
--- src/lib.rt:93:49
 slot-count-requires-2 : tie.Need-slot-count-requires-2
 slot-count-requires-2 c κs = search needs
 
--- src/lib.rt:93:5
 add-result : tie.Need-add-result
 add-result c = search needs
 
--- src/lib.rt:89:1
 returns : tie.Need-returns
 unfolding nodeCount
 returns c = (

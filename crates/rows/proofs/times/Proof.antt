@@ -1,16 +1,13 @@
+-- `rows::times` meets its contract. The product is bounded by that of the bounds. Assumes nothing.
 use mathlib.Core.Path.{refl}
 use native.Mathlib.Nat.{mul-le-mul}
 use native.Mathlib.Omega.{arith}
 use Rattle.rows.proofs.times.Statement.{statement}
 use Rattle.rows.proofs.times.Tie as tie
-use Rattle.rows.proofs.times.Reads as reads
-use Rattle.rows.proofs.times.Lts as lts
 
--- src/lib.rt:85:5
 mul-result : tie.Need-mul-result
 mul-result c = omega (arith, mul-le-mul (c .pre .0) (c .pre .1))
 
--- src/lib.rt:81:1
 returns : tie.Need-returns
 returns c = (refl, mul-le-mul (c .pre .0) (c .pre .1))
 

@@ -1,21 +1,17 @@
+-- `rows::write_all` meets its contract. The nodes' rows, and the goal row straight after them. Assumes nothing.
 use mathlib.Core.Path.{_≡_, sym, ap, _∙_}
 use mathlib.Core.List.{List, _++_}
 use Prim.Native.Nat.{ℕ, _+_, _*_}
 use native.Mathlib.Omega.{arith}
+use borrow.Author.Needs.{needs}
 use lib.ListN.{length}
 use Rattle.lists.specs.Filling.{splice-as, splice-then}
 use Rattle.rules.specs.Rows.{rowsOf}
 use Rattle.rules.specs.TableTest.{nodesIn, length-nodesIn}
 use Rattle.record.specs.Records.{recordOf, record-is}
 use Rattle.rows.specs.Parts.{nodesBytes, before-goal, bytes-are, goal-is}
-use borrow.Author.Needs.{needs}
 use Rattle.rows.proofs.write_all.Statement.{statement}
 use Rattle.rows.proofs.write_all.Tie as tie
-use Rattle.rows.proofs.write_all.Reads as reads
-use Rattle.rows.proofs.write_all.Lts as lts
-use Rattle.record.proofs.put_row.Reads as put-row-reads
-use Rattle.row.proofs.goal.Reads as goal-reads
-use Rattle.rows.proofs.write_nodes.Reads as write-nodes-reads
 
 nodes-are : (c : tie.Start) → length (nodesIn (c .args .table .now)) ≡ c .args .n
 nodes-are c = length-nodesIn (c .args .m) (c .args .table .now) ∙ sym (c .pre .0 .1)
@@ -23,37 +19,30 @@ nodes-are c = length-nodesIn (c .args .m) (c .args .table .now) ∙ sym (c .pre 
 goal-place : (c : tie.Start) → length (nodesBytes (c .args .t) (c .args .m) (nodesIn (c .args .table .now)) (c .args .n)) + 14 ≡ 14 * length (rowsOf (c .args .t) (c .args .m) (nodesIn (c .args .table .now)))
 goal-place c = before-goal (c .args .t) (c .args .m) (nodesIn (c .args .table .now)) (c .args .n) (nodes-are c)
 
--- src/lib.rt:127:9
 write-nodes-requires : tie.Need-write-nodes-requires
 write-nodes-requires c κs =
     let a = c .before .before .before in
     let g = goal-place a in
     (omega (arith, a .pre .0 .0 .slots-high, a .pre .0 .0 .atoms-high, a .pre .0 .0 .few-nodes, a .pre .0 .1), omega (arith, a .pre .1))
 
--- src/lib.rt:128:54
 sub-slack : tie.Need-sub-slack
 sub-slack c = search needs
 
--- src/lib.rt:128:42
 slack-requires : tie.Need-slack-requires
 slack-requires c κs = search needs
 
--- src/lib.rt:128:32
 goal-requires : tie.Need-goal-requires
 goal-requires c κs = search needs
 
--- src/lib.rt:128:5
 put-row-requires : tie.Need-put-row-requires
 put-row-requires c κs =
     let a = c .before .before .before .before .before .before .before .before .before in
     let g = goal-place a in
     omega (arith, a .pre .1)
 
--- src/lib.rt:122:1
 same-length : tie.Need-same-length
 same-length c = search needs
 
--- src/lib.rt:122:1
 returns : tie.Need-returns
 returns c =
     let w = c .before .before .before .before .before .before .before .before in

@@ -1,3 +1,4 @@
+-- `rows::write_node` meets its contract. The loop's invariant: the rows of the slots passed are written. Assumes nothing.
 use Prim.Native.Nat.{_≤_, _-_}
 use native.Mathlib.Omega.{arith}
 use borrow.Author.Needs.{needs}
@@ -6,10 +7,6 @@ use Rattle.record.specs.Records.{records-are}
 use Rattle.rows.specs.Parts.{slotBytes, nodeBytes}
 use Rattle.rows.proofs.write_node.Statement.{statement}
 use Rattle.rows.proofs.write_node.Tie as tie
-use Rattle.rows.proofs.write_node.Reads as reads
-use Rattle.rows.proofs.write_node.Lts as lts
-use Rattle.record.proofs.put_rows.Reads as put-rows-reads
-use Rattle.row.proofs.slot_rows.Reads as slot-rows-reads
 
 abbrev Inv-loop : tie.InvT-loop
 Inv-loop out₀ at kind t big p q next₀ s₀ out next s = (s ≤ t) × Filled at (slotBytes kind t big p q) out₀ s out next
@@ -17,31 +14,24 @@ Inv-loop out₀ at kind t big p q next₀ s₀ out next s = (s ≤ t) × Filled 
 abbrev μ-loop : tie.MeasureT-loop
 μ-loop out₀ at kind t big p q next₀ s₀ out next s = t - s
 
--- src/lib.rt:53:5
 loop-holds : tie.Need-loop-holds Inv-loop μ-loop
 loop-holds c = (omega arith, filled-none _ _ _)
 
--- src/lib.rt:54:41
 add-slot-rows : tie.Need-add-slot-rows Inv-loop μ-loop
 add-slot-rows c = search needs
 
--- src/lib.rt:54:52
 add-slot-rows-2 : tie.Need-add-slot-rows-2 Inv-loop μ-loop
 add-slot-rows-2 c = search needs
 
--- src/lib.rt:54:61
 add-slot-rows-3 : tie.Need-add-slot-rows-3 Inv-loop μ-loop
 add-slot-rows-3 c = search needs
 
--- src/lib.rt:54:68
 add-slot-rows-4 : tie.Need-add-slot-rows-4 Inv-loop μ-loop
 add-slot-rows-4 c = search needs
 
--- src/lib.rt:54:13
 slot-rows-requires : tie.Need-slot-rows-requires Inv-loop μ-loop
 slot-rows-requires c κs = search needs
 
--- src/lib.rt:55:9
 put-rows-requires : tie.Need-put-rows-requires Inv-loop μ-loop
 unfolding nodeBytes
 put-rows-requires c κs =
@@ -49,15 +39,12 @@ put-rows-requires c κs =
     let a = l .before .before in
     rw (records-are (c .before .slot-rows .result) (c .before .slot-rows .ensures)) (filled-room (l .loop .inv .1) (a .args .t) (omega arith) (a .pre .1))
 
--- src/lib.rt:56:9
 add-s : tie.Need-add-s Inv-loop μ-loop
 add-s c = search needs
 
--- src/lib.rt:53:5
 loop-less : tie.Need-loop-less Inv-loop μ-loop
 loop-less c = search needs
 
--- src/lib.rt:53:5
 loop-again : tie.Need-loop-again Inv-loop μ-loop
 unfolding nodeBytes
 loop-again c =
@@ -69,11 +56,9 @@ loop-again c =
       filled-more (l .loop .inv .1) (a .args .t) (omega arith) (a .pre .1) _ _ (rw e at (p .put-rows .ensures .1)) (rw e at (p .put-rows .ensures .0)) (omega arith),
     )
 
--- src/lib.rt:46:1
 same-length : tie.Need-same-length Inv-loop μ-loop
 same-length c = search needs
 
--- src/lib.rt:46:1
 returns : tie.Need-returns Inv-loop μ-loop
 unfolding nodeBytes
 returns c = filled-all (c .before .loop .inv .1) (c .before .before .before .args .t) (omega arith)

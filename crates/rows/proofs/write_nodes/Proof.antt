@@ -1,3 +1,4 @@
+-- `rows::write_nodes` meets its contract. The loop's invariant: the rows of the nodes passed are written. Assumes nothing.
 use mathlib.Core.Path.{_≡_, ap, _∙_}
 use Prim.Native.Nat.{ℕ, _≤_, _<_, _-_, _*_}
 use native.Mathlib.Omega.{arith}
@@ -7,12 +8,6 @@ use Rattle.rules.specs.TableTest.{nodesIn}
 use Rattle.rows.specs.Parts.{nodeBytes, nodesBytes, partBytes, node-part}
 use Rattle.rows.proofs.write_nodes.Statement.{statement}
 use Rattle.rows.proofs.write_nodes.Tie as tie
-use Rattle.rows.proofs.write_nodes.Reads as reads
-use Rattle.rows.proofs.write_nodes.Lts as lts
-use Rattle.row.proofs.left_part.Reads as left-part-reads
-use Rattle.row.proofs.place.Reads as place-reads
-use Rattle.rows.proofs.write_node.Reads as write-node-reads
-use Rattle.table.proofs.node_at.Reads as node-at-reads
 
 abbrev Inv-loop : tie.InvT-loop
 Inv-loop table n t m out₀ next₀ i₀ out next i = (i ≤ n) × Filled 0 (partBytes t m (nodesIn table)) out₀ i out next
@@ -20,39 +15,30 @@ Inv-loop table n t m out₀ next₀ i₀ out next i = (i ≤ n) × Filled 0 (par
 abbrev μ-loop : tie.MeasureT-loop
 μ-loop table n t m out₀ next₀ i₀ out next i = n - i
 
--- src/lib.rt:69:5
 loop-holds : tie.Need-loop-holds Inv-loop μ-loop
 loop-holds c = (omega arith, filled-none _ _ _)
 
--- src/lib.rt:70:13
 node-at-requires : tie.Need-node-at-requires Inv-loop μ-loop
 node-at-requires c κs = search needs
 
--- src/lib.rt:72:25
 add-place : tie.Need-add-place Inv-loop μ-loop
 add-place c = search needs
 
--- src/lib.rt:72:13
 place-requires : tie.Need-place-requires Inv-loop μ-loop
 place-requires c κs = search needs
 
--- src/lib.rt:73:23
 left-part-requires : tie.Need-left-part-requires Inv-loop μ-loop
 left-part-requires c κs = search needs
 
--- src/lib.rt:73:13
 place-requires-2 : tie.Need-place-requires-2 Inv-loop μ-loop
 place-requires-2 c κs = search needs
 
--- src/lib.rt:74:23
 add-place-2 : tie.Need-add-place-2 Inv-loop μ-loop
 add-place-2 c = search needs
 
--- src/lib.rt:74:13
 place-requires-3 : tie.Need-place-requires-3 Inv-loop μ-loop
 place-requires-3 c κs = search needs
 
--- src/lib.rt:75:44
 cast-write-node : tie.Need-cast-write-node Inv-loop μ-loop
 cast-write-node c = search needs
 
@@ -67,7 +53,6 @@ part c =
     node-part (a .t) (a .m) (nodesIn (a .table .now)) (nd .before .before .loop .i) (nd .node-at .result .kind) (nd .node-at .result .left) (nd .node-at .result .right)
     (nd .node-at .ensures .is) (two .before .before .place .ensures .0) (two .place2 .ensures .0 ∙ ap (λ (x : ℕ). x * a .t) (two .before .left-part .ensures .0)) (c .before .place3 .ensures .0)
 
--- src/lib.rt:75:9
 write-node-requires : tie.Need-write-node-requires Inv-loop μ-loop
 unfolding nodesBytes
 write-node-requires c κs =
@@ -75,15 +60,12 @@ write-node-requires c κs =
     let a = l .before .before .before in
     (omega arith, rw (part c) (filled-room (l .loop .inv .1) (a .args .n) (omega arith) (omega (arith, a .pre .1))))
 
--- src/lib.rt:76:9
 add-i : tie.Need-add-i Inv-loop μ-loop
 add-i c = search needs
 
--- src/lib.rt:69:5
 loop-less : tie.Need-loop-less Inv-loop μ-loop
 loop-less c = search needs
 
--- src/lib.rt:69:5
 loop-again : tie.Need-loop-again Inv-loop μ-loop
 unfolding nodesBytes
 loop-again c =
@@ -97,11 +79,9 @@ loop-again c =
       filled-more (l .loop .inv .1) (a .args .n) h (omega (arith, a .pre .1)) _ _ (rw e at (w .write-node .ensures .1)) (rw e at (w .write-node .ensures .0)) (omega arith),
     )
 
--- src/lib.rt:62:1
 same-length : tie.Need-same-length Inv-loop μ-loop
 same-length c = search needs
 
--- src/lib.rt:62:1
 returns : tie.Need-returns Inv-loop μ-loop
 unfolding nodesBytes
 returns c =

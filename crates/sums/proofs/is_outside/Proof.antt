@@ -1,24 +1,20 @@
-use mathlib.Core.Path.{_≡_, sym, ap, ap₂, _∙_, subst, subst⁻¹}
-use mathlib.Core.Bool.{Bool, _&&_, _||_}
-use Prim.Native.Nat.{ℕ, _+_, _≤_, _<_}
+-- `sums::is_outside` meets its contract. Below the lower limit, or above the upper. Assumes nothing.
+use mathlib.Core.Path.{_≡_, sym, ap, ap₂, _∙_, subst}
+use mathlib.Core.Bool.{Bool, _||_}
+use Prim.Native.Nat.{_+_, _<_}
 use native.Mathlib.Nat.{le-refl}
 use native.Mathlib.Omega.{arith}
 use borrow.Author.Needs.{needs}
-use lib.IntN.{ℤ, pos, negℤ, natAbs, _+ℤ_, _-ℤ_, _*ℤ_, +ℤ-idl, +ℤ-idr}
+use lib.IntN.{ℤ, pos, negℤ, natAbs, _+ℤ_, _-ℤ_, +ℤ-idl}
 use lib.Signed.{ltZ}
-use lib.ListN.{getD, List·getD-eq-default}
-use mir.Syntax.{w8, w32, w64}
+use mir.Syntax.{w32, w64}
 use mir.Val.{toZ, ofZ}
 use mir.Facts.{toZ-ofZ, toZ-pos}
-use Rattle.ints.specs.Sizes.{mul-size, sum-size, difference-size}
-use Rattle.ints.specs.Stored.{sfits-by, abs-sfits, cast-fits, cast-back, told-back}
-use Rattle.rules.specs.Quantities
-use Rattle.rules.specs.Verdicts.{apart}
-use Rattle.sums.specs.Laws.{size-below, size-above}
+use Rattle.ints.specs.Sizes.{difference-size}
+use Rattle.ints.specs.Stored.{sfits-by, cast-fits, cast-back}
+use Rattle.rules.specs.Quantities as Quantities
 use Rattle.sums.proofs.is_outside.Statement.{statement}
 use Rattle.sums.proofs.is_outside.Tie as tie
-use Rattle.sums.proofs.is_outside.Reads as reads
-use Rattle.sums.proofs.is_outside.Lts as lts
 
 wide : (c : tie.Start) → toZ w64 (c .args .e) ≡ pos (c .args .e)
 wide c = toZ-pos w64 (omega (arith, c .fits .e))
@@ -29,23 +25,18 @@ low-sum c = ap (λ (z : ℤ). pos 0 -ℤ z) (wide c) ∙ +ℤ-idl (negℤ (pos (
 high-sum : (c : tie.Start) → pos 1000000 +ℤ toZ w64 (c .args .e) ≡ pos (Quantities.one + c .args .e)
 high-sum c = ap (λ (z : ℤ). pos 1000000 +ℤ z) (wide c)
 
--- src/lib.rt:21:13
 cast-x : tie.Need-cast-x
 cast-x c = cast-fits tt (c .fits .figure)
 
--- src/lib.rt:22:16
 cast-zero : tie.Need-cast-zero
 cast-zero c = search needs
 
--- src/lib.rt:23:15
 cast-one : tie.Need-cast-one
 cast-one c = search needs
 
--- src/lib.rt:24:19
 cast-if1 : tie.Need-cast-if1
 cast-if1 c = search needs
 
--- src/lib.rt:24:12
 sub-if1 : tie.Need-sub-if1
 sub-if1 c =
     let s = c .before .before .before .before in
@@ -57,23 +48,19 @@ test-is c =
     let s = c .before .before .before .before in
     sym (ap₂ ltZ (cast-back w64 tt (s .fits .figure)) (toZ-ofZ (sub-if1 c) ∙ low-sum s))
 
--- src/lib.rt:27:16
 cast-result : tie.Need-cast-result
 cast-result c = search needs
 
--- src/lib.rt:27:9
 add-result : tie.Need-add-result
 add-result c =
     let s = c .before .before .before .before .before in
     sfits-by (high-sum s) (omega (arith, s .fits .e))
 
--- src/lib.rt:18:1
 returns : tie.Need-returns
 returns c =
     let a = c .before .before .before .before .before .args in
     sym (ap (λ (b : Bool). b || ltZ (pos (Quantities.one + a .e)) (a .figure)) (test-is (c .before) ∙ c .if1 .taken))
 
--- src/lib.rt:18:1
 returns-2 : tie.Need-returns-2
 returns-2 c =
     let s = c .before .before .before .before .before in

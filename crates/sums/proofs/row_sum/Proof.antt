@@ -1,22 +1,17 @@
-use mathlib.Core.Path.{_≡_, sym, ap, ap₂, _∙_, subst⁻¹}
-use Prim.Native.Nat.{ℕ, _≤_}
-use native.Mathlib.Nat.{le-refl}
+-- `sums::row_sum` meets its contract. By the number of terms; each sum fits. Assumes nothing.
+use mathlib.Core.Path.{_≡_, ap₂, _∙_, subst⁻¹}
+use Prim.Native.Nat.{_≤_}
 use native.Mathlib.Omega.{arith}
 use borrow.Author.Needs.{needs}
-use lib.IntN.{ℤ, pos, natAbs, _+ℤ_, _-ℤ_, _*ℤ_}
-use lib.Signed.{ltZ}
-use mir.Syntax.{w8, w32, w64}
+use lib.IntN.{ℤ, natAbs, _+ℤ_}
+use mir.Syntax.{w64}
 use mir.Val.{toZ, ofZ}
-use mir.Facts.{toZ-ofZ, toZ-pos}
-use Rattle.ints.specs.Sizes.{sum-size, difference-size}
-use Rattle.ints.specs.Stored.{sfits-by, back, small-back, sum-back}
-use Rattle.rules.specs.Verdicts.{apart}
-use Rattle.sums.specs.Laws.{single-sum, pair-sum, triple-sum, short-broken, apart-broken}
+use mir.Facts.{toZ-ofZ}
+use Rattle.ints.specs.Sizes.{sum-size}
+use Rattle.ints.specs.Stored.{sfits-by, back, sum-back}
+use Rattle.sums.specs.Laws.{single-sum, pair-sum, triple-sum}
 use Rattle.sums.proofs.row_sum.Statement.{statement}
 use Rattle.sums.proofs.row_sum.Tie as tie
-use Rattle.sums.proofs.row_sum.Reads as reads
-use Rattle.sums.proofs.row_sum.Lts as lts
-use Rattle.sums.proofs.term.Reads as term-reads
 
 two : (c : tie.After-term3) → natAbs (c .before .term2 .result +ℤ c .term3 .result) ≤ 549755813888
 two c = sum-size (c .before .term2 .result) (c .term3 .result) (c .before .term2 .ensures .1) (c .term3 .ensures .1)
@@ -33,58 +28,45 @@ last-back c = sum-back (c .before .term5 .result) (c .term6 .result) (omega arit
 three : (c : tie.After-term6) → natAbs (c .before .before .term4 .result +ℤ (c .before .term5 .result +ℤ c .term6 .result)) ≤ 824633720832
 three c = sum-size (c .before .before .term4 .result) (c .before .term5 .result +ℤ c .term6 .result) (c .before .before .term4 .ensures .1) (last c)
 
--- src/lib.rt:106:23
 enum-known-terms : tie.Need-enum-known-terms
 enum-known-terms c = search needs
 
--- src/lib.rt:106:29
 term-requires : tie.Need-term-requires
 term-requires c κs = search needs
 
--- src/lib.rt:107:21
 enum-known-terms-2 : tie.Need-enum-known-terms-2
 enum-known-terms-2 c = search needs
 
--- src/lib.rt:107:30
 term-requires-2 : tie.Need-term-requires-2
 term-requires-2 c κs = search needs
 
--- src/lib.rt:107:49
 term-requires-3 : tie.Need-term-requires-3
 term-requires-3 c κs = search needs
 
--- src/lib.rt:107:30
 add-result : tie.Need-add-result
 add-result c = sfits-by (two-back c) (let h = two c in omega arith)
 
--- src/lib.rt:108:23
 enum-known-terms-3 : tie.Need-enum-known-terms-3
 enum-known-terms-3 c = search needs
 
--- src/lib.rt:108:35
 term-requires-4 : tie.Need-term-requires-4
 term-requires-4 c κs = search needs
 
--- src/lib.rt:108:55
 term-requires-5 : tie.Need-term-requires-5
 term-requires-5 c κs = search needs
 
--- src/lib.rt:108:74
 term-requires-6 : tie.Need-term-requires-6
 term-requires-6 c κs = search needs
 
--- src/lib.rt:108:55
 add-result-2 : tie.Need-add-result-2
 add-result-2 c = sfits-by (last-back c) (let h = last c in omega arith)
 
 three-back : (c : tie.After-term6) → toZ w64 (ofZ w64 (c .before .before .term4 .result)) +ℤ toZ w64 (ofZ w64 (toZ w64 (ofZ w64 (c .before .term5 .result)) +ℤ toZ w64 (ofZ w64 (c .term6 .result)))) ≡ c .before .before .term4 .result +ℤ (c .before .term5 .result +ℤ c .term6 .result)
 three-back c = ap₂ _+ℤ_ (back (c .before .before .term4 .result) (omega arith)) (toZ-ofZ (add-result-2 c) ∙ last-back c)
 
--- src/lib.rt:108:35
 add-result-3 : tie.Need-add-result-3
 add-result-3 c = sfits-by (three-back c) (let h = three c in omega arith)
 
--- src/lib.rt:102:1
 returns : tie.Need-returns
 returns c =
     let t = c .before .before in
@@ -92,7 +74,6 @@ returns c =
     let e = back (c .term .result) (omega arith) in
     (e ∙ single-sum (a .figures .now) (a .terms) (c .term .result) (t .terms .given .1) (c .term .ensures .0), subst⁻¹ (λ (z : ℤ). natAbs z ≤ 824633720832) e (omega arith))
 
--- src/lib.rt:102:1
 returns-2 : tie.Need-returns-2
 returns-2 c =
     let t = c .before .before .before in
@@ -102,7 +83,6 @@ returns-2 c =
       subst⁻¹ (λ (z : ℤ). natAbs z ≤ 824633720832) e (let h = two c in omega arith),
     )
 
--- src/lib.rt:102:1
 returns-3 : tie.Need-returns-3
 returns-3 c =
     let t = c .before .before .before .before in

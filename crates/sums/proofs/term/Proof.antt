@@ -1,33 +1,21 @@
-use mathlib.Core.Path.{_≡_, sym, ap, ap₂, _∙_, subst⁻¹}
-use Prim.Native.Nat.{ℕ, _≤_}
-use native.Mathlib.Nat.{le-refl}
+-- `sums::term` meets its contract. The coefficient times the variable's figure. Assumes nothing.
+use mathlib.Core.Path.{ap₂, _∙_, subst⁻¹}
+use Prim.Native.Nat.{_≤_}
 use native.Mathlib.Omega.{arith}
 use borrow.Author.Needs.{needs}
-use lib.IntN.{ℤ, pos, natAbs, _+ℤ_, _-ℤ_, _*ℤ_}
-use lib.Signed.{ltZ}
-use mir.Syntax.{w8, w32, w64}
-use mir.Val.{toZ, ofZ}
-use mir.Facts.{toZ-ofZ, toZ-pos}
-use Rattle.ints.specs.Sizes.{sum-size, difference-size}
-use Rattle.ints.specs.Stored.{sfits-by, back, small-back, sum-back}
-use Rattle.rules.specs.Verdicts.{apart}
-use Rattle.sums.specs.Laws.{single-sum, pair-sum, triple-sum, short-broken, apart-broken}
+use lib.IntN.{ℤ, natAbs, _*ℤ_}
+use mir.Syntax.{w8, w32}
+use mir.Facts.{toZ-ofZ}
+use Rattle.ints.specs.Stored.{back}
 use Rattle.sums.proofs.term.Statement.{statement}
 use Rattle.sums.proofs.term.Tie as tie
-use Rattle.sums.proofs.term.Reads as reads
-use Rattle.sums.proofs.term.Lts as lts
-use Rattle.sums.proofs.figure_of.Reads as figure-of-reads
-use Rattle.sums.proofs.product.Reads as product-reads
 
--- src/lib.rt:98:28
 figure-of-requires : tie.Need-figure-of-requires
 figure-of-requires c κs = search needs
 
--- src/lib.rt:98:5
 product-requires : tie.Need-product-requires
 product-requires c κs = search needs
 
--- src/lib.rt:95:1
 returns : tie.Need-returns
 returns c =
     let f = c .before .before in

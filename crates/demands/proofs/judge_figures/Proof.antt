@@ -1,0 +1,26 @@
+-- `demands::judge_figures` meets its contract: demands 1 and 2 and what a passed verdict means, from the contract of `judge::judge`.
+use mathlib.Core.Path.{ap, _∙_}
+use lib.IntN.{ℤ}
+use mir.Facts.{toZ-ofZ}
+use Rattle.rules.specs.Outcome.{judgeOutcome}
+use Rattle.judge.specs.Ruled.{ruled}
+use Rattle.demands.specs.Demand1.{judge-refuses}
+use Rattle.demands.specs.Demand2.{judge-answers}
+use Rattle.demands.specs.Passing.{passed-means, passed-at-zero}
+use borrow.Author.Needs.{needs}
+use Rattle.demands.proofs.judge_figures.Statement.{statement}
+use Rattle.demands.proofs.judge_figures.Tie as tie
+
+judge-requires : tie.Need-judge-requires
+judge-requires c κs = search needs
+
+returns : tie.Need-returns
+returns c =
+    let s = c .before .before in
+    let a = s .args in
+    let k = c .judge in
+    let told = k .ensures ∙ ap (judgeOutcome (a .t) (a .m) (a .table .now) (a .figures .now)) (toZ-ofZ (s .fits .e)) in
+    (judge-refuses (a .t) (a .m) (a .table .now) (a .figures .now) (a .e) (ruled (k .result)) told, (judge-answers (a .t) (a .m) (a .table .now) (a .figures .now) (a .e) (ruled (k .result)) told, (passed-means (a .t) (a .m) (a .table .now) (a .figures .now) (a .e) (ruled (k .result)) told, passed-at-zero (a .t) (a .m) (a .table .now) (a .figures .now) (a .e) (ruled (k .result)) told)))
+
+pub judge-figures-spec : {M : Type 1} → statement M
+judge-figures-spec = tie.close (tie.spec judge-requires returns)

@@ -1,0 +1,54 @@
+-- `sepia::plain_verdict` meets its contract.
+use mathlib.Core.Path.{sym, ap, ap₂, subst, _∙_}
+use Prim.Native.Nat.{ℕ}
+use native.Mathlib.Omega.{arith}
+use Rattle.judge.specs.Ruled.{ruled}
+use Rattle.judge.specs.declared.Ruling.{Ruling}
+use Rattle.sepia.specs.declared.SepiaVerdict.{SepiaVerdict}
+use Rattle.sepia.specs.Boundary.{verdictInC, VerdictFits}
+use borrow.Author.Needs.{needs}
+use Rattle.sepia.proofs.plain_verdict.Statement.{statement}
+use Rattle.sepia.proofs.plain_verdict.Tie as tie
+
+enum-known-ruling : tie.Need-enum-known-ruling
+enum-known-ruling c = search needs
+
+number-requires : tie.Need-number-requires
+number-requires c κs = search needs
+
+enum-known-ruling-2 : tie.Need-enum-known-ruling-2
+enum-known-ruling-2 c = search needs
+
+verdict-number-requires : tie.Need-verdict-number-requires
+verdict-number-requires c κs = search needs
+
+verdict-value-requires : tie.Need-verdict-value-requires
+verdict-value-requires c κs = search needs
+
+cast-t8 : tie.Need-cast-t8
+cast-t8 c =
+    let h = subst (λ (x : Ruling). VerdictFits (ruled x)) (c .before .before .before .ruling2 .given .1) (c .before .before .before .before .before .pre) in
+    record { fits = omega (arith, h, c .verdict-value .ensures) }
+
+returns : tie.Need-returns
+returns c =
+    ap (λ (k : ℕ). let r : SepiaVerdict = record { refusal = k; verdict = 0; value = 0 } in r) (c .number .ensures)
+    ∙ ap (λ (x : Ruling). verdictInC (ruled x)) (sym (c .before .before .ruling .given .1))
+
+returns-2 : tie.Need-returns-2
+returns-2 c =
+    ap₂ (λ (k v : ℕ). let r : SepiaVerdict = record { refusal = 0; verdict = k; value = v } in r) (c .before .verdict-number .ensures) (c .verdict-value .ensures)
+    ∙ ap (λ (x : Ruling). verdictInC (ruled x)) (sym (c .before .before .before .ruling2 .given .1))
+
+pub plain-verdict-spec : {M : Type 1} → statement M
+plain-verdict-spec =
+    tie.close
+    (tie.spec
+    enum-known-ruling
+    number-requires
+    enum-known-ruling-2
+    verdict-number-requires
+    verdict-value-requires
+    cast-t8
+    returns
+    returns-2)
