@@ -2,7 +2,6 @@
 use mathlib.Core.Path.{_≡_, sym, ap, _∙_}
 use mathlib.Core.List.{List}
 use Prim.Native.Nat.{ℕ, _*_, _≤_}
-use native.Mathlib.Decide.{decLe}
 use native.Mathlib.Omega.{arith}
 use lib.ListN.{length, take, drop, length-append, length-drop}
 use lib.Seq.{take-at}
@@ -20,6 +19,7 @@ use Rattle.rules.specs.Demands.{Answer, Written, Demand3At}
 use Rattle.rules.specs.Demands.Answer.{refused, answered}
 use Rattle.rules.specs.Demands.Written.{wrote}
 use Rattle.rules.specs.Outcome.{result, buffer, readOutcome, rowsOutcome, evaluateOutcome}
+use Rattle.rules.specs.Exactness.Tests.{at-least}
 use Rattle.rules.specs.Theorems.{reader-exact, rows-exact, evaluator-exact, demand3}
 use Rattle.answers.specs.Told.{told}
 use Rattle.answers.specs.declared.Answer.the-variants.{Value, Refused as Refusing}
@@ -63,12 +63,8 @@ read-room m text out out′ n e left =
     let f : n ≡ size p = cc (x .1 .2) in
     let g : w .0 ≡ tableBytes (nodesOf p) = cc (x .1 .2) in
     let long : length (w .0) ≡ 5 * n = ap length g ∙ length-table (nodesOf p) ∙ omega (arith, length-nodesFrom 0 p) in
-    let fits : 5 * n ≤ length out = go p (x .1 .1) f (x .0) (decLe (5 * n) (length out)) in
+    let fits : 5 * n ≤ length out = at-least (length out) (5 * n) (λ h. x .0 11 (ReadRefused.short (x .1 .1) (omega arith))) in
     (fits, ap length (left ∙ ap (λ (a : Answer Written). buffer a out) (w .1)) ∙ length-append (w .0) (drop (length (w .0)) out) ∙ omega (arith, length-drop (length (w .0)) out))
-  where
-    go : (p : Rule) → Says text p → n ≡ size p → None (ReadRefused m text (length out)) → Dec (5 * n ≤ length out) → 5 * n ≤ length out
-    go p s f none (yes h) = h
-    go p s f none (no h) = absurd (none 11 (ReadRefused.short s (omega arith)))
 
 module _ (t m : ℕ) (text run table rows truth table′ : List ℕ) (left : table′ ≡ buffer (readOutcome m text (length table)) table) where
   -- what the three outcomes are

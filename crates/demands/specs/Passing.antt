@@ -4,7 +4,7 @@ use mathlib.Core.Bool.{Bool, true, false}
 use mathlib.Core.Logic.{_↔_, _⊎_, inl, inr, ⊎-elim}
 use mathlib.Core.List.{List, [], _∷_, _++_}
 use Prim.Native.Nat.{ℕ, zero, suc, _+_, _-_, _*_, _/_, _%_, _^_, _≤_, _<_}
-use native.Mathlib.Decide.{decLt, decLe, ℕ-discrete}
+use native.Mathlib.Decide.{decLt, ℕ-discrete}
 use native.Mathlib.Nat.{eq-or-lt-of-le, pow-suc, pow-zero, mul-add-div-right, mul-add-mod-self-right, div-eq-of-lt, mod-eq-of-lt, div-lt-iff-lt-mul, mod-lt, div-add-mod', mul-le-mul-right, mul-assoc}
 use native.Mathlib.Omega.{arith}
 use lib.Pow.{pow-add, pow-pos}
@@ -25,6 +25,7 @@ use Rattle.rules.specs.Judge.Judged.{is-outside, is-not-binary, is-broken, is-p
 use Rattle.rules.specs.Refusals.{RunGood, TableRefused, JudgeRefused}
 use Rattle.rules.specs.Demands.{Fits, OnlyTheTruth}
 use Rattle.rules.specs.Solution.Truths.{place-lt}
+use Rattle.rules.specs.Exactness.Tests.{at-least}
 use Rattle.rules.specs.Theorems.{only-the-truth, judge-exact}
 use Rattle.rules.specs.Outcome.{judgeOutcome}
 use Rattle.rules.specs.Demands.{Answer}
@@ -37,11 +38,7 @@ not-below : (a b : ℤ) → (a <ℤ b → ⊥) → b ≤ℤ a
 not-below a b f = ltZ-no (not-T (ltZ a b) (λ t. f (record { lt = t })))
 
 not-apart : (e : ℕ) (b x : ℤ) → (Apart e b x → ⊥) → natAbs (x -ℤ b) ≤ e
-not-apart e b x f = go (decLt e (natAbs (x -ℤ b)))
-  where
-    go : Dec (e < natAbs (x -ℤ b)) → natAbs (x -ℤ b) ≤ e
-    go (yes h) = absurd (f h)
-    go (no h) = omega arith
+not-apart e b x f = at-least e (natAbs (x -ℤ b)) f
 
 holds-iff : (o : Relation) (e : ℕ) (b s : ℤ) → (BrokenBy o e b s → ⊥) ↔ HoldsBy o e b s
 holds-iff at-least e b s = (not-below s (b -ℤ pos e), λ h k. clashℤ k h)
@@ -292,13 +289,12 @@ module _ (t m : ℕ) (table : List ℕ) (figures : List ℤ) (tolerance : ℤ) (
       let z : x .1 .1 ≡ 0 = ap natAbs (sym (x .1 .3) ∙ zero-is) in (
         ns,
         x .1 .2,
-        passed-is-true t m table ns figures n (slots (x .0) (decLe 1 t)) (x .1 .2) (counted ns (x .0) (x .1 .2) (ℕ-discrete (length figures) ((m + length ns) * t)))
+        passed-is-true t m table ns figures n (slots (x .0)) (x .1 .2) (counted ns (x .0) (x .1 .2) (ℕ-discrete (length figures) ((m + length ns) * t)))
             (subst (λ (e : ℕ). Judged t m e ns figures (Verdict.passed n)) z (x .1 .4)),
       )
     where
-      slots : None (JudgeRefused t m table figures tolerance) → Dec (1 ≤ t) → 1 ≤ t
-      slots none (yes h) = h
-      slots none (no h) = absurd (none 1 (JudgeRefused.table-refused (TableRefused.slots (λ s. h (s .0)))))
+      slots : None (JudgeRefused t m table figures tolerance) → 1 ≤ t
+      slots none = at-least t 1 (λ h. none 1 (JudgeRefused.table-refused (TableRefused.slots (λ s. omega (arith, s .0)))))
 
       counted : (ns : List Node) → None (JudgeRefused t m table figures tolerance) → Good m table ns → Dec (length figures ≡ (m + length ns) * t) → length figures ≡ (m + length ns) * t
       counted ns none good (yes h) = h

@@ -9,6 +9,7 @@ use native.Mathlib.Nat.{add-zero, add-suc, suc-add}
 use lib.ListN.{length, set}
 use lib.Seq.{sets, length-sets}
 use borrow.Author.Tests.{ne-eqb}
+use Rattle.rules.specs.RuleSize.{size-positive}
 use Rattle.rules.specs.Rule.{Unary, Binary, Rule, size}
 use Rattle.rules.specs.Rule.Unary.{not, eventually, always}
 use Rattle.rules.specs.Rule.Binary.{implies}
@@ -18,7 +19,7 @@ use Rattle.rules.specs.Table.{unaryKind, binaryKind}
 use Rattle.rules.specs.Reading.Lexer
 use Rattle.rules.specs.Reading.Lexer.{tokenAt, signAt, Ends, token-ends, sign-ends}
 use Rattle.rules.specs.Reading.Parser
-use Rattle.rules.specs.Reading.Parser.{Parsed, Start, unaryOf, startOf, starting, pair, goOn, apply, begin, lead, measure, parsed, size-positive, parsed-within, single-law, pair-law}
+use Rattle.rules.specs.Reading.Parser.{Parsed, Start, unaryOf, startOf, starting, pair, goOn, apply, begin, lead, measure, parsed, parsed-within, single-law, pair-law}
 use Rattle.lexer.specs.declared.Token.{Token}
 use Rattle.lexer.specs.declared.Token.the-variants.{Other, Sign, Atom}
 use Rattle.lexer.specs.Capped.{capped, none-of, sign-of, atom-of}

@@ -7,12 +7,12 @@ use native.Mathlib.Omega.{arith}
 use lib.ListN.{length, length-append}
 use lib.Dec.{ltb}
 use borrow.Author.Tests.{ltb-true, ltb-false, lt-ltb, le-ltb}
+use Rattle.rules.specs.RuleSize.{size-positive}
 use Rattle.rules.specs.Rule.{Rule, size, AtomsBelow}
 use Rattle.rules.specs.Rule.Rule.{atom, unary, binary}
 use Rattle.rules.specs.Table
 use Rattle.rules.specs.Table.{Node, unaryKind, binaryKind, nodeBytes, tableBytes, nodesFrom}
 use Rattle.rules.specs.Outcome.{atomsBelow}
-use Rattle.rules.specs.Reading.Parser.{size-positive}
 
 -- the highest atom number of a rule, and 255 for all from there on
 abbrev pub top : Rule → ℕ

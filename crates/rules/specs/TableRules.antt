@@ -6,6 +6,7 @@ use native.Mathlib.Decide.{decLt}
 use native.Mathlib.Omega.{arith}
 use lib.ListN.{length, length-append, List·getD-append}
 use lib.Seq.{getD-append-add}
+use Rattle.rules.specs.RuleSize.{size-positive}
 use Rattle.rules.specs.Rule.{Rule, size, AtomsBelow}
 use Rattle.rules.specs.Rule.Rule.{atom, unary, binary}
 use Rattle.rules.specs.Table.{Node, NodeGood, Good, tableBytes, nodesFrom, nodesOf, nodeAt, grow, ruleTo, ruleAt, root}
@@ -31,11 +32,6 @@ module _ (M : ℕ) (ns : List Node) (good : NodesGood M ns) where
       grow-cong M n (ruleTo ns n) (ruleAt ns) (λ c h. ruleTo-enough n (suc c) c h (omega arith) (omega arith)) (nodeAt ns n) (good n z)
 
 -- ---- the table of a rule
-
-pub size-pos : (p : Rule) → 1 ≤ size p
-size-pos (atom a) = omega arith
-size-pos (unary u p) = omega arith
-size-pos (binary o p q) = omega arith
 
 pub length-nodesFrom : (k : ℕ) (p : Rule) → length (nodesFrom k p) ≡ size p
 length-nodesFrom k (atom a) = refl
@@ -65,11 +61,11 @@ nodes-good-from : (M : ℕ) (p : Rule) → AtomsBelow M p → (k : ℕ) → Good
 nodes-good-from M (atom a) h k = good-one M k (Node.atom a) h
 nodes-good-from M (unary u p) h k =
     good-append M k (size p) (nodesFrom k p) (Node.unary u (k + size p - 1) ∷ []) (length-nodesFrom k p) (nodes-good-from M p h k)
-    (good-one M (k + size p) (Node.unary u (k + size p - 1)) (omega (arith, size-pos p)))
+    (good-one M (k + size p) (Node.unary u (k + size p - 1)) (omega (arith, size-positive p)))
 nodes-good-from M (binary o p q) h k =
     good-append M k (size p) (nodesFrom k p) _ (length-nodesFrom k p) (nodes-good-from M p (h .0) k)
     (good-append M (k + size p) (size q) (nodesFrom (k + size p) q) _ (length-nodesFrom (k + size p) q) (nodes-good-from M q (h .1) (k + size p))
-    (good-one M (k + size p + size q) (Node.binary o (k + size p - 1) (k + size p + size q - 1)) (omega (arith, size-pos p, size-pos q), omega (arith, size-pos p, size-pos q))))
+    (good-one M (k + size p + size q) (Node.binary o (k + size p - 1) (k + size p + size q - 1)) (omega (arith, size-positive p, size-positive q), omega (arith, size-positive p, size-positive q))))
 
 pub nodes-good : (M : ℕ) (p : Rule) → AtomsBelow M p → NodesGood M (nodesOf p)
 nodes-good M p h n u = subst (λ (j : ℕ). NodeGood M j (nodeAt (nodesOf p) n)) (omega arith) (nodes-good-from M p h 0 n u)
@@ -78,7 +74,7 @@ nodes-good M p h n u = subst (λ (j : ℕ). NodeGood M j (nodeAt (nodesOf p) n))
 pub rule-good : (M : ℕ) (p : Rule) → AtomsBelow M p → size p ≤ 128 → Good M (tableBytes (nodesOf p)) (nodesOf p)
 rule-good M p h k = record {
   records = refl;
-  some = omega (arith, length-nodesFrom 0 p, size-pos p);
+  some = omega (arith, length-nodesFrom 0 p, size-positive p);
   few = omega (arith, length-nodesFrom 0 p);
   nodes = nodes-good M p h;
 }

@@ -228,7 +228,7 @@ module _ (M : ℕ) (bytes : List ℕ) where
   abbrev sizes : Bool
   sizes = eqb (5 * N) (length bytes) && (leb 1 N && leb N 128)
 
-  node-is : (n : ℕ) → n < N → nodeAt (nodesIn bytes) n ≡ nodeFrom bytes n
+  pub node-is : (n : ℕ) → n < N → nodeAt (nodesIn bytes) n ≡ nodeFrom bytes n
   unfolding nodesIn
   node-is n h = getD-tabulate N (nodeFrom bytes) n (atom 0) h
 

@@ -4,7 +4,7 @@ use mathlib.Core.Bool.{Bool, true, false}
 use mathlib.Core.List.{List, [], _∷_}
 use Prim.Native.Nat.{ℕ, zero, suc, _+_, _*_, _≤_, _<_}
 use native.Mathlib.Nat.{mul-le-mul}
-use native.Mathlib.Decide.{decLe, ℕ-discrete}
+use native.Mathlib.Decide.{ℕ-discrete}
 use native.Mathlib.Omega.{arith}
 use lib.Dec.{ltb}
 use lib.ListN.{length, length-append}
@@ -23,6 +23,7 @@ use Rattle.rules.specs.Demands.{Answer, Written, Exact}
 use Rattle.rules.specs.Demands.Answer.{refused, answered}
 use Rattle.rules.specs.Demands.Written.{wrote}
 use Rattle.rules.specs.Outcome.{result, readOutcome, evaluateOutcome, rowsOutcome, judgeOutcome}
+use Rattle.rules.specs.Exactness.Tests.{at-least}
 use Rattle.rules.specs.Theorems.{reader-exact, evaluator-exact, rows-exact, judge-exact}
 use Rattle.sepia.specs.Boundary.{Fits, verdictValue, VerdictFits}
 
@@ -35,20 +36,12 @@ fits Refused Is a exact small = go a refl
     go (refused k) e = tt
     go (answered (wrote n bytes)) e = let y = exact .answers (wrote n bytes) .0 e in small n bytes (y .0) (y .1)
 
--- a bound whose excess is refused
-bound : (n k : ℕ) → (k < n → ⊥) → n ≤ k
-bound n k f = go (decLe n k)
-  where
-    go : Dec (n ≤ k) → n ≤ k
-    go (yes h) = h
-    go (no h) = absurd (f (omega arith))
-
 pub read-fits : (m : ℕ) (text : List ℕ) (room : ℕ) → Fits (result (readOutcome m text room))
 read-fits m text room =
     fits (ReadRefused m text room) _ (readOutcome m text room) (reader-exact m text room)
     (λ n bytes none i.
     let e : n ≡ size (i .0) = cc (i .2) in
-    omega (arith, bound (size (i .0)) 128 (λ h. none 6 (ReadRefused.text-refused (TextRefused.nodes (i .1) h)))))
+    omega (arith, at-least 128 (size (i .0)) (λ h. none 6 (ReadRefused.text-refused (TextRefused.nodes (i .1) h)))))
 
 byte-fits : {P : Type 0} {v : ℕ} → TruthByte P v → v < 4294967296
 byte-fits (TruthByte.true x) = omega arith
@@ -99,7 +92,7 @@ write-rows-fits t m table room =
     fits (RowsRefused t m table room) _ (rowsOutcome t m table room) (rows-exact t m table room)
     (λ n bytes none i.
     let e : n ≡ length (rowsOf t m (i .0)) = cc (i .2) in
-    let slots : t ≤ 64 = bound t 64 (λ h. none 1 (RowsRefused.table-refused (TableRefused.slots (λ s. omega arith)))) in
+    let slots : t ≤ 64 = at-least 64 t (λ h. none 1 (RowsRefused.table-refused (TableRefused.slots (λ s. omega arith)))) in
     rw e (rows-few t m (i .0) slots (i .1 .few)))
 
 -- ---- the judge's variables and rows
@@ -123,6 +116,6 @@ judge-fits t m table figures tolerance = go (judgeOutcome t m table figures tole
     go (refused k) e = tt
     go (answered v) e =
         let (none, (ns, d, good, tol, j)) = judge-exact t m table figures tolerance .answers v .0 e in
-        let slots : t ≤ 64 = bound t 64 (λ h. none 1 (JudgeRefused.table-refused (TableRefused.slots (λ s. omega arith)))) in
-        let atoms : m ≤ 16 = bound m 16 (λ h. none 2 (JudgeRefused.table-refused (TableRefused.atoms (λ s. omega arith)))) in
+        let slots : t ≤ 64 = at-least 64 t (λ h. none 1 (JudgeRefused.table-refused (TableRefused.slots (λ s. omega arith)))) in
+        let atoms : m ≤ 16 = at-least 16 m (λ h. none 2 (JudgeRefused.table-refused (TableRefused.atoms (λ s. omega arith)))) in
         judged-small slots atoms (good .few) (counted none ns good (ℕ-discrete (length figures) ((m + length ns) * t))) j

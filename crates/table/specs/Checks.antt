@@ -4,13 +4,14 @@ use mathlib.Core.Bool.{Bool, true, false, _&&_}
 use mathlib.Core.List.{List}
 use Prim.Native.Nat.{ℕ, _*_, _≤_, _<_}
 use native.Mathlib.Omega.{arith}
-use lib.Dec.{leb, leb→le, eqb, eqb→eq}
+use lib.Dec.{leb, eqb, eqb→eq}
 use lib.ListN.{length}
-use Rattle.lists.specs.Tests.{and-left, and-right}
+use Rattle.lists.specs.Tests.{and-left}
 use Rattle.lists.specs.All.{all}
 use Rattle.rules.specs.Demands.{Answer}
 use Rattle.rules.specs.Demands.Answer.{refused}
 use Rattle.rules.specs.Outcome.{between, require, tableChecked}
+use Rattle.rules.specs.Exactness.Tests.{between-true}
 use Rattle.rules.specs.Table.{NodeGood, nodeAt}
 use Rattle.rules.specs.TableTest.{good, recordGood, recordCount, nodesIn, good-sound, length-nodesIn}
 use Rattle.answers.specs.Told.{numberOf}
@@ -75,10 +76,6 @@ pub unless-passed : (b : Bool) (r : Refusal) (other : Checked) → unless b (Ref
 unless-passed true r other e = (refl, e)
 unless-passed false r other e = let z : _≡_ {A = ℕ} 0 1 = cc in absurd (omega arith)
 
-pub between-is : (low high n : ℕ) → between low high n ≡ true → (low ≤ n) × (n ≤ high)
-between-is low high n e =
-    (leb→le low n (and-left (leb low n) (leb n high) (rw e tt)), leb→le n high (and-right (leb low n) (leb n high) (rw e tt)))
-
 pub good-nodes-at : (M : ℕ) (table : List ℕ) → good M table ≡ true → (n : ℕ) → n < recordCount table → NodeGood M n (nodeAt (nodesIn table) n)
 good-nodes-at M table e n h = good-sound M table (rw e tt) .nodes n (omega (arith, length-nodesIn M table))
 
@@ -95,8 +92,8 @@ ready T M table e =
     let a = unless-passed (between 1 64 T) Slots _ e in
     let b = unless-passed (between 1 16 M) Atoms _ (a .1) in
     let c = unless-passed (good M table) Table _ (b .1) .0 in
-    let t = between-is 1 64 T (a .0) in
-    let m = between-is 1 16 M (b .0) in
+    let t = between-true 1 64 T (a .0) in
+    let m = between-true 1 16 M (b .0) in
     let g = good-sound M table (rw c tt) in
     let n = length-nodesIn M table in
     record {

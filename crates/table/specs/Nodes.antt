@@ -1,17 +1,16 @@
 -- What a node that was read from its record stands for.
-use mathlib.Core.Path.{_≡_, refl, sym}
+use mathlib.Core.Path.{_≡_, refl}
 use mathlib.Core.Bool.{Bool, true, false, cond}
 use mathlib.Core.List.{List}
 use mathlib.Core.Option.{Option, none, some}
 use Prim.Native.Nat.{ℕ, _<_}
 use lib.Dec.{eqb}
-use Rattle.lists.specs.Tabulate.{getD-tabulate}
 use Rattle.rules.specs.Rule.Unary.{not, eventually, always}
 use Rattle.rules.specs.Rule.Binary.{and, or, implies, until}
 use Rattle.rules.specs.Table as Table
 use Rattle.rules.specs.Table.Node.{atom, unary, binary}
 use Rattle.rules.specs.Table.{nodeAt}
-use Rattle.rules.specs.TableTest.{nodeIn, byteAt, nodeFrom, nodesIn, recordCount}
+use Rattle.rules.specs.TableTest.{nodeIn, byteAt, nodesIn, recordCount, node-is}
 use Rattle.table.specs.declared.Kind.{Kind}
 use Rattle.table.specs.declared.Kind.the-variants.{Atom, Not, And, Or, Implies, Eventually, Always, Until}
 use Rattle.table.specs.declared.KindRead.{KindRead}
@@ -73,14 +72,10 @@ module _ (l r : ℕ) where
       (by-kind (eqb k 7) Always _ _
       (by-kind (eqb k 8) Until none Unknown refl)))))))
 
-pub node-is : (table : List ℕ) (n : ℕ) → n < recordCount table → nodeFrom table n ≡ nodeAt (nodesIn table) n
-unfolding nodesIn
-node-is table n h = sym (getD-tabulate (recordCount table) (nodeFrom table) n (atom 0) h)
-
 -- from the record's kind byte, known or not
 pub known-is : (table : List ℕ) (n : ℕ) (k : Kind) → n < recordCount table → kindIn (byteAt table n 2) ≡ Known k →
     nodeBy k (byteAt table n 3) (byteAt table n 4) ≡ nodeAt (nodesIn table) n
-known-is table n k h e = rw (← node-is table n h, nodeIn-kind, e)
+known-is table n k h e = rw (node-is 0 table n h, nodeIn-kind, e)
 
 pub unknown-is : (table : List ℕ) (n : ℕ) → n < recordCount table → kindIn (byteAt table n 2) ≡ Unknown → atom 0 ≡ nodeAt (nodesIn table) n
-unknown-is table n h e = rw (← node-is table n h, nodeIn-kind, e)
+unknown-is table n h e = rw (node-is 0 table n h, nodeIn-kind, e)

@@ -8,6 +8,7 @@ use Prim.Native.Nat.{ℕ, zero, suc, _+_, _-_, _*_, _≤_, _<_}
 use native.Mathlib.Omega.{arith}
 use lib.ListN.{length}
 use lib.Dec.{eqb}
+use Rattle.rules.specs.RuleSize.{size-positive}
 use Rattle.rules.specs.Rule.{Unary, Binary, Rule, size}
 use Rattle.rules.specs.Rule.Unary.{not, eventually, always}
 use Rattle.rules.specs.Rule.Binary.{and, or, implies, until}
@@ -107,11 +108,6 @@ rank-bounds (of implies) = omega arith
 rank-bounds (of or) = omega arith
 rank-bounds (of and) = omega arith
 rank-bounds (of until) = omega arith
-
-pub size-positive : (p : Rule) → 1 ≤ size p
-size-positive (Rule.atom a) = omega arith
-size-positive (Rule.unary u p) = omega arith
-size-positive (Rule.binary o p q) = omega arith
 
 -- ---- where a phrase ends: it has a byte for each node at least
 

@@ -10,12 +10,13 @@ use lib.Dec.{leb}
 use borrow.Author.Tests.{leb-true, leb-false}
 use lib.ListN.{length, getD}
 use lib.IntN.{ℤ, pos}
+use Rattle.rules.specs.RuleSize.{size-positive}
 use Rattle.rules.specs.Quantities.{SlotsAllowed, AtomsAllowed}
 use Rattle.rules.specs.Rule.{Rule, size, AtomsBelow}
 use Rattle.rules.specs.Grammar.{Says}
 use Rattle.rules.specs.Reading.{reading, reading-sound, reading-complete, one-reading}
 use Rattle.rules.specs.Table.{Node, Good, tableBytes, nodesOf, ruleAt, root}
-use Rattle.rules.specs.TableRules.{length-nodesFrom, size-pos, nodes-good, rule-good, root-is}
+use Rattle.rules.specs.TableRules.{length-nodesFrom, nodes-good, rule-good, root-is}
 use Rattle.rules.specs.TableTest.{good-nodes}
 use Rattle.rules.specs.Truth.{Holds, endless, TruthByte}
 use Rattle.rules.specs.Evaluation.{bitOf, truth}
@@ -133,7 +134,7 @@ module _ (T M D : ℕ) (run : List ℕ) (slots : SlotsAllowed T) (runs : RunGood
         (evaluate-ok h, (ns, bitOf (truth T run (ruleAt ns (root ns)) 1), truthBytes T run ns, good-table, bytes-are T run ns (slots .0), truth-byte T run (ruleAt ns (root ns)) 1, refl))
 
   truthful : OnlyTheTruth T M D run ns (slackRows T M ns) (goalRow T M ns)
-  truthful = only-the-truth T M D run ns (nodes-good M p (q .atoms)) (slots .0) 0<D (omega (arith, length-ns, size-pos p))
+  truthful = only-the-truth T M D run ns (nodes-good M p (q .atoms)) (slots .0) 0<D (omega (arith, length-ns, size-positive p))
 
   at-bytes : Demand3At T M D run p (tableBytes ns) (length (rowsOf T M ns)) (rowsBytes (rowsOf T M ns)) (bitOf (truth T run (ruleAt ns (root ns)) 1)) (truthBytes T run ns)
   at-bytes = record {
