@@ -1,0 +1,4 @@
+pub mod Lines
+pub mod Scanning
+pub mod Feeding
+pub mod Exact

@@ -1,0 +1,237 @@
+-- What an answer of the reader or the row writer tells of its outcome.
+use mathlib.Core.Path.{_≡_, refl, sym, ap, _∙_}
+use mathlib.Core.Bool.{Bool, true, false}
+use mathlib.Core.List.{List, [], _∷_, _++_}
+use Prim.Native.Nat.{ℕ, zero, suc, _+_, _*_, min, _≤_, _<_}
+use native.Mathlib.Nat.{mul-le-mul}
+use native.Mathlib.Omega.{arith}
+use lib.Dec.{leb}
+use borrow.Author.Tests.{leb-true, leb-false, le-leb, lt-leb}
+use lib.ListN.{length, getD, take, drop, replicate, length-append, length-replicate}
+use lib.Seq.{getD-append-add, take-at, take-all}
+use Rattle.lists.specs.Every.{Every}
+use Rattle.rules.specs.Rule.{size}
+use Rattle.rules.specs.Table.{Node, tableBytes, nodesOf}
+use Rattle.rules.specs.TableRules.{length-nodesFrom}
+use Rattle.rules.specs.Rows.{Row, rowBytes, rowsBytes, rowsOf, rowsIn}
+use Rattle.rules.specs.RowRecords.{Recordable, length-row, length-rows, rows-recordable}
+use Rattle.rules.specs.Refusals.{TextRefused, ReadRefused, TableRefused, RowsRefused}
+use Rattle.rules.specs.Demands
+use Rattle.rules.specs.Demands.{Written}
+use Rattle.rules.specs.Demands.Answer.{refused, answered}
+use Rattle.rules.specs.Demands.Written.{wrote}
+use Rattle.rules.specs.Outcome.{result, buffer, readOutcome, rowsOutcome}
+use Rattle.rules.specs.Theorems.{reader-exact, rows-exact}
+use Rattle.answers.specs.declared.Refusal.{Refusal}
+use Rattle.answers.specs.declared.Refusal.the-variants.{Slots, Atoms, LongText, Grammar, AtomNumber, Nodes, Table, Run, Figures, Tolerance, Room}
+use Rattle.answers.specs.declared.Answer.{Answer}
+use Rattle.answers.specs.declared.Answer.the-variants.{Value, Refused}
+use Rattle.answers.specs.Told.{numberOf, told}
+use Rattle.rowtext.specs.RowText.{FewTerms, headText, rowsText}
+use Rattle.input.specs.declared.Scan.{Scan}
+use Rattle.input.specs.Scanning.{state, shaped}
+use Rattle.listing.specs.Page.{rowsThen, readThen, listed, refusedText, printed, listing, badInput, shown}
+
+-- ---- from an answer to the outcome
+
+pub told-refused : (o : Demands.Answer Written) (r : Answer) (k : Refusal) → told r ≡ result o → r ≡ Refused k → o ≡ refused (numberOf k)
+told-refused (refused j) r k e f = let g : told r ≡ refused (numberOf k) = ap told f in ap (λ (n : ℕ). refused n) cc
+told-refused (answered (wrote n bytes)) r k e f =
+    let g : told r ≡ refused (numberOf k) = ap told f in
+    let z : _≡_ {A = ℕ} 0 1 = cc in absurd (omega arith)
+
+pub record Wrote (o : Demands.Answer Written) (n : ℕ) : Type 0 where
+  pub bytes : List ℕ
+  pub is : o ≡ answered (wrote n bytes)
+
+pub told-value : (o : Demands.Answer Written) (r : Answer) (n : ℕ) → told r ≡ result o → r ≡ Value n → Wrote o n
+told-value (refused j) r n e f =
+    let g : told r ≡ answered n = ap told f in
+    let z : _≡_ {A = ℕ} 0 1 = cc in absurd (omega arith)
+told-value (answered (wrote m bytes)) r n e f =
+    let g : told r ≡ answered n = ap told f in
+    let h : m ≡ n = cc in
+    record { bytes = bytes; is = ap (λ (k : ℕ). answered (wrote k bytes)) h }
+
+pub number-small : (k : Refusal) → numberOf k < 100000
+number-small Slots = omega arith
+number-small Atoms = omega arith
+number-small LongText = omega arith
+number-small Grammar = omega arith
+number-small AtomNumber = omega arith
+number-small Nodes = omega arith
+number-small Table = omega arith
+number-small Run = omega arith
+number-small Figures = omega arith
+number-small Tolerance = omega arith
+number-small Room = omega arith
+
+-- ---- a table that was read
+
+length-table : (ns : List Node) → length (tableBytes ns) ≡ 5 * length ns
+length-table [] = refl
+length-table (n ∷ ns) = omega (arith, length-table ns)
+
+pub at-most : (n m : ℕ) → (m < n → ⊥) → n ≤ m
+at-most n m h = go (leb n m) refl
+  where
+    go : (b : Bool) → leb n m ≡ b → n ≤ m
+    go true e = leb-true n m e
+    go false e = absurd (h (leb-false n m e))
+
+pub record TableRead (n : ℕ) (bytes : List ℕ) : Type 0 where
+  pub few : n ≤ 128
+  pub size-is : length bytes ≡ 5 * n
+
+pub table-read : (M : ℕ) (text : List ℕ) (n : ℕ) (bytes : List ℕ) → readOutcome M text 640 ≡ answered (wrote n bytes) → TableRead n bytes
+table-read M text n bytes e =
+    let r = reader-exact M text 640 .answers (wrote n bytes) .0 e in
+    let p = r .1 .0 in
+    let w : wrote n bytes ≡ wrote (size p) (tableBytes (nodesOf p)) = r .1 .2 in
+    let a : n ≡ size p = cc in
+    let b : bytes ≡ tableBytes (nodesOf p) = cc in
+    record {
+      few = omega (arith, at-most (size p) 128 (λ h. r .0 6 (ReadRefused.text-refused (TextRefused.nodes (r .1 .1) h))));
+      size-is = ap length b ∙ length-table (nodesOf p) ∙ omega (arith, length-nodesFrom 0 p);
+    }
+
+-- ---- rows that were written
+
+few-at : (rs : List Row) → Every Recordable rs → (i : ℕ) → i < length rs → getD (rowsBytes rs) (14 * i + 3) 0 ≤ 3
+few-at [] h i l = absurd (omega arith)
+few-at (r ∷ rs) h zero l = h .0 .few
+few-at (r ∷ rs) h (suc i) l =
+    let e : 14 * suc i + 3 ≡ length (rowBytes r) + (14 * i + 3) = omega (arith, length-row r (h .0)) in
+    rw (e, getD-append-add (rowBytes r) (rowsBytes rs) (14 * i + 3) 0) (few-at rs (h .1) i (omega arith))
+
+pub record RowsWritten (T M count : ℕ) (bytes : List ℕ) : Type 0 where
+  pub slots : T ≤ 64
+  pub atoms : M ≤ 16
+  pub room : 14 * count ≤ 65536
+  pub size-is : length bytes ≡ 14 * count
+  pub few-terms : FewTerms count bytes
+
+pub rows-written : (T M : ℕ) (table : List ℕ) (count : ℕ) (bytes : List ℕ) → rowsOutcome T M table 65536 ≡ answered (wrote count bytes) → RowsWritten T M count bytes
+rows-written T M table count bytes e =
+    let r = rows-exact T M table 65536 .answers (wrote count bytes) .0 e in
+    let rs = rowsOf T M (r .1 .0) in
+    let w : wrote count bytes ≡ wrote (length rs) (rowsBytes rs) = r .1 .2 in
+    let a : count ≡ length rs = cc in
+    let b : bytes ≡ rowsBytes rs = cc in
+    let k = rows-recordable T M (r .1 .0) in
+    record {
+      slots = at-most T 64 (λ h. r .0 1 (RowsRefused.table-refused (TableRefused.slots (λ s. omega arith))));
+      atoms = at-most M 16 (λ h. r .0 2 (RowsRefused.table-refused (TableRefused.atoms (λ s. omega arith))));
+      room = omega (arith, at-most (14 * length rs) 65536 (λ h. r .0 11 (RowsRefused.short (r .1 .1) h)));
+      size-is = ap length b ∙ length-rows rs k ∙ omega arith;
+      few-terms = λ i l. rw b (few-at rs k i (omega arith));
+    }
+
+-- ---- the buffer that was lent, and the bytes from its start
+
+pub record Lent (o : Demands.Answer Written) (n size : ℕ) (l : List ℕ) : Type 0 where
+  pub bytes : List ℕ
+  pub is : o ≡ answered (wrote n bytes)
+  pub front : take size l ≡ bytes
+  pub holds : size ≤ length l
+
+lent : (o : Demands.Answer Written) (n size : ℕ) (z l : List ℕ) (w : Wrote o n) → l ≡ buffer o z → length (w .bytes) ≡ size → Lent o n size l
+lent o n size z l w e f =
+    let g : l ≡ w .bytes ++ drop (length (w .bytes)) z = e ∙ ap (λ (x : Demands.Answer Written). buffer x z) (w .is) in
+    record {
+      bytes = w .bytes;
+      is = w .is;
+      front = ap (take size) g ∙ take-at (w .bytes) (drop (length (w .bytes)) z) size f;
+      holds = omega (arith, ap length g, length-append (w .bytes) (drop (length (w .bytes)) z));
+    }
+
+abbrev pub zeros : ℕ → List ℕ
+zeros n = replicate n 0
+
+length-zeros : (n : ℕ) → length (zeros n) ≡ n
+length-zeros n = length-replicate {A = ℕ} n 0
+
+-- a table read into 640 zeros, l after that
+pub record TableReady (M : ℕ) (text : List ℕ) (n : ℕ) (l : List ℕ) : Type 0 where
+  pub table : Lent (readOutcome M text 640) n (5 * n) l
+  pub read : TableRead n (table .bytes)
+
+pub table-ready : (M : ℕ) (text l : List ℕ) (r : Answer) (n : ℕ) → told r ≡ result (readOutcome M text (length (zeros 640))) → l ≡ buffer (readOutcome M text (length (zeros 640))) (zeros 640) → r ≡ Value n → TableReady M text n l
+table-ready M text l r n e f v =
+    let s : length (zeros 640) ≡ 640 = length-zeros 640 in
+    let w = told-value (readOutcome M text 640) r n (rw s at e) v in
+    let t = lent (readOutcome M text 640) n (5 * n) (zeros 640) l w (rw s at f) (table-read M text n (w .bytes) (w .is) .size-is) in
+    record { table = t; read = table-read M text n (t .bytes) (t .is) }
+
+-- rows written into 65,536 bytes
+pub record RowsReady (T M : ℕ) (table : List ℕ) (count : ℕ) (l : List ℕ) : Type 0 where
+  pub rows : Lent (rowsOutcome T M table 65536) count (14 * count) l
+  pub written : RowsWritten T M count (rows .bytes)
+
+pub rows-ready : (T M : ℕ) (table l : List ℕ) (r : Answer) (count : ℕ) → told r ≡ result (rowsOutcome T M table (length (zeros 65536))) → l ≡ buffer (rowsOutcome T M table (length (zeros 65536))) (zeros 65536) → r ≡ Value count → RowsReady T M table count l
+rows-ready T M table l r count e f v =
+    let s : length (zeros 65536) ≡ 65536 = length-zeros 65536 in
+    let w = told-value (rowsOutcome T M table 65536) r count (rw s at e) v in
+    let t = lent (rowsOutcome T M table 65536) count (14 * count) (zeros 65536) l w (rw s at f) (rows-written T M table count (w .bytes) (w .is) .size-is) in
+    record { rows = t; written = rows-written T M table count (t .bytes) (t .is) }
+
+-- there are few variables
+pub variables-few : (T M n : ℕ) → T ≤ 64 → M ≤ 16 → n ≤ 128 → (M + n) * T < 100000
+variables-few T M n t m k = let a : M + n ≤ 144 = omega arith in let h : (M + n) * T ≤ 144 * 64 = mul-le-mul a t in omega arith
+
+-- ---- what is printed of an outcome
+
+length-rowsIn : (n : ℕ) (b : List ℕ) → length (rowsIn n b) ≡ n
+length-rowsIn zero b = refl
+length-rowsIn (suc n) b = ap suc (length-rowsIn n (drop 14 b))
+
+pub printed-rows : (T M n count : ℕ) (bytes : List ℕ) (o : Demands.Answer Written) → o ≡ answered (wrote count bytes) → printed (rowsThen T M n o) ≡ headText count ((M + n) * T) ++ rowsText 0 (rowsIn count bytes)
+printed-rows T M n count bytes o e =
+    ap (λ (x : Demands.Answer Written). printed (rowsThen T M n x)) e ∙ ap (λ (k : ℕ). headText k ((M + n) * T) ++ rowsText 0 (rowsIn count bytes)) (length-rowsIn count bytes)
+
+pub printed-refused : (T M n : ℕ) (table : List ℕ) (r : Answer) (k : Refusal) → told r ≡ result (rowsOutcome T M table (length (zeros 65536))) → r ≡ Refused k → printed (rowsThen T M n (rowsOutcome T M table 65536)) ≡ refusedText (numberOf k)
+printed-refused T M n table r k e v =
+    let s : length (zeros 65536) ≡ 65536 = length-zeros 65536 in
+    ap (λ (x : Demands.Answer Written). printed (rowsThen T M n x)) (told-refused (rowsOutcome T M table 65536) r k (rw s at e) v)
+
+-- the listing, by T's test and the reader's outcome
+pub few-slots : (T M : ℕ) (text : List ℕ) → T < 1 → listing T M text ≡ refusedText 1
+unfolding listing listed
+few-slots T M text h = rw (lt-leb 1 T h) refl
+
+pub many-slots : (T M : ℕ) (text : List ℕ) → 64 < T → listing T M text ≡ refusedText 1
+unfolding listing listed
+many-slots T M text h = rw (le-leb 1 T (omega arith), lt-leb T 64 h) refl
+
+listing-read : (T M : ℕ) (text : List ℕ) (o : Demands.Answer Written) → 1 ≤ T → T ≤ 64 → readOutcome M text 640 ≡ o → listing T M text ≡ printed (readThen T M o)
+unfolding listing listed
+listing-read T M text o l h e = rw (le-leb 1 T l, le-leb T 64 h) (ap (λ (x : Demands.Answer Written). printed (readThen T M x)) e)
+
+pub listing-refused : (T M : ℕ) (text : List ℕ) (r : Answer) (k : Refusal) → 1 ≤ T → T ≤ 64 → told r ≡ result (readOutcome M text (length (zeros 640))) → r ≡ Refused k → listing T M text ≡ refusedText (numberOf k)
+listing-refused T M text r k l h e v =
+    let s : length (zeros 640) ≡ 640 = length-zeros 640 in
+    listing-read T M text (refused (numberOf k)) l h (told-refused (readOutcome M text 640) r k (rw s at e) v)
+
+pub listing-rows : (T M n : ℕ) (text l : List ℕ) → 1 ≤ T → T ≤ 64 → (t : TableReady M text n l) → listing T M text ≡ printed (rowsThen T M n (rowsOutcome T M (take (5 * n) l) 65536))
+listing-rows T M n text l low high t =
+    listing-read T M text (answered (wrote n (t .table .bytes))) low high (t .table .is)
+    ∙ ap (λ (x : List ℕ). printed (rowsThen T M n (rowsOutcome T M x 65536))) (sym (t .table .front))
+
+-- ---- the page of a state
+
+pub take-least : (n k : ℕ) (l : List ℕ) → n ≡ min k (length l) → take n l ≡ take k l
+take-least n k l e = go (leb k (length l)) refl
+  where
+    go : (b : Bool) → leb k (length l) ≡ b → take n l ≡ take k l
+    go true f = let h = leb-true k (length l) f in let g : n ≡ k = omega arith in ap (λ (i : ℕ). take i l) g
+    go false f = let h = leb-false k (length l) f in take-all n l (omega arith) ∙ sym (take-all k l (omega arith))
+
+pub shown-listing : (s : Scan) (text : List ℕ) (b : Bool) (n : ℕ) → b ≡ shaped (s .stage) → b ≡ true → n ≡ min (s .kept) (length text) → shown (state s text) ≡ listing (s .slots) (s .atoms) (take n text)
+unfolding shown
+shown-listing s text b n e f g =
+    let h : shaped (s .stage) ≡ true = sym e ∙ f in
+    rw (h, take-least n (s .kept) text g) refl
+
+pub shown-bad : (s : Scan) (text : List ℕ) (b : Bool) → b ≡ shaped (s .stage) → b ≡ false → shown (state s text) ≡ badInput
+unfolding shown
+shown-bad s text b e f = let h : shaped (s .stage) ≡ false = sym e ∙ f in rw h refl

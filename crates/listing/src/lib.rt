@@ -1,0 +1,89 @@
+// The page of program rowlist.
+ghost use mathlib.Core.Path.{_≡_};
+ghost use Prim.Native.Nat.{min, _≤_};
+ghost use lib.ListN.{length};
+ghost use lib.Seq.{sets};
+ghost use Rattle.rules.specs.Outcome.{rowsOutcome};
+ghost use Rattle.answers.specs.Told.{numberOf};
+ghost use Rattle.rowtext.specs.Put.{Put};
+ghost use Rattle.input.specs.Scanning.{state};
+ghost use Rattle.listing.specs.Page.{rowsThen, refusedText, printed, listing, page, shown};
+
+// `refused` and the number.
+fn put_refusal(out: &mut [u8; 160000], refusal: answers::Refusal) -> usize
+    ensures { λ r. ⌜ Put 0 (refusedText (numberOf refusal)) (now (out .entry)) (now (out .exit)) r × (r ≤ 160000) ⌝ }
+{
+    let n = answers::number(refusal);
+    let a = rowtext::put_bytes(out, 0, b"refused ");
+    let b = rowtext::put_decimal(out, a, n as usize);
+    rowtext::put_bytes(out, b, b"\n")
+}
+
+// The rows of a table of `n` nodes.
+fn list_rows(table: &[u8], n: usize, t: usize, m: usize, out: &mut [u8; 160000]) -> usize
+    requires { ⌜ n ≤ 128 ⌝ }
+    ensures { λ r. ⌜ Put 0 (printed (rowsThen t m n (rowsOutcome t m (now (table .entry)) 65536))) (now (out .entry)) (now (out .exit)) r × (r ≤ 160000) ⌝ }
+{
+    let mut rows = [0u8; 65536];
+    match rows::write_rows(table, t, m, &mut rows) {
+        answers::Answer::Refused(refusal) => put_refusal(out, refusal),
+        answers::Answer::Value(count) => {
+            let next = rowtext::put_head(out, count, (m + n) * t);
+            let end = 14 * count;
+            rowtext::put_rows(out, next, count, &rows[..end])
+        }
+    }
+}
+
+// The rows of a rule, or the lowest refusal.
+fn list(text: &[u8], t: usize, m: usize, out: &mut [u8; 160000]) -> usize
+    ensures { λ r. ⌜ Put 0 (listing t m (now (text .entry))) (now (out .entry)) (now (out .exit)) r × (r ≤ 160000) ⌝ }
+{
+    if t < 1 {
+        return put_refusal(out, answers::Refusal::Slots);
+    }
+    if 64 < t {
+        return put_refusal(out, answers::Refusal::Slots);
+    }
+    let mut table = [0u8; 640];
+    match reader::read(text, m, &mut table) {
+        answers::Answer::Refused(refusal) => put_refusal(out, refusal),
+        answers::Answer::Value(n) => {
+            let end = 5 * n;
+            list_rows(&table[..end], n, t, m, out)
+        }
+    }
+}
+
+fn least(a: usize, b: usize) -> usize
+    ensures { λ r. ⌜ r ≡ min a b ⌝ }
+{
+    if a < b { a } else { b }
+}
+
+// The page that a scan and its text stand for, from the start of `out`; the result is its length.
+pub fn print(scan: input::Scan, text: &[u8], out: &mut [u8; 160000]) -> usize
+    ensures { λ r. ⌜ (r ≡ length (shown (state scan (now (text .entry))))) × (r ≤ 160000) ⌝ }
+    ensures { λ _. ⌜ now (out .exit) ≡ sets (now (out .entry)) 0 (shown (state scan (now (text .entry)))) ⌝ }
+{
+    let stage = scan.stage;
+    let t = scan.slots;
+    let m = scan.atoms;
+    let kept = scan.kept;
+    if input::is_shaped(stage) {
+        let end = least(kept, text.len());
+        return list(&text[..end], t, m, out);
+    }
+    rowtext::put_bytes(out, 0, b"bad input\n")
+}
+
+// The page of a whole input.
+pub fn page_of(bytes: &[u8], out: &mut [u8; 160000]) -> usize
+    ensures { λ r. ⌜ (r ≡ length (page (now (bytes .entry)))) × (r ≤ 160000) ⌝ }
+    ensures { λ _. ⌜ now (out .exit) ≡ sets (now (out .entry)) 0 (page (now (bytes .entry))) ⌝ }
+{
+    let mut text = [0u8; 1025];
+    let begun = input::start();
+    let scan = input::feed(begun, bytes, &mut text);
+    print(scan, &text, out)
+}

@@ -1,0 +1,4 @@
+pub mod Decimal
+pub mod RowText
+pub mod Put
+pub mod Records

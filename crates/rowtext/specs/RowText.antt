@@ -1,0 +1,50 @@
+-- The printed text of rows: "counts of rows and variables, then row number, relation, right side, signed terms". Each line ends in a line feed.
+use mathlib.Core.List.{List, [], _∷_, _++_}
+use Prim.Native.Nat.{ℕ, suc, _+_, _*_, _≤_, _<_}
+use lib.ListN.{getD}
+use lib.IntN.{ℤ, pos, negsuc}
+use Rattle.rules.specs.Rows.{Relation, Term, Row}
+use Rattle.rules.specs.Rows.Relation.{at-least, equal}
+use Rattle.rowtext.specs.Decimal.{decimal}
+
+-- >= and =
+abbrev pub relationText : Relation → List ℕ
+relationText at-least = 62 ∷ 61 ∷ []
+relationText equal = 61 ∷ []
+
+-- a whole number, with - before one below 0
+abbrev pub signedText : ℤ → List ℕ
+signedText (pos n) = decimal n
+signedText (negsuc n) = 45 ∷ decimal (suc n)
+
+-- + or -; the coefficients of "Rows" are 1 and −1
+abbrev pub signOf : ℤ → ℕ
+signOf (pos n) = 43
+signOf (negsuc n) = 45
+
+-- a space, the sign and the variable
+abbrev pub termText : Term → List ℕ
+termText t = 32 ∷ signOf (t .coefficient) ∷ decimal (t .variable)
+
+unfoldable pub termsText : List Term → List ℕ
+termsText [] = []
+termsText (t ∷ ts) = termText t ++ termsText ts
+
+-- the line of row i
+unfoldable pub rowText : ℕ → Row → List ℕ
+rowText i r =
+    decimal i ++ (32 ∷ (relationText (r .relation) ++ (32 ∷ (signedText (r .right) ++ (termsText (r .terms) ++ (10 ∷ []))))))
+
+-- the lines of rows, from row i on
+unfoldable pub rowsText : ℕ → List Row → List ℕ
+rowsText i [] = []
+rowsText i (r ∷ rs) = rowText i r ++ rowsText (i + 1) rs
+
+-- `rows R vars V`
+unfoldable pub headText : (rows variables : ℕ) → List ℕ
+headText rows variables =
+    (114 ∷ 111 ∷ 119 ∷ 115 ∷ 32 ∷ []) ++ (decimal rows ++ ((32 ∷ 118 ∷ 97 ∷ 114 ∷ 115 ∷ 32 ∷ []) ++ (decimal variables ++ (10 ∷ []))))
+
+-- each of the first `count` records has at most three terms
+abbrev pub FewTerms : (count : ℕ) → List ℕ → Type 0
+FewTerms count bytes = (i : ℕ) → i < count → getD bytes (14 * i + 3) 0 ≤ 3

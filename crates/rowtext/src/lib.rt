@@ -1,0 +1,144 @@
+// The printed text of row records, written into a page.
+ghost use mathlib.Core.Path.{_≡_};
+ghost use mathlib.Core.List.{[], _∷_};
+ghost use Prim.Native.Nat.{_+_, _*_, _≤_, _<_};
+ghost use lib.ListN.{length, getD, drop};
+ghost use Rattle.rules.specs.Rows.{signedIn, relationIn, termsIn, rowIn, rowsIn};
+ghost use Rattle.rowtext.specs.Decimal.{decimal};
+ghost use Rattle.rowtext.specs.RowText.{relationText, signedText, signOf, termsText, rowText, rowsText, headText, FewTerms};
+ghost use Rattle.rowtext.specs.Put.{Put};
+
+// Copies `src` into the page from `at` on.
+pub fn put_bytes(out: &mut [u8; 160000], at: usize, src: &[u8]) -> usize
+    requires { ⌜ at + length (now src) ≤ 160000 ⌝ }
+    ensures { λ r. ⌜ Put at (now (src .entry)) (now (out .entry)) (now (out .exit)) r ⌝ }
+{
+    let mut i: usize = 0;
+    while i < src.len() {
+        out[at + i] = src[i];
+        i += 1;
+    }
+    at + i
+}
+
+fn put_byte(out: &mut [u8; 160000], at: usize, b: u8) -> usize
+    requires { ⌜ at < 160000 ⌝ }
+    ensures { λ r. ⌜ Put at (b ∷ []) (now (out .entry)) (now (out .exit)) r ⌝ }
+{
+    out[at] = b;
+    at + 1
+}
+
+// The digits of `n`.
+pub fn put_decimal(out: &mut [u8; 160000], at: usize, n: usize) -> usize
+    requires { ⌜ at + length (decimal n) ≤ 160000 ⌝ }
+    ensures { λ r. ⌜ Put at (decimal n) (now (out .entry)) (now (out .exit)) r ⌝ }
+{
+    if n < 10 {
+        return put_byte(out, at, 48 + (n as u8));
+    }
+    let next = put_decimal(out, at, n / 10);
+    put_byte(out, next, 48 + ((n % 10) as u8))
+}
+
+// `>=` and `=`, by the relation byte of a record.
+fn put_relation(out: &mut [u8; 160000], at: usize, relation: u8) -> usize
+    requires { ⌜ at + 2 ≤ 160000 ⌝ }
+    ensures { λ r. ⌜ Put at (relationText (relationIn relation)) (now (out .entry)) (now (out .exit)) r × (r ≤ at + 2) ⌝ }
+{
+    if relation == 1 {
+        return put_bytes(out, at, b">=");
+    }
+    put_byte(out, at, b'=')
+}
+
+// A signed byte as a whole number.
+fn put_signed(out: &mut [u8; 160000], at: usize, b: u8) -> usize
+    requires { ⌜ at + 4 ≤ 160000 ⌝ }
+    ensures { λ r. ⌜ Put at (signedText (signedIn b)) (now (out .entry)) (now (out .exit)) r × (r ≤ at + 4) ⌝ }
+{
+    if b < 128 {
+        return put_decimal(out, at, b as usize);
+    }
+    let next = put_byte(out, at, b'-');
+    put_decimal(out, next, 256 - (b as usize))
+}
+
+// `+` or `-`, by a coefficient byte.
+fn sign(b: u8) -> u8
+    ensures { λ r. ⌜ r ≡ signOf (signedIn b) ⌝ }
+{
+    if b < 128 { b'+' } else { b'-' }
+}
+
+fn variable(low: u8, high: u8) -> usize
+    ensures { λ r. ⌜ (r ≡ low + 256 * high) × (r < 100000) ⌝ }
+{
+    (low as usize) + 256 * (high as usize)
+}
+
+// A space, the sign and the variable.
+fn put_term(out: &mut [u8; 160000], at: usize, coefficient: u8, v: usize) -> usize
+    requires { ⌜ (at + 7 ≤ 160000) × (v < 100000) ⌝ }
+    ensures { λ r. ⌜ Put at (32 ∷ signOf (signedIn coefficient) ∷ decimal v) (now (out .entry)) (now (out .exit)) r × (r ≤ at + 7) ⌝ }
+{
+    let space = put_byte(out, at, b' ');
+    let next = put_byte(out, space, sign(coefficient));
+    put_decimal(out, next, v)
+}
+
+// The `k` terms of a record from its byte `p` on.
+fn put_terms(out: &mut [u8; 160000], at: usize, bytes: &[u8], p: usize, k: usize) -> usize
+    requires { ⌜ (p + 3 * k ≤ length (now bytes)) × (at + 7 * k ≤ 160000) ⌝ }
+    ensures { λ r. ⌜ Put at (termsText (termsIn k (drop p (now (bytes .entry))))) (now (out .entry)) (now (out .exit)) r × (r ≤ at + 7 * k) ⌝ }
+{
+    if k == 0 {
+        return at;
+    }
+    let v = variable(bytes[p + 1], bytes[p + 2]);
+    let next = put_term(out, at, bytes[p], v);
+    put_terms(out, next, bytes, p + 3, k - 1)
+}
+
+// The line of row `i`, by its record.
+fn put_row(out: &mut [u8; 160000], at: usize, i: usize, bytes: &[u8]) -> usize
+    requires { ⌜ (at + 34 ≤ 160000) × (i < 10000) × (length (now bytes) ≡ 14) × (getD (now bytes) 3 0 ≤ 3) ⌝ }
+    ensures { λ r. ⌜ Put at (rowText i (rowIn (now (bytes .entry)))) (now (out .entry)) (now (out .exit)) r × (r ≤ at + 34) ⌝ }
+{
+    let a = put_decimal(out, at, i);
+    let b = put_byte(out, a, b' ');
+    let c = put_relation(out, b, bytes[2]);
+    let d = put_byte(out, c, b' ');
+    let e = put_signed(out, d, bytes[4]);
+    let f = put_terms(out, e, bytes, 5, bytes[3] as usize);
+    put_byte(out, f, b'\n')
+}
+
+// The lines of `count` records.
+pub fn put_rows(out: &mut [u8; 160000], from: usize, count: usize, rows: &[u8]) -> usize
+    requires { ⌜ (from + 34 * count ≤ 160000) × (count ≤ 10000) × (14 * count ≤ length (now rows)) ⌝ }
+    requires { ⌜ FewTerms count (now rows) ⌝ }
+    ensures { λ r. ⌜ Put from (rowsText 0 (rowsIn count (now (rows .entry)))) (now (out .entry)) (now (out .exit)) r × (r ≤ from + 34 * count) ⌝ }
+{
+    let mut at = from;
+    let mut i: usize = 0;
+    while i < count {
+        let start = 14 * i;
+        let end = start + 14;
+        at = put_row(out, at, i, &rows[start..end]);
+        i += 1;
+    }
+    at
+}
+
+// The first line.
+pub fn put_head(out: &mut [u8; 160000], count: usize, variables: usize) -> usize
+    requires { ⌜ (count < 100000) × (variables < 100000) ⌝ }
+    ensures { λ r. ⌜ Put 0 (headText count variables) (now (out .entry)) (now (out .exit)) r × (r ≤ 22) ⌝ }
+{
+    let a = put_bytes(out, 0, b"rows ");
+    let b = put_decimal(out, a, count);
+    let c = put_bytes(out, b, b" vars ");
+    let d = put_decimal(out, c, variables);
+    put_byte(out, d, b'\n')
+}
