@@ -1,0 +1,223 @@
+// Numbers, lists of numbers and bytes in hexadecimal.
+ghost use Prim.Native.Nat.{_≤_};
+ghost use lib.ListN.{length};
+use crate::part;
+use crate::parts;
+
+// Numbers have at most ten digits.
+const LIMIT: usize = 10000000000;
+
+pub enum Number {
+    Is(usize),
+    Bad,
+}
+
+// How much of an array is filled; not good where the text is no such list, or one too long.
+pub struct Filled {
+    pub good: bool,
+    pub count: usize,
+}
+
+pub enum Figure {
+    Is(i32),
+    Bad,
+}
+
+impl Filled {
+    const NONE: Filled = Filled {
+        good: true,
+        count: 0,
+    };
+
+    const BAD: Filled = Filled {
+        good: false,
+        count: 0,
+    };
+}
+
+// The number with one digit more; LIMIT or more where that is none.
+fn grown(value: usize, byte: u8) -> usize {
+    if LIMIT <= value {
+        return LIMIT;
+    }
+    if byte < b'0' {
+        return LIMIT;
+    }
+    if b'9' < byte {
+        return LIMIT;
+    }
+    value * 10 + (byte - b'0') as usize
+}
+
+// A decimal number.
+pub fn decimal(text: &[u8]) -> Number {
+    let mut value: usize = 0;
+    let mut i: usize = 0;
+    while i < text.len() {
+        value = grown(value, text[i]);
+        i += 1;
+    }
+    if i == 0 {
+        return Number::Bad;
+    }
+    if LIMIT <= value {
+        return Number::Bad;
+    }
+    Number::Is(value)
+}
+
+// Whether the text is the letter and the number n.
+pub fn is_answer(text: &[u8], letter: u8, n: usize) -> bool {
+    if text.len() == 0 {
+        return false;
+    }
+    if text[0] != letter {
+        return false;
+    }
+    match decimal(&text[1..]) {
+        Number::Is(m) => m == n,
+        Number::Bad => false,
+    }
+}
+
+// Whether the text stands for an empty list.
+fn is_none(text: &[u8]) -> bool {
+    if text.len() != 1 {
+        return false;
+    }
+    text[0] == b'-'
+}
+
+// A hexadecimal digit, in lower case; 16 where the byte is none.
+fn digit(byte: u8) -> u8
+    ensures { λ r. ⌜ r ≤ 16 ⌝ }
+{
+    if byte < b'0' {
+        return 16;
+    }
+    if byte <= b'9' {
+        return byte - b'0';
+    }
+    if byte < b'a' {
+        return 16;
+    }
+    if byte <= b'f' {
+        return byte - b'a' + 10;
+    }
+    16
+}
+
+// Bytes in hexadecimal.
+pub fn hex(text: &[u8], into: &mut [u8]) -> Filled
+    ensures { λ r. ⌜ r .count ≤ length (now (into .exit)) ⌝ }
+{
+    if is_none(text) {
+        return Filled::NONE;
+    }
+    let n = text.len() / 2;
+    if into.len() < n {
+        return Filled::BAD;
+    }
+    if text.len() != 2 * n {
+        return Filled::BAD;
+    }
+    let mut i: usize = 0;
+    while i < n {
+        let high = digit(text[2 * i]);
+        let low = digit(text[2 * i + 1]);
+        if 15 < high {
+            return Filled::BAD;
+        }
+        if 15 < low {
+            return Filled::BAD;
+        }
+        into[i] = high * 16 + low;
+        i += 1;
+    }
+    Filled {
+        good: true,
+        count: n,
+    }
+}
+
+// Numbers of 16 bits, with commas.
+pub fn run(text: &[u8], into: &mut [u16]) -> Filled
+    ensures { λ r. ⌜ r .count ≤ length (now (into .exit)) ⌝ }
+{
+    if is_none(text) {
+        return Filled::NONE;
+    }
+    let n = parts(text, b',');
+    if into.len() < n {
+        return Filled::BAD;
+    }
+    let mut i: usize = 0;
+    while i < n {
+        let Number::Is(x) = decimal(part(text, i, b',')) else {
+            return Filled::BAD;
+        };
+        if 65535 < x {
+            return Filled::BAD;
+        }
+        into[i] = x as u16;
+        i += 1;
+    }
+    Filled {
+        good: true,
+        count: n,
+    }
+}
+
+fn minus(size: usize) -> i32
+    requires { ⌜ size ≤ 2147483648 ⌝ }
+{
+    (0 - (size as i64)) as i32
+}
+
+// A decimal number of 32 bits, with its sign where it is below zero.
+pub fn signed(text: &[u8]) -> Figure {
+    if text.len() == 0 {
+        return Figure::Bad;
+    }
+    if text[0] != b'-' {
+        let Number::Is(x) = decimal(text) else {
+            return Figure::Bad;
+        };
+        if 2147483647 < x {
+            return Figure::Bad;
+        }
+        return Figure::Is(x as i32);
+    }
+    let Number::Is(x) = decimal(&text[1..]) else {
+        return Figure::Bad;
+    };
+    if 2147483648 < x {
+        return Figure::Bad;
+    }
+    Figure::Is(minus(x))
+}
+
+// Numbers of 32 bits, with commas.
+pub fn figures(text: &[u8], into: &mut [i32]) -> Filled
+    ensures { λ r. ⌜ r .count ≤ length (now (into .exit)) ⌝ }
+{
+    if is_none(text) {
+        return Filled::NONE;
+    }
+    let n = parts(text, b',');
+    if into.len() < n {
+        return Filled::BAD;
+    }
+    let mut i: usize = 0;
+    while i < n {
+        let Figure::Is(x) = signed(part(text, i, b',')) else {
+            return Filled::BAD;
+        };
+        into[i] = x;
+        i += 1;
+    }
+    Filled {
+        good: true,
+        count: n,
+    }
+}

@@ -1,0 +1,14 @@
+-- At most 128 nodes at 64 slots.
+use native.Mathlib.Nat.{mul-le-mul}
+use native.Mathlib.Omega.{arith}
+use Rattle.known.proofs.spin.product.Statement.{statement}
+use Rattle.known.proofs.spin.product.Tie as tie
+
+mul-result : tie.Need-mul-result
+mul-result c = omega (arith, mul-le-mul (c .pre .0) (c .pre .1))
+
+returns : tie.Need-returns
+returns c = mul-le-mul (c .pre .0) (c .pre .1)
+
+pub product-spec : {M : Type 1} → statement M
+product-spec = tie.close (tie.spec mul-result returns)
