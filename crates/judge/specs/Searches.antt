@@ -3,7 +3,7 @@ use mathlib.Core.Path.{_≡_, refl, sym, ap, _∙_}
 use mathlib.Core.Bool.{Bool, true, false, cond}
 use mathlib.Core.List.{List, [], _∷_, _++_, append-assoc}
 use mathlib.Core.Option.{Option, none, some}
-use Prim.Native.Nat.{ℕ, suc, _+_, _≤_}
+use Prim.Native.Nat.{ℕ, zero, suc, _+_, _-_, _≤_}
 use native.Mathlib.Numerals.{add-one}
 use native.Mathlib.Omega.{arith}
 use lib.ListN.{length, getD, length-append}
@@ -11,10 +11,6 @@ use lib.Seq.{getD-append-seam}
 use Rattle.lists.specs.First.{first}
 use Rattle.lists.specs.Flat.{flat, flat-zero, flat-more}
 use Rattle.rules.specs.Rows.{Row}
-use Rattle.row.specs.declared.Row as Value
-use Rattle.row.specs.declared.Rows.{Rows}
-use Rattle.row.specs.declared.Rows.the-variants.{One, Three, Four}
-use Rattle.row.specs.Meaning.{rowOf, listOf}
 use Rattle.judge.specs.declared.Found.{Found}
 use Rattle.judge.specs.declared.Found.the-variants.{At, Nowhere}
 use Rattle.judge.specs.declared.Search.{Search}
@@ -26,10 +22,13 @@ found Nowhere = none
 
 -- ---- rows one after the other
 
--- one more row is tested, if none was broken
+-- one more row is tested, if none was broken; b is whether it is broken
+abbrev pub stepped : (b : Bool) → Search → Search
+stepped b (Clear i) = cond b (Broken i) (Clear (i + 1))
+stepped b (Broken i) = Broken i
+
 abbrev pub next : (Row → Bool) → Search → Row → Search
-next f (Clear i) r = cond (f r) (Broken i) (Clear (i + 1))
-next f (Broken i) r = Broken i
+next f s r = stepped (f r) s
 
 unfoldable pub tested : (Row → Bool) → Search → List Row → Search
 tested f s [] = s
@@ -66,30 +65,22 @@ reached (Clear i) = i
 reached (Broken i) = i
 
 -- one more row, as the call that tests it ensures
-pub record Next (f : Row → Bool) (s : Search) (r : Row) (x : Search) : Type 0 where
-  pub is : x ≡ next f s r
+pub record Step (b : Bool) (s x : Search) : Type 0 where
+  pub is : x ≡ stepped b s
   pub by-one : reached x ≤ reached s + 1
 
-module _ (f : Row → Bool) (s : Search) (r : Row) (i : ℕ) where
-  pub already-broken : s ≡ Broken i → Next f s r (Broken i)
+module _ (b : Bool) (s : Search) (i : ℕ) where
+  pub already-broken : s ≡ Broken i → Step b s (Broken i)
   unfolding reached
-  already-broken e = record { is = sym (ap (λ (x : Search). next f x r) e); by-one = rw e (omega arith) }
+  already-broken e = record { is = sym (ap (stepped b) e); by-one = rw e (omega arith) }
 
-  pub now-broken : s ≡ Clear i → f r ≡ true → Next f s r (Broken i)
+  pub now-broken : s ≡ Clear i → b ≡ true → Step b s (Broken i)
   unfolding reached
-  now-broken e t =
-      record {
-        is = sym (ap (λ (x : Search). next f x r) e ∙ ap (λ (b : Bool). cond b (Broken i) (Clear (i + 1))) t);
-        by-one = rw e (omega arith);
-      }
+  now-broken e t = record { is = rw (t, e); by-one = rw e (omega arith) }
 
-  pub still-clear : s ≡ Clear i → f r ≡ false → Next f s r (Clear (i + 1))
+  pub still-clear : s ≡ Clear i → b ≡ false → Step b s (Clear (i + 1))
   unfolding reached
-  still-clear e t =
-      record {
-        is = sym (ap (λ (x : Search). next f x r) e ∙ ap (λ (b : Bool). cond b (Broken i) (Clear (i + 1))) t);
-        by-one = rw e (omega arith);
-      }
+  still-clear e t = record { is = rw (t, e); by-one = rw e (omega arith) }
 
 pub reached-clear : (s : Search) (i : ℕ) → s ≡ Clear i → reached s ≡ i
 unfolding reached
@@ -99,27 +90,64 @@ pub reached-start : reached (Clear 0) ≡ 0
 unfolding reached
 reached-start = refl
 
--- the rows of a node at a slot
-module _ (f : Row → Bool) (s : Search) (rows : Rows) where
-  pub one-tested : {a : Value.Row} {x : Search} → rows ≡ One a → Next f s (rowOf a) x → x ≡ tested f s (listOf rows)
-  unfolding tested
-  one-tested e p = rw e (p .is)
+-- the rows of a node at a slot, as the call that tests them ensures
+pub record Tested (f : Row → Bool) (s : Search) (rs : List Row) (x : Search) : Type 0 where
+  pub is : x ≡ tested f s rs
+  pub by-four : reached x ≤ reached s + 4
 
-  pub three-tested : {a b c : Value.Row} {x y z : Search} → rows ≡ Three a b c → Next f s (rowOf a) x → Next f x (rowOf b) y → Next f y (rowOf c) z → z ≡ tested f s (listOf rows)
-  unfolding tested
-  three-tested {a} {b} {c} e p q r =
-      rw e (r .is ∙ ap (λ (u : Search). next f u (rowOf c)) (q .is ∙ ap (λ (u : Search). next f u (rowOf b)) (p .is)))
+module _ (f : Row → Bool) where
+  step-next : {i : Bool} {a : Row} {s x : Search} → i ≡ f a → Step i s x → x ≡ next f s a
+  step-next {s = s} t p = p .is ∙ ap (λ (b : Bool). stepped b s) t
 
-  pub four-tested : {a b c d : Value.Row} {w x y z : Search} → rows ≡ Four a b c d →
-      Next f s (rowOf a) w → Next f w (rowOf b) x → Next f x (rowOf c) y → Next f y (rowOf d) z → z ≡ tested f s (listOf rows)
+  pub one-tested : {i : Bool} {a : Row} {s x : Search} → i ≡ f a → Step i s x → Tested f s (a ∷ []) x
   unfolding tested
-  four-tested {a} {b} {c} {d} e p q r t =
-      rw e (t .is ∙ ap (λ (u : Search). next f u (rowOf d)) (r .is ∙ ap (λ (u : Search). next f u (rowOf c)) (q .is ∙ ap (λ (u : Search). next f u (rowOf b)) (p .is))))
+  one-tested t p = record { is = step-next t p; by-four = omega (arith, p .by-one) }
+
+  pub three-tested : {i j k : Bool} {a b c : Row} {s x y z : Search} → i ≡ f a → j ≡ f b → k ≡ f c → Step i s x → Step j x y → Step k y z → Tested f s (a ∷ b ∷ c ∷ []) z
+  unfolding tested
+  three-tested {b = b} {c = c} t u v p q r =
+      record {
+        is = step-next v r ∙ ap (λ (o : Search). next f o c) (step-next u q ∙ ap (λ (o : Search). next f o b) (step-next t p));
+        by-four = omega (arith, p .by-one, q .by-one, r .by-one);
+      }
+
+  pub four-tested : {i j k l : Bool} {a b c d : Row} {s w x y z : Search} → i ≡ f a → j ≡ f b → k ≡ f c → l ≡ f d →
+      Step i s w → Step j w x → Step k x y → Step l y z → Tested f s (a ∷ b ∷ c ∷ d ∷ []) z
+  unfolding tested
+  four-tested {b = b} {c = c} {d = d} t u v w p q r o =
+      record {
+        is = step-next w o ∙ ap (λ (o : Search). next f o d) (step-next v r ∙ ap (λ (o : Search). next f o c) (step-next u q ∙ ap (λ (o : Search). next f o b) (step-next t p)));
+        by-four = omega (arith, p .by-one, q .by-one, r .by-one, o .by-one);
+      }
 
 stuck : (f : Row → Bool) (i : ℕ) (rs : List Row) → tested f (Broken i) rs ≡ Broken i
 unfolding tested
 stuck f i [] = refl
 stuck f i (r ∷ rs) = stuck f i rs
+
+-- ---- a search that is over: it passes the rest
+
+abbrev pub over : Search → Bool
+over (Clear i) = false
+over (Broken i) = true
+
+stays : (f : Row → Bool) (x : Search) (rs : List Row) → over x ≡ true → tested f x rs ≡ x
+stays f (Broken i) rs e = stuck f i rs
+stays f (Clear i) rs e = let z : _≡_ {A = ℕ} 0 1 = cc in absurd (omega arith)
+
+module _ (f : Row → Bool) (s : Search) (g : ℕ → List Row) where
+  later : (k j : ℕ) → over (tested f s (flat g k)) ≡ true → tested f s (flat g (k + j)) ≡ tested f s (flat g k)
+  later k zero o = let e : k + zero ≡ k = omega arith in ap (λ (n : ℕ). tested f s (flat g n)) e
+  later k (suc j) o =
+      let e : k + suc j ≡ k + j + 1 = omega arith in
+      let h = later k j o in
+      ap (λ (n : ℕ). tested f s (flat g n)) e ∙ tested-more f s g (k + j) ∙ ap (λ (x : Search). tested f x (g (k + j))) h
+      ∙ stays f (tested f s (flat g k)) (g (k + j)) o
+
+  pub over-rest : (k n : ℕ) {x : Search} → k ≤ n → x ≡ tested f s (flat g k) → over x ≡ true → x ≡ tested f s (flat g n)
+  over-rest k n h p o =
+      let e : k + (n - k) ≡ n = omega arith in
+      p ∙ sym (later k (n - k) (ap over (sym p) ∙ o)) ∙ ap (λ (i : ℕ). tested f s (flat g i)) e
 
 module _ (f : Row → Bool) (d : Row) where
   -- the rows rs stand after p in l, and the search is at the first of them

@@ -31,6 +31,30 @@ pub truth-small : (b : Bool) → natAbs (ofTruth b .value) ≤ 1000000
 truth-small true = omega arith
 truth-small false = omega arith
 
+-- ---- the sums of two and three terms, and the tests of rows that have them, over the figures of the variables
+
+abbrev pub pairOf : (j x k y : ℤ) → ℤ
+pairOf j x k y = j *ℤ x +ℤ (k *ℤ y +ℤ pos 0)
+
+abbrev pub tripleOf : (j x k y l z : ℤ) → ℤ
+tripleOf j x k y l z = j *ℤ x +ℤ (k *ℤ y +ℤ (l *ℤ z +ℤ pos 0))
+
+pub pair-same : {j j′ x x′ k k′ y y′ : ℤ} → j ≡ j′ → x ≡ x′ → k ≡ k′ → y ≡ y′ → pairOf j x k y ≡ pairOf j′ x′ k′ y′
+pair-same a b c d = cc
+
+pub triple-same : {j j′ x x′ k k′ y y′ l l′ z z′ : ℤ} → j ≡ j′ → x ≡ x′ → k ≡ k′ → y ≡ y′ → l ≡ l′ → z ≡ z′ →
+    tripleOf j x k y l z ≡ tripleOf j′ x′ k′ y′ l′ z′
+triple-same a b c d e f = cc
+
+abbrev pub pairShort : (j x k y right : ℤ) (e : ℕ) → Bool
+pairShort j x k y right e = ltZ (pairOf j x k y) (right *ℤ pos one -ℤ pos e)
+
+abbrev pub pairOff : (j x k y right : ℤ) (e : ℕ) → Bool
+pairOff j x k y right e = apart e (right *ℤ pos one) (pairOf j x k y)
+
+abbrev pub tripleShort : (j x k y l z right : ℤ) (e : ℕ) → Bool
+tripleShort j x k y l z right e = ltZ (tripleOf j x k y l z) (right *ℤ pos one -ℤ pos e)
+
 -- ---- a row's sum, term by term
 
 abbrev Is : List ℤ → ℤ → Term → Type 0

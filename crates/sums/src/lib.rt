@@ -11,6 +11,7 @@ ghost use lib.Signed.{ltZ};
 ghost use Rattle.rules.specs.Quantities as Quantities;
 ghost use Rattle.rules.specs.Rows.{valueAt, sumOf};
 ghost use Rattle.rules.specs.Verdicts.{apart, isOutside, isNotBinary, isBroken};
+ghost use Rattle.sums.specs.Laws.{pairShort, pairOff, tripleShort, pairOf, tripleOf};
 ghost use Rattle.millionths.specs.Unit.{ofTruth};
 ghost use Rattle.row.specs.Meaning.{termsOf, rowOf};
 
@@ -87,7 +88,7 @@ fn wide(v: u16) -> usize
 }
 
 // The figure of a variable.
-fn figure_of(figures: &[i32], variable: u16) -> i32
+pub fn figure_of(figures: &[i32], variable: u16) -> i32
     ensures { λ r. ⌜ r ≡ valueAt (now (figures .entry)) variable ⌝ }
 {
     let at = wide(variable);
@@ -106,6 +107,41 @@ fn scaled(right: i8) -> i64
     ensures { λ r. ⌜ (r ≡ right *ℤ pos Quantities.one) × (natAbs r ≤ 128000000) ⌝ }
 {
     (right as i64) * (Millionths::ONE.value as i64)
+}
+
+// The sum of two terms.
+fn pair(j: i8, x: i32, k: i8, y: i32) -> i64
+    ensures { λ r. ⌜ (r ≡ pairOf j x k y) × (natAbs r ≤ 824633720832) ⌝ }
+{
+    product(j, x) + product(k, y)
+}
+
+// The sum of three terms.
+fn triple(j: i8, x: i32, k: i8, y: i32, l: i8, z: i32) -> i64
+    ensures { λ r. ⌜ (r ≡ tripleOf j x k y l z) × (natAbs r ≤ 824633720832) ⌝ }
+{
+    product(j, x) + (product(k, y) + product(l, z))
+}
+
+// Whether figures break jx + ky ≥ right.
+pub fn pair_short(j: i8, x: i32, k: i8, y: i32, right: i8, e: u16) -> bool
+    ensures { λ r. ⌜ r ≡ pairShort j x k y right e ⌝ }
+{
+    is_below(pair(j, x, k, y), lowered(scaled(right), e))
+}
+
+// Whether figures break jx + ky = right.
+pub fn pair_off(j: i8, x: i32, k: i8, y: i32, right: i8, e: u16) -> bool
+    ensures { λ r. ⌜ r ≡ pairOff j x k y right e ⌝ }
+{
+    is_apart(e, scaled(right), pair(j, x, k, y))
+}
+
+// Whether figures break jx + ky + lz ≥ right.
+pub fn triple_short(j: i8, x: i32, k: i8, y: i32, l: i8, z: i32, right: i8, e: u16) -> bool
+    ensures { λ r. ⌜ r ≡ tripleShort j x k y l z right e ⌝ }
+{
+    is_below(triple(j, x, k, y, l, z), lowered(scaled(right), e))
 }
 
 fn term(figures: &[i32], t: Term) -> i64

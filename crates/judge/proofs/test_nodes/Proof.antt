@@ -1,6 +1,6 @@
 -- `judge::test_nodes` meets its contract. The loop's invariant: the rows of the nodes passed are tested. Assumes nothing.
 use mathlib.Core.Path.{_≡_, sym, ap, _∙_}
-use Prim.Native.Nat.{ℕ, _-_, _*_, _≤_}
+use Prim.Native.Nat.{ℕ, _+_, _-_, _*_, _≤_}
 use native.Mathlib.Omega.{arith}
 use borrow.Author.Needs.{needs}
 use Rattle.lists.specs.Flat.{flat}
@@ -8,7 +8,7 @@ use Rattle.rules.specs.TableTest.{nodesIn}
 use Rattle.rules.specs.Verdicts.{isBroken}
 use Rattle.judge.specs.declared.Search.{Search}
 use Rattle.judge.specs.declared.Search.the-variants.{Clear}
-use Rattle.judge.specs.Searches.{tested, tested-start, tested-more, reached, reached-start}
+use Rattle.judge.specs.Searches.{tested, tested-start, tested-more, reached, reached-start, over-rest}
 use Rattle.judge.specs.Parts.{nodeRows, partRows, rowsTo, node-part}
 use Rattle.judge.proofs.test_nodes.Statement.{statement}
 use Rattle.judge.proofs.test_nodes.Tie as tie
@@ -60,6 +60,32 @@ part c =
 test-node-requires : tie.Need-test-node-requires Inv-loop μ-loop
 test-node-requires c κs = omega arith
 
+-- the rows of one node more are tested
+more : (c : tie.After-test-node Inv-loop μ-loop) →
+    let l = c .before .before .before .before .before .before .before .before in
+    let a = l .before .before .args in
+    c .test-node .result ≡ tested (isBroken (a .e) (a .figures .now)) (Clear 0) (flat (partRows (a .t) (a .m) (nodesIn (a .table .now))) (l .loop .i + 1))
+more c =
+    let l = c .before .before .before .before .before .before .before .before in
+    let a = l .before .before .args in
+    let f = isBroken (a .e) (a .figures .now) in
+    let g = partRows (a .t) (a .m) (nodesIn (a .table .now)) in
+    c .test-node .ensures .0 ∙ ap (tested f (l .loop .done)) (part (c .before)) ∙ ap (λ (x : Search). tested f x (g (l .loop .i))) (l .loop .inv .1)
+    ∙ sym (tested-more f (Clear 0) g (l .loop .i))
+
+is-over-requires : tie.Need-is-over-requires Inv-loop μ-loop
+is-over-requires c κs = search needs
+
+returns : tie.Need-returns Inv-loop μ-loop
+unfolding rowsTo
+returns c =
+    let k = c .before .before in
+    let turn = k .before .before .before .before .before .before .before in
+    let l = turn .before in
+    let a = l .before .before .args in
+    let test = turn .loop-test in
+    (over-rest (isBroken (a .e) (a .figures .now)) (Clear 0) (partRows (a .t) (a .m) (nodesIn (a .table .now))) (l .loop .i + 1) (a .n) (omega (arith, test)) (more k) (sym (c .before .is-over .ensures) ∙ c .if1 .taken), omega (arith, test, k .test-node .ensures .1))
+
 add-i : tie.Need-add-i Inv-loop μ-loop
 add-i c = search needs
 
@@ -68,21 +94,14 @@ loop-less c = search needs
 
 loop-again : tie.Need-loop-again Inv-loop μ-loop
 loop-again c =
-    let turn = c .before .before .before .before .before .before .before in
-    let l = turn .before in
-    let a = l .before .before .args in
+    let k = c .before .before in
+    let turn = k .before .before .before .before .before .before .before in
     let test = turn .loop-test in
-    let f = isBroken (a .e) (a .figures .now) in
-    let g = partRows (a .t) (a .m) (nodesIn (a .table .now)) in (
-      omega (arith, test),
-      c .test-node .ensures .0 ∙ ap (tested f (l .loop .done)) (part (c .before)) ∙ ap (λ (x : Search). tested f x (g (l .loop .i))) (l .loop .inv .1)
-          ∙ sym (tested-more f (Clear 0) g (l .loop .i)),
-      omega (arith, c .test-node .ensures .1),
-    )
+    (omega (arith, test), more k, omega (arith, turn .before .loop .inv .2, k .test-node .ensures .1))
 
-returns : tie.Need-returns Inv-loop μ-loop
+returns-2 : tie.Need-returns-2 Inv-loop μ-loop
 unfolding rowsTo
-returns c =
+returns-2 c =
     let l = c .before in
     let a = l .before .before .args in
     let e : l .loop .i ≡ a .n = omega arith in
@@ -104,7 +123,9 @@ test-nodes-spec =
     place-requires-3
     cast-test-node
     test-node-requires
+    is-over-requires
+    returns
     add-i
     loop-less
     loop-again
-    returns)
+    returns-2)
