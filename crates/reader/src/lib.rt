@@ -122,15 +122,15 @@ fn close(text: &[u8], inner: Step) -> Step
     }
 }
 
-// Rule: Or, or Or > Rule.
-fn rule(text: &[u8], at: usize, n: usize, out: &mut [u8; 640]) -> Step
-    requires { ⌜ Ready (now text) at n ⌝ }
-    ensures { λ r. ⌜ Told (parsed ruleLevel (now (text .entry)) at) n (now (out .entry)) (now (out .exit)) r ⌝ }
+// Rule: Or, or Or > Rule. The levels pass the text on by a reference to the slice: each then has it in a register.
+fn rule(text: &&[u8], at: usize, n: usize, out: &mut [u8; 640]) -> Step
+    requires { ⌜ Ready (now (now text)) at n ⌝ }
+    ensures { λ r. ⌜ Told (parsed ruleLevel (now (now (text .entry))) at) n (now (out .entry)) (now (out .exit)) r ⌝ }
 {
     match or(text, at, n, out) {
         Step::Fail => Step::Fail,
         Step::Part { next, nodes, top } => {
-            let after = lexer::sign_at(text, next, b'>');
+            let after = lexer::sign_at(*text, next, b'>');
             if after == 0 {
                 return Step::Part { next, nodes, top };
             }
@@ -141,14 +141,14 @@ fn rule(text: &[u8], at: usize, n: usize, out: &mut [u8; 640]) -> Step
 }
 
 // Or: And, or And | Or.
-fn or(text: &[u8], at: usize, n: usize, out: &mut [u8; 640]) -> Step
-    requires { ⌜ Ready (now text) at n ⌝ }
-    ensures { λ r. ⌜ Told (parsed orLevel (now (text .entry)) at) n (now (out .entry)) (now (out .exit)) r ⌝ }
+fn or(text: &&[u8], at: usize, n: usize, out: &mut [u8; 640]) -> Step
+    requires { ⌜ Ready (now (now text)) at n ⌝ }
+    ensures { λ r. ⌜ Told (parsed orLevel (now (now (text .entry))) at) n (now (out .entry)) (now (out .exit)) r ⌝ }
 {
     match and(text, at, n, out) {
         Step::Fail => Step::Fail,
         Step::Part { next, nodes, top } => {
-            let after = lexer::sign_at(text, next, b'|');
+            let after = lexer::sign_at(*text, next, b'|');
             if after == 0 {
                 return Step::Part { next, nodes, top };
             }
@@ -159,14 +159,14 @@ fn or(text: &[u8], at: usize, n: usize, out: &mut [u8; 640]) -> Step
 }
 
 // And: Until, or Until & And.
-fn and(text: &[u8], at: usize, n: usize, out: &mut [u8; 640]) -> Step
-    requires { ⌜ Ready (now text) at n ⌝ }
-    ensures { λ r. ⌜ Told (parsed andLevel (now (text .entry)) at) n (now (out .entry)) (now (out .exit)) r ⌝ }
+fn and(text: &&[u8], at: usize, n: usize, out: &mut [u8; 640]) -> Step
+    requires { ⌜ Ready (now (now text)) at n ⌝ }
+    ensures { λ r. ⌜ Told (parsed andLevel (now (now (text .entry))) at) n (now (out .entry)) (now (out .exit)) r ⌝ }
 {
     match until(text, at, n, out) {
         Step::Fail => Step::Fail,
         Step::Part { next, nodes, top } => {
-            let after = lexer::sign_at(text, next, b'&');
+            let after = lexer::sign_at(*text, next, b'&');
             if after == 0 {
                 return Step::Part { next, nodes, top };
             }
@@ -177,14 +177,14 @@ fn and(text: &[u8], at: usize, n: usize, out: &mut [u8; 640]) -> Step
 }
 
 // Until: Single, or Single U Until.
-fn until(text: &[u8], at: usize, n: usize, out: &mut [u8; 640]) -> Step
-    requires { ⌜ Ready (now text) at n ⌝ }
-    ensures { λ r. ⌜ Told (parsed untilLevel (now (text .entry)) at) n (now (out .entry)) (now (out .exit)) r ⌝ }
+fn until(text: &&[u8], at: usize, n: usize, out: &mut [u8; 640]) -> Step
+    requires { ⌜ Ready (now (now text)) at n ⌝ }
+    ensures { λ r. ⌜ Told (parsed untilLevel (now (now (text .entry))) at) n (now (out .entry)) (now (out .exit)) r ⌝ }
 {
     match single(text, at, n, out) {
         Step::Fail => Step::Fail,
         Step::Part { next, nodes, top } => {
-            let after = lexer::sign_at(text, next, b'U');
+            let after = lexer::sign_at(*text, next, b'U');
             if after == 0 {
                 return Step::Part { next, nodes, top };
             }
@@ -195,11 +195,11 @@ fn until(text: &[u8], at: usize, n: usize, out: &mut [u8; 640]) -> Step
 }
 
 // Single: ! Single, or F Single, or G Single, or an atom, or ( Rule ).
-fn single(text: &[u8], at: usize, n: usize, out: &mut [u8; 640]) -> Step
-    requires { ⌜ Ready (now text) at n ⌝ }
-    ensures { λ r. ⌜ Told (parsed singleLevel (now (text .entry)) at) n (now (out .entry)) (now (out .exit)) r ⌝ }
+fn single(text: &&[u8], at: usize, n: usize, out: &mut [u8; 640]) -> Step
+    requires { ⌜ Ready (now (now text)) at n ⌝ }
+    ensures { λ r. ⌜ Told (parsed singleLevel (now (now (text .entry))) at) n (now (out .entry)) (now (out .exit)) r ⌝ }
 {
-    match lexer::token_at(text, at) {
+    match lexer::token_at(*text, at) {
         lexer::Token::Atom { number, next } => {
             put(out, n, 1, number, 0);
             Step::Part {
@@ -211,7 +211,7 @@ fn single(text: &[u8], at: usize, n: usize, out: &mut [u8; 640]) -> Step
         lexer::Token::Sign { byte, next } => {
             if byte == b'(' {
                 let inner = rule(text, next, n, out);
-                return close(text, inner);
+                return close(*text, inner);
             }
             let kind = prefix_kind(byte);
             if kind == 0 {
@@ -222,6 +222,14 @@ fn single(text: &[u8], at: usize, n: usize, out: &mut [u8; 640]) -> Step
         }
         lexer::Token::Other => Step::Fail,
     }
+}
+
+// The phrase that the text begins with.
+fn whole(text: &[u8], out: &mut [u8; 640]) -> Step
+    requires { ⌜ length (now text) ≤ 1024 ⌝ }
+    ensures { λ r. ⌜ Told (parsed ruleLevel (now (text .entry)) 0) 0 (now (out .entry)) (now (out .exit)) r ⌝ }
+{
+    rule(&text, 0, 0, out)
 }
 
 // The text's node table into `out`, and its node count; or the lowest refusal, with `out` as it was.
@@ -239,7 +247,7 @@ pub fn read(text: &[u8], m: usize, out: &mut [u8]) -> answers::Answer
         return answers::Answer::Refused(answers::Refusal::LongText);
     }
     let mut scratch = [0u8; 640];
-    match rule(text, 0, 0, &mut scratch) {
+    match whole(text, &mut scratch) {
         Step::Fail => answers::Answer::Refused(answers::Refusal::Grammar),
         Step::Part { next, nodes, top } => {
             let end = lexer::skip(text, next);

@@ -33,57 +33,57 @@ use Rattle.reader.proofs.put.Reads as put-reads
 use Rattle.reader.proofs.+and+or+rule+single+until.{statement}
 use Rattle.reader.proofs.+and+or+rule+single+until.Tie.{close}
 
-abbrev μ-and : Measures 2 and-kinds.ps ℕ
-μ-and κs a = measure andLevel (a .0 .now) (a .1 .0)
+abbrev μ-and : Measures 3 and-kinds.ps ℕ
+μ-and κs a = measure andLevel (a .0 .now .now) (a .1 .0)
 
-abbrev μ-or : Measures 2 or-kinds.ps ℕ
-μ-or κs a = measure orLevel (a .0 .now) (a .1 .0)
+abbrev μ-or : Measures 3 or-kinds.ps ℕ
+μ-or κs a = measure orLevel (a .0 .now .now) (a .1 .0)
 
-abbrev μ-rule : Measures 2 rule-kinds.ps ℕ
-μ-rule κs a = measure ruleLevel (a .0 .now) (a .1 .0)
+abbrev μ-rule : Measures 3 rule-kinds.ps ℕ
+μ-rule κs a = measure ruleLevel (a .0 .now .now) (a .1 .0)
 
-abbrev μ-single : Measures 2 single-kinds.ps ℕ
-μ-single κs a = measure singleLevel (a .0 .now) (a .1 .0)
+abbrev μ-single : Measures 3 single-kinds.ps ℕ
+μ-single κs a = measure singleLevel (a .0 .now .now) (a .1 .0)
 
-abbrev μ-until : Measures 2 until-kinds.ps ℕ
-μ-until κs a = measure untilLevel (a .0 .now) (a .1 .0)
+abbrev μ-until : Measures 3 until-kinds.ps ℕ
+μ-until κs a = measure untilLevel (a .0 .now .now) (a .1 .0)
 
-abbrev and-at : ℕ → In 2 and-kinds.ps
-and-at t = and 2 and-kinds.ps (is 2 and-kinds.ps μ-and t) and′.Pre
+abbrev and-at : ℕ → In 3 and-kinds.ps
+and-at t = and 3 and-kinds.ps (is 3 and-kinds.ps μ-and t) and′.Pre
 
-abbrev and-below : ℕ → In 2 and-kinds.ps
-and-below t = and 2 and-kinds.ps (falls 2 and-kinds.ps _<_ μ-and t) and′.Pre
+abbrev and-below : ℕ → In 3 and-kinds.ps
+and-below t = and 3 and-kinds.ps (falls 3 and-kinds.ps _<_ μ-and t) and′.Pre
 
-abbrev or-at : ℕ → In 2 or-kinds.ps
-or-at t = and 2 or-kinds.ps (is 2 or-kinds.ps μ-or t) or.Pre
+abbrev or-at : ℕ → In 3 or-kinds.ps
+or-at t = and 3 or-kinds.ps (is 3 or-kinds.ps μ-or t) or.Pre
 
-abbrev or-below : ℕ → In 2 or-kinds.ps
-or-below t = and 2 or-kinds.ps (falls 2 or-kinds.ps _<_ μ-or t) or.Pre
+abbrev or-below : ℕ → In 3 or-kinds.ps
+or-below t = and 3 or-kinds.ps (falls 3 or-kinds.ps _<_ μ-or t) or.Pre
 
-abbrev rule-at : ℕ → In 2 rule-kinds.ps
-rule-at t = and 2 rule-kinds.ps (is 2 rule-kinds.ps μ-rule t) rule.Pre
+abbrev rule-at : ℕ → In 3 rule-kinds.ps
+rule-at t = and 3 rule-kinds.ps (is 3 rule-kinds.ps μ-rule t) rule.Pre
 
-abbrev rule-below : ℕ → In 2 rule-kinds.ps
-rule-below t = and 2 rule-kinds.ps (falls 2 rule-kinds.ps _<_ μ-rule t) rule.Pre
+abbrev rule-below : ℕ → In 3 rule-kinds.ps
+rule-below t = and 3 rule-kinds.ps (falls 3 rule-kinds.ps _<_ μ-rule t) rule.Pre
 
-abbrev single-at : ℕ → In 2 single-kinds.ps
-single-at t = and 2 single-kinds.ps (is 2 single-kinds.ps μ-single t) single.Pre
+abbrev single-at : ℕ → In 3 single-kinds.ps
+single-at t = and 3 single-kinds.ps (is 3 single-kinds.ps μ-single t) single.Pre
 
-abbrev single-below : ℕ → In 2 single-kinds.ps
-single-below t = and 2 single-kinds.ps (falls 2 single-kinds.ps _<_ μ-single t) single.Pre
+abbrev single-below : ℕ → In 3 single-kinds.ps
+single-below t = and 3 single-kinds.ps (falls 3 single-kinds.ps _<_ μ-single t) single.Pre
 
-abbrev until-at : ℕ → In 2 until-kinds.ps
-until-at t = and 2 until-kinds.ps (is 2 until-kinds.ps μ-until t) until.Pre
+abbrev until-at : ℕ → In 3 until-kinds.ps
+until-at t = and 3 until-kinds.ps (is 3 until-kinds.ps μ-until t) until.Pre
 
-abbrev until-below : ℕ → In 2 until-kinds.ps
-until-below t = and 2 until-kinds.ps (falls 2 until-kinds.ps _<_ μ-until t) until.Pre
+abbrev until-below : ℕ → In 3 until-kinds.ps
+until-below t = and 3 until-kinds.ps (falls 3 until-kinds.ps _<_ μ-until t) until.Pre
 
 -- what `and` has of those that it calls
 abbrev and-env : ℕ → and-lts.Claims
 and-env t = (until-below t, until.Post, sign-at-reads.Asked, sign-at-reads.Learnt, and-below t, and′.Post, join-reads.Asked, join-reads.Learnt)
 
 and-until-requires : (t : ℕ) → and-lts.Need-until-requires (and-env t) (and-at t) and′.Post
-and-until-requires t c κs = (omega (arith, c .before .before .pre .0), c .before .before .pre .1)
+and-until-requires t c κs = (omega (arith, c .before .pre .0), c .before .pre .1)
 
 and-enum-told : (t : ℕ) → and-lts.Need-enum-told (and-env t) (and-at t) and′.Post
 and-enum-told t c = search needs
@@ -96,35 +96,35 @@ and-sign-at-requires t c κs = search needs
 
 and-returns : (t : ℕ) → and-lts.Need-returns (and-env t) (and-at t) and′.Post
 and-returns t c =
-    let k = c .before .before .before in
+    let k = c .before .before .before .before in
     level-alone conjunction _ _ _ _ _ _ _ _ _ _ (k .before .before .until .ensures) (k .next .given .1) (c .before .sign-at .ensures) (c .if1 .taken)
 
 and-and-requires : (t : ℕ) → and-lts.Need-and-requires (and-env t) (and-at t) and′.Post
 and-and-requires t c κs =
-    let k = c .before .before .before .before in
-    let pre = k .before .before .before .before .before .pre in
+    let k = c .before .before .before .before .before in
+    let pre = k .before .before .before .before .pre in
     let h = level-next conjunction _ _ _ _ _ _ _ _ _ _ (k .before .before .until .ensures) (k .next .given .1) (c .before .before .sign-at .ensures) (pre .1) (c .before .if1 .left) in
     (omega (arith, h .0, pre .0), h .1)
 
 and-join-requires : (t : ℕ) → and-lts.Need-join-requires (and-env t) (and-at t) and′.Post
 and-join-requires t c κs =
-    let k = c .before .before .before .before .before .before in
-    level-room conjunction _ _ _ _ _ _ _ _ _ _ (k .before .before .until .ensures) (k .next .given .1) (c .before .before .before .before .sign-at .ensures) (k .before .before .before .before .before .pre .1) (c .before .before .before .if1 .left) _ _ (c .before .and .ensures)
+    let k = c .before .before .before .before .before .before .before in
+    level-room conjunction _ _ _ _ _ _ _ _ _ _ (k .before .before .until .ensures) (k .next .given .1) (c .before .before .before .before .sign-at .ensures) (k .before .before .before .before .pre .1) (c .before .before .before .if1 .left) _ _ (c .before .and .ensures)
 
 and-returns-2 : (t : ℕ) → and-lts.Need-returns-2 (and-env t) (and-at t) and′.Post
 and-returns-2 t c = level-fail conjunction _ _ _ _ _ (c .before .before .until .result) (c .before .before .until .ensures) (c .enum-told .given .1)
 
 and-returns-3 : (t : ℕ) → and-lts.Need-returns-3 (and-env t) (and-at t) and′.Post
 and-returns-3 t c =
-    let k = c .before .before .before .before .before .before .before in
-    level-joined conjunction _ _ _ _ _ _ _ _ _ _ (k .before .before .until .ensures) (k .next .given .1) (c .before .before .before .before .before .sign-at .ensures) (k .before .before .before .before .before .pre .1) (c .before .before .before .before .if1 .left) _ _ (c .before .before .and .ensures) _ _ (c .join .ensures .0) (c .join .ensures .1)
+    let k = c .before .before .before .before .before .before .before .before in
+    level-joined conjunction _ _ _ _ _ _ _ _ _ _ (k .before .before .until .ensures) (k .next .given .1) (c .before .before .before .before .before .sign-at .ensures) (k .before .before .before .before .pre .1) (c .before .before .before .before .if1 .left) _ _ (c .before .before .and .ensures) _ _ (c .join .ensures .0) (c .join .ensures .1)
 
 -- what `or` has of those that it calls
 abbrev or-env : ℕ → or-lts.Claims
 or-env t = (and-below t, and′.Post, sign-at-reads.Asked, sign-at-reads.Learnt, or-below t, or.Post, join-reads.Asked, join-reads.Learnt)
 
 or-and-requires : (t : ℕ) → or-lts.Need-and-requires (or-env t) (or-at t) or.Post
-or-and-requires t c κs = (omega (arith, c .before .before .pre .0), c .before .before .pre .1)
+or-and-requires t c κs = (omega (arith, c .before .pre .0), c .before .pre .1)
 
 or-enum-told : (t : ℕ) → or-lts.Need-enum-told (or-env t) (or-at t) or.Post
 or-enum-told t c = search needs
@@ -137,35 +137,35 @@ or-sign-at-requires t c κs = search needs
 
 or-returns : (t : ℕ) → or-lts.Need-returns (or-env t) (or-at t) or.Post
 or-returns t c =
-    let k = c .before .before .before in
+    let k = c .before .before .before .before in
     level-alone disjunction _ _ _ _ _ _ _ _ _ _ (k .before .before .and .ensures) (k .next .given .1) (c .before .sign-at .ensures) (c .if1 .taken)
 
 or-or-requires : (t : ℕ) → or-lts.Need-or-requires (or-env t) (or-at t) or.Post
 or-or-requires t c κs =
-    let k = c .before .before .before .before in
-    let pre = k .before .before .before .before .before .pre in
+    let k = c .before .before .before .before .before in
+    let pre = k .before .before .before .before .pre in
     let h = level-next disjunction _ _ _ _ _ _ _ _ _ _ (k .before .before .and .ensures) (k .next .given .1) (c .before .before .sign-at .ensures) (pre .1) (c .before .if1 .left) in
     (omega (arith, h .0, pre .0), h .1)
 
 or-join-requires : (t : ℕ) → or-lts.Need-join-requires (or-env t) (or-at t) or.Post
 or-join-requires t c κs =
-    let k = c .before .before .before .before .before .before in
-    level-room disjunction _ _ _ _ _ _ _ _ _ _ (k .before .before .and .ensures) (k .next .given .1) (c .before .before .before .before .sign-at .ensures) (k .before .before .before .before .before .pre .1) (c .before .before .before .if1 .left) _ _ (c .before .or .ensures)
+    let k = c .before .before .before .before .before .before .before in
+    level-room disjunction _ _ _ _ _ _ _ _ _ _ (k .before .before .and .ensures) (k .next .given .1) (c .before .before .before .before .sign-at .ensures) (k .before .before .before .before .pre .1) (c .before .before .before .if1 .left) _ _ (c .before .or .ensures)
 
 or-returns-2 : (t : ℕ) → or-lts.Need-returns-2 (or-env t) (or-at t) or.Post
 or-returns-2 t c = level-fail disjunction _ _ _ _ _ (c .before .before .and .result) (c .before .before .and .ensures) (c .enum-told .given .1)
 
 or-returns-3 : (t : ℕ) → or-lts.Need-returns-3 (or-env t) (or-at t) or.Post
 or-returns-3 t c =
-    let k = c .before .before .before .before .before .before .before in
-    level-joined disjunction _ _ _ _ _ _ _ _ _ _ (k .before .before .and .ensures) (k .next .given .1) (c .before .before .before .before .before .sign-at .ensures) (k .before .before .before .before .before .pre .1) (c .before .before .before .before .if1 .left) _ _ (c .before .before .or .ensures) _ _ (c .join .ensures .0) (c .join .ensures .1)
+    let k = c .before .before .before .before .before .before .before .before in
+    level-joined disjunction _ _ _ _ _ _ _ _ _ _ (k .before .before .and .ensures) (k .next .given .1) (c .before .before .before .before .before .sign-at .ensures) (k .before .before .before .before .pre .1) (c .before .before .before .before .if1 .left) _ _ (c .before .before .or .ensures) _ _ (c .join .ensures .0) (c .join .ensures .1)
 
 -- what `rule` has of those that it calls
 abbrev rule-env : ℕ → rule-lts.Claims
 rule-env t = (or-below t, or.Post, sign-at-reads.Asked, sign-at-reads.Learnt, rule-below t, rule.Post, join-reads.Asked, join-reads.Learnt)
 
 rule-or-requires : (t : ℕ) → rule-lts.Need-or-requires (rule-env t) (rule-at t) rule.Post
-rule-or-requires t c κs = (omega (arith, c .before .before .pre .0), c .before .before .pre .1)
+rule-or-requires t c κs = (omega (arith, c .before .pre .0), c .before .pre .1)
 
 rule-enum-told : (t : ℕ) → rule-lts.Need-enum-told (rule-env t) (rule-at t) rule.Post
 rule-enum-told t c = search needs
@@ -178,28 +178,28 @@ rule-sign-at-requires t c κs = search needs
 
 rule-returns : (t : ℕ) → rule-lts.Need-returns (rule-env t) (rule-at t) rule.Post
 rule-returns t c =
-    let k = c .before .before .before in
+    let k = c .before .before .before .before in
     level-alone implication _ _ _ _ _ _ _ _ _ _ (k .before .before .or .ensures) (k .next .given .1) (c .before .sign-at .ensures) (c .if1 .taken)
 
 rule-rule-requires : (t : ℕ) → rule-lts.Need-rule-requires (rule-env t) (rule-at t) rule.Post
 rule-rule-requires t c κs =
-    let k = c .before .before .before .before in
-    let pre = k .before .before .before .before .before .pre in
+    let k = c .before .before .before .before .before in
+    let pre = k .before .before .before .before .pre in
     let h = level-next implication _ _ _ _ _ _ _ _ _ _ (k .before .before .or .ensures) (k .next .given .1) (c .before .before .sign-at .ensures) (pre .1) (c .before .if1 .left) in
     (omega (arith, h .0, pre .0), h .1)
 
 rule-join-requires : (t : ℕ) → rule-lts.Need-join-requires (rule-env t) (rule-at t) rule.Post
 rule-join-requires t c κs =
-    let k = c .before .before .before .before .before .before in
-    level-room implication _ _ _ _ _ _ _ _ _ _ (k .before .before .or .ensures) (k .next .given .1) (c .before .before .before .before .sign-at .ensures) (k .before .before .before .before .before .pre .1) (c .before .before .before .if1 .left) _ _ (c .before .rule .ensures)
+    let k = c .before .before .before .before .before .before .before in
+    level-room implication _ _ _ _ _ _ _ _ _ _ (k .before .before .or .ensures) (k .next .given .1) (c .before .before .before .before .sign-at .ensures) (k .before .before .before .before .pre .1) (c .before .before .before .if1 .left) _ _ (c .before .rule .ensures)
 
 rule-returns-2 : (t : ℕ) → rule-lts.Need-returns-2 (rule-env t) (rule-at t) rule.Post
 rule-returns-2 t c = level-fail implication _ _ _ _ _ (c .before .before .or .result) (c .before .before .or .ensures) (c .enum-told .given .1)
 
 rule-returns-3 : (t : ℕ) → rule-lts.Need-returns-3 (rule-env t) (rule-at t) rule.Post
 rule-returns-3 t c =
-    let k = c .before .before .before .before .before .before .before in
-    level-joined implication _ _ _ _ _ _ _ _ _ _ (k .before .before .or .ensures) (k .next .given .1) (c .before .before .before .before .before .sign-at .ensures) (k .before .before .before .before .before .pre .1) (c .before .before .before .before .if1 .left) _ _ (c .before .before .rule .ensures) _ _ (c .join .ensures .0) (c .join .ensures .1)
+    let k = c .before .before .before .before .before .before .before .before in
+    level-joined implication _ _ _ _ _ _ _ _ _ _ (k .before .before .or .ensures) (k .next .given .1) (c .before .before .before .before .before .sign-at .ensures) (k .before .before .before .before .pre .1) (c .before .before .before .before .if1 .left) _ _ (c .before .before .rule .ensures) _ _ (c .join .ensures .0) (c .join .ensures .1)
 
 -- what `single` has of those that it calls
 abbrev single-env : ℕ → single-lts.Claims
@@ -214,8 +214,8 @@ single-enum-known-number t c = search needs
 single-put-requires : (t : ℕ) → single-lts.Need-put-requires (single-env t) (single-at t) single.Post
 single-put-requires t c κs = atom-room _ _ _ _ _ _ (c .before .before .before .before .token-at .ensures) (c .before .before .number .given .1) (c .before .before .before .before .before .before .pre .1)
 
-single-add-t16 : (t : ℕ) → single-lts.Need-add-t16 (single-env t) (single-at t) single.Post
-single-add-t16 t c = omega (arith, atom-room _ _ _ _ _ _ (c .before .before .before .before .before .token-at .ensures) (c .before .before .before .number .given .1) (c .before .before .before .before .before .before .before .pre .1))
+single-add-t17 : (t : ℕ) → single-lts.Need-add-t17 (single-env t) (single-at t) single.Post
+single-add-t17 t c = omega (arith, atom-room _ _ _ _ _ _ (c .before .before .before .before .before .token-at .ensures) (c .before .before .before .number .given .1) (c .before .before .before .before .before .before .before .pre .1))
 
 single-enum-known-byte : (t : ℕ) → single-lts.Need-enum-known-byte (single-env t) (single-at t) single.Post
 single-enum-known-byte t c = search needs
@@ -231,8 +231,8 @@ single-close-requires t c κs = search needs
 
 single-returns : (t : ℕ) → single-lts.Need-returns (single-env t) (single-at t) single.Post
 single-returns t c =
-    let s = c .before .before .before .before .before .before .before .before .before in
-    single-bracket _ _ _ (s .args .out .now) _ _ _ (c .before .before .before .before .before .before .before .token-at .ensures) (c .before .before .before .before .before .byte .given .1) (c .before .before .before .if1 .taken) _ _ (c .close .result) (c .before .rule .ensures) (c .close .ensures)
+    let s = c .before .before .before .before .before .before .before .before .before .before in
+    single-bracket _ _ _ (s .args .out .now) _ _ _ (c .before .before .before .before .before .before .before .before .token-at .ensures) (c .before .before .before .before .before .before .byte .given .1) (c .before .before .before .before .if1 .taken) _ _ (c .close .result) (c .before .before .rule .ensures) (c .close .ensures)
 
 single-prefix-kind-requires : (t : ℕ) → single-lts.Need-prefix-kind-requires (single-env t) (single-at t) single.Post
 single-prefix-kind-requires t c κs = search needs
@@ -260,7 +260,7 @@ single-returns-3 : (t : ℕ) → single-lts.Need-returns-3 (single-env t) (singl
 single-returns-3 t c =
     let s = c .before .before .before .before .before .before .before .args in
     let a = c .before .before .before .number .given in
-    single-atom (s .text .now) (s .at) (s .n) (c .before .before .before .before .before .token-at .result) (a .0 .0) (a .0 .1 .0) (c .before .before .before .before .before .token-at .ensures) (a .1) (s .out .now) (c .put .last .0) (c .put .ensures)
+    single-atom (s .text .now .now) (s .at) (s .n) (c .before .before .before .before .before .token-at .result) (a .0 .0) (a .0 .1 .0) (c .before .before .before .before .before .token-at .ensures) (a .1) (s .out .now) (c .put .last .0) (c .put .ensures)
 
 single-returns-4 : (t : ℕ) → single-lts.Need-returns-4 (single-env t) (single-at t) single.Post
 single-returns-4 t c =
@@ -270,14 +270,14 @@ single-returns-4 t c =
 single-returns-5 : (t : ℕ) → single-lts.Need-returns-5 (single-env t) (single-at t) single.Post
 single-returns-5 t c =
     let s = c .before .before .before .before .args in
-    single-none (s .text .now) (s .at) (s .n) (s .out .now) (c .before .before .token-at .result) (c .before .before .token-at .ensures) (c .enum-told .given .1)
+    single-none (s .text .now .now) (s .at) (s .n) (s .out .now) (c .before .before .token-at .result) (c .before .before .token-at .ensures) (c .enum-told .given .1)
 
 -- what `until` has of those that it calls
 abbrev until-env : ℕ → until-lts.Claims
 until-env t = (single-below t, single.Post, sign-at-reads.Asked, sign-at-reads.Learnt, until-below t, until.Post, join-reads.Asked, join-reads.Learnt)
 
 until-single-requires : (t : ℕ) → until-lts.Need-single-requires (until-env t) (until-at t) until.Post
-until-single-requires t c κs = (omega (arith, c .before .before .pre .0), c .before .before .pre .1)
+until-single-requires t c κs = (omega (arith, c .before .pre .0), c .before .pre .1)
 
 until-enum-told : (t : ℕ) → until-lts.Need-enum-told (until-env t) (until-at t) until.Post
 until-enum-told t c = search needs
@@ -290,28 +290,28 @@ until-sign-at-requires t c κs = search needs
 
 until-returns : (t : ℕ) → until-lts.Need-returns (until-env t) (until-at t) until.Post
 until-returns t c =
-    let k = c .before .before .before in
+    let k = c .before .before .before .before in
     level-alone untils _ _ _ _ _ _ _ _ _ _ (k .before .before .single .ensures) (k .next .given .1) (c .before .sign-at .ensures) (c .if1 .taken)
 
 until-until-requires : (t : ℕ) → until-lts.Need-until-requires (until-env t) (until-at t) until.Post
 until-until-requires t c κs =
-    let k = c .before .before .before .before in
-    let pre = k .before .before .before .before .before .pre in
+    let k = c .before .before .before .before .before in
+    let pre = k .before .before .before .before .pre in
     let h = level-next untils _ _ _ _ _ _ _ _ _ _ (k .before .before .single .ensures) (k .next .given .1) (c .before .before .sign-at .ensures) (pre .1) (c .before .if1 .left) in
     (omega (arith, h .0, pre .0), h .1)
 
 until-join-requires : (t : ℕ) → until-lts.Need-join-requires (until-env t) (until-at t) until.Post
 until-join-requires t c κs =
-    let k = c .before .before .before .before .before .before in
-    level-room untils _ _ _ _ _ _ _ _ _ _ (k .before .before .single .ensures) (k .next .given .1) (c .before .before .before .before .sign-at .ensures) (k .before .before .before .before .before .pre .1) (c .before .before .before .if1 .left) _ _ (c .before .until .ensures)
+    let k = c .before .before .before .before .before .before .before in
+    level-room untils _ _ _ _ _ _ _ _ _ _ (k .before .before .single .ensures) (k .next .given .1) (c .before .before .before .before .sign-at .ensures) (k .before .before .before .before .pre .1) (c .before .before .before .if1 .left) _ _ (c .before .until .ensures)
 
 until-returns-2 : (t : ℕ) → until-lts.Need-returns-2 (until-env t) (until-at t) until.Post
 until-returns-2 t c = level-fail untils _ _ _ _ _ (c .before .before .single .result) (c .before .before .single .ensures) (c .enum-told .given .1)
 
 until-returns-3 : (t : ℕ) → until-lts.Need-returns-3 (until-env t) (until-at t) until.Post
 until-returns-3 t c =
-    let k = c .before .before .before .before .before .before .before in
-    level-joined untils _ _ _ _ _ _ _ _ _ _ (k .before .before .single .ensures) (k .next .given .1) (c .before .before .before .before .before .sign-at .ensures) (k .before .before .before .before .before .pre .1) (c .before .before .before .before .if1 .left) _ _ (c .before .before .until .ensures) _ _ (c .join .ensures .0) (c .join .ensures .1)
+    let k = c .before .before .before .before .before .before .before .before in
+    level-joined untils _ _ _ _ _ _ _ _ _ _ (k .before .before .single .ensures) (k .next .given .1) (c .before .before .before .before .before .sign-at .ensures) (k .before .before .before .before .pre .1) (c .before .before .before .before .if1 .left) _ _ (c .before .before .until .ensures) _ _ (c .join .ensures .0) (c .join .ensures .1)
 
 pub +and+or+rule+single+until-spec : {M : Type 1} → statement M
 +and+or+rule+single+until-spec = close μ-and μ-or μ-rule μ-single μ-until (λ t. and-lts.spec (and-env t)
@@ -356,7 +356,7 @@ pub +and+or+rule+single+until-spec : {M : Type 1} → statement M
     (single-token-at-requires t)
     (single-enum-known-number t)
     (single-put-requires t)
-    (single-add-t16 t)
+    (single-add-t17 t)
     (single-enum-known-byte t)
     (single-rule-requires t)
     (single-close-requires t)
