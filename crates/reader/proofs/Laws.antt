@@ -3,7 +3,7 @@ use mathlib.Core.Path.{_≡_, refl, sym, ap, _∙_, subst}
 use mathlib.Core.Bool.{Bool, cond}
 use mathlib.Core.Option.{Option, none, some}
 use mathlib.Core.List.{List, [], _∷_, _++_}
-use Prim.Native.Nat.{ℕ, zero, suc, _+_, _-_, _*_, max, _≤_, _<_}
+use Prim.Native.Nat.{ℕ, zero, suc, _+_, _-_, _*_, _/_, _%_, max, _≤_, _<_}
 use native.Mathlib.Omega.{arith}
 use native.Mathlib.Nat.{add-zero, add-suc, suc-add}
 use lib.ListN.{length, set}
@@ -13,7 +13,7 @@ use Rattle.rules.specs.RuleSize.{size-positive}
 use Rattle.rules.specs.Rule.{Unary, Binary, Rule, size}
 use Rattle.rules.specs.Rule.Unary.{not, eventually, always}
 use Rattle.rules.specs.Rule.Binary.{implies}
-use Rattle.rules.specs.Grammar.{tighter, sign}
+use Rattle.rules.specs.Grammar.{Level, tighter, sign}
 use Rattle.rules.specs.Grammar.Level.{of, single}
 use Rattle.rules.specs.Table.{unaryKind, binaryKind}
 use Rattle.rules.specs.Reading.Lexer
@@ -25,8 +25,31 @@ use Rattle.lexer.specs.declared.Token.the-variants.{Other, Sign, Atom}
 use Rattle.lexer.specs.Capped.{capped, none-of, sign-of, atom-of}
 use Rattle.reader.specs.declared.Step.{Step}
 use Rattle.reader.specs.declared.Step.the-variants.{Fail, Part}
-use Rattle.reader.specs.Records.{top, entry, records, length-records}
-use Rattle.reader.specs.Steps.{Ready, Told, Room, Wrote, joined, JoinedIn, applied, AppliedIn, prefixKind, closed, closedAt}
+use Rattle.reader.specs.Records.{top, top-le, entry, records, length-records}
+use Rattle.reader.specs.Steps.{Ready, Told, Room, Wrote, joined, JoinedIn, applied, AppliedIn, prefixKind, closed, closedAt, Fits, stepOf}
+
+-- ---- a step as one number
+
+pub step-none : (c : ℕ) → c ≡ 0 → Fail ≡ stepOf c
+unfolding stepOf
+step-none c e = rw e refl
+
+pub step-part : (c : ℕ) → (c ≡ 0 → ⊥) → Part (c % 2048) (c / 2048 % 2048) (c / 4194304) ≡ stepOf c
+unfolding stepOf
+step-part zero ne = absurd (ne refl)
+step-part (suc c) ne = refl
+
+pub step-packed : (next m b : ℕ) → Fits next m b → stepOf (next + m * 2048 + b * 4194304) ≡ Part next m b
+step-packed next m b h =
+    let c = next + m * 2048 + b * 4194304 in
+    let e : c % 2048 ≡ next = omega arith in
+    let d : c / 2048 ≡ m + b * 2048 = omega arith in
+    let f : c / 2048 % 2048 ≡ m = rw d (omega arith) in
+    let g : c / 4194304 ≡ b = omega arith in
+    sym (step-part c (λ z. omega arith)) ∙ ap (λ (x : ℕ). Part x (c / 2048 % 2048) (c / 4194304)) e ∙ ap (λ (x : ℕ). Part next x (c / 4194304)) f ∙ ap (Part next m) g
+
+none-is : stepOf 0 ≡ Fail
+none-is = sym (step-none 0 refl)
 
 -- ---- a run of stores in two halves
 
@@ -85,6 +108,9 @@ failed (Parsed.part p y) n before after r h e = never r y (n + size p) (top p) e
 told-as : (x y : Parsed) (n : ℕ) (before after : List ℕ) (r : Step) → x ≡ y → Told y n before after r → Told x n before after r
 told-as x y n before after r e h = rw e h
 
+pub told-step : (x : Parsed) (n : ℕ) (before after : List ℕ) (r u : Step) → u ≡ r → Told x n before after r → Told x n before after u
+told-step x n before after r u e h = rw e h
+
 -- ---- the cases of a level of an operator
 
 sign-past : (s : List ℕ) (at b q : ℕ) → q ≡ signAt s at b → (q ≡ 0 → ⊥) → (at < q) × (q ≤ length s)
@@ -99,9 +125,9 @@ pair-more o s at p next zero e f ne = absurd (ne refl)
 pair-more o s at p next (suc q) e f ne = pair-as o s at (Parsed.part p next) e ∙ ap (λ (x : ℕ). goOn o p next x (parsed (of o) s)) (sym f)
 
 -- the tighter level failed
-pub level-fail : (o : Binary) (s : List ℕ) (at n : ℕ) (before after : List ℕ) (r : Step) → Told (parsed (tighter o) s at) n before after r → r ≡ Fail → Told (parsed (of o) s at) n before after Fail
+pub level-fail : (o : Binary) (s : List ℕ) (at n : ℕ) (before after : List ℕ) (r : Step) → Told (parsed (tighter o) s at) n before after r → r ≡ Fail → Told (parsed (of o) s at) n before after (stepOf 0)
 level-fail o s at n before after r h e =
-    told-as (parsed (of o) s at) Parsed.fail n before after Fail (pair-as o s at Parsed.fail (failed (parsed (tighter o) s at) n before after r h e)) refl
+    told-as (parsed (of o) s at) Parsed.fail n before after (stepOf 0) (pair-as o s at Parsed.fail (failed (parsed (tighter o) s at) n before after r h e)) none-is
 
 module _ (o : Binary) (s : List ℕ) (at n : ℕ) (out out₁ : List ℕ) (r : Step) (next nodes high q : ℕ)
     (told : Told (parsed (tighter o) s at) n out out₁ r) (part-is : r ≡ Part next nodes high) (sign-is : q ≡ signAt s next (sign o)) where
@@ -109,12 +135,12 @@ module _ (o : Binary) (s : List ℕ) (at n : ℕ) (out out₁ : List ℕ) (r : S
   left = got (parsed (tighter o) s at) n out out₁ r next nodes high told part-is
 
   -- no sign of the operator follows
-  pub level-alone : q ≡ 0 → Told (parsed (of o) s at) n out out₁ (Part next nodes high)
+  pub level-alone : q ≡ 0 → Told (parsed (of o) s at) n out out₁ r
   level-alone z =
       let g = left in
-      told-as (parsed (of o) s at) (Parsed.part (g .rule) next) n out out₁ (Part next nodes high)
+      told-as (parsed (of o) s at) (Parsed.part (g .rule) next) n out out₁ r
       (pair-as o s at (Parsed.part (g .rule) next) (g .is) ∙ ap (λ (x : ℕ). goOn o (g .rule) next x (parsed (of o) s)) (sym sign-is ∙ z))
-      (ap (λ (m : ℕ). Part next m high) (g .count) ∙ ap (Part next (n + size (g .rule))) (g .highest), g .wrote)
+      (part-is ∙ ap (λ (m : ℕ). Part next m high) (g .count) ∙ ap (Part next (n + size (g .rule))) (g .highest), g .wrote)
 
   module _ (ready : Ready s at n) (ne : q ≡ 0 → ⊥) where
     -- the next call of the level
@@ -135,12 +161,12 @@ module _ (o : Binary) (s : List ℕ) (at n : ℕ) (out out₁ : List ℕ) (r : S
           let w = parsed-within (tighter o) s at (g .rule) next (g .is) in
           let v = parsed-within (of o) s q p end e in
           let b = sign-past s next (sign o) q sign-is ne in
-          rw k (omega (arith, size-positive p, ready .short, ready .few), omega (arith, size-positive p, ready .short, ready .few))
+          rw k (omega (arith, size-positive p), (omega (arith, ready .short, ready .few), (omega (arith, ready .short), top-le p)))
 
-      pub level-room : (1 ≤ nodes) × Room right
+      pub level-room : (1 ≤ nodes) × ((high ≤ 255) × Room right)
       level-room =
           let g = left in
-          (omega (arith, size-positive (g .rule)), room-at (parsed (of o) s q) refl told₂)
+          (omega (arith, size-positive (g .rule)), (omega (arith, g .highest, top-le (g .rule)), room-at (parsed (of o) s q) refl told₂))
 
       module _ (out₃ : List ℕ) (r₃ : Step) (step-is : r₃ ≡ joined high right) (wrote : JoinedIn right (binaryKind o) nodes out₂ out₃) where
         joined-at : (x : Parsed) → parsed (of o) s q ≡ x → Told x nodes out₁ out₂ right → Told (Parser.join o (left .rule) x) n out out₃ r₃
@@ -166,8 +192,8 @@ ends-as : (s : List ℕ) (at : ℕ) (t : Lexer.Token) → tokenAt s at ≡ t →
 ends-as s at t e = subst (Ends s at) e (token-ends s at)
 
 -- no token
-pub single-none : (s : List ℕ) (at n : ℕ) (out : List ℕ) (x : Token) → x ≡ capped (tokenAt s at) → x ≡ Other → Told (parsed single s at) n out out Fail
-single-none s at n out x e f = told-as (parsed single s at) Parsed.fail n out out Fail (single-as s at Lexer.Token.none (none-of (tokenAt s at) x e f)) refl
+pub single-none : (s : List ℕ) (at n : ℕ) (out : List ℕ) (x : Token) → x ≡ capped (tokenAt s at) → x ≡ Other → Told (parsed single s at) n out out (stepOf 0)
+single-none s at n out x e f = told-as (parsed single s at) Parsed.fail n out out (stepOf 0) (single-as s at Lexer.Token.none (none-of (tokenAt s at) x e f)) none-is
 
 -- an atom
 module _ (s : List ℕ) (at n : ℕ) (x : Token) (a next : ℕ) (token-is : x ≡ capped (tokenAt s at)) (atom-is : x ≡ Atom a next) where
@@ -177,13 +203,19 @@ module _ (s : List ℕ) (at n : ℕ) (x : Token) (a next : ℕ) (token-is : x �
       let b = ends-as s at (Lexer.Token.atom (g .number) next) (g .is) in
       omega (arith, b, ready .short, ready .few)
 
-  pub single-atom : (out out₁ : List ℕ) → Wrote out (5 * n) (entry 1 a 0) out₁ → Told (parsed single s at) n out out₁ (Part next (n + 1) a)
-  unfolding records
-  single-atom out out₁ w =
+  pub atom-fits : Ready s at n → Fits next (n + 1) a
+  atom-fits ready =
       let g = atom-of (tokenAt s at) x a next token-is atom-is in
-      told-as (parsed single s at) (Parsed.part (Rule.atom (g .number)) next) n out out₁ (Part next (n + 1) a)
+      let b = ends-as s at (Lexer.Token.atom (g .number) next) (g .is) in
+      (omega (arith, b, ready .short), (omega arith, (omega (arith, b, ready .short, ready .few), omega (arith, g .cut))))
+
+  pub single-atom : (out out₁ : List ℕ) (r : Step) → r ≡ Part next (n + 1) a → Wrote out (5 * n) (entry 1 a 0) out₁ → Told (parsed single s at) n out out₁ r
+  unfolding records
+  single-atom out out₁ r e w =
+      let g = atom-of (tokenAt s at) x a next token-is atom-is in
+      told-as (parsed single s at) (Parsed.part (Rule.atom (g .number)) next) n out out₁ r
       (single-as s at (Lexer.Token.atom (g .number) next) (g .is))
-      (ap (Part next (n + 1)) (g .cut), λ h. w h ∙ ap (λ (y : ℕ). sets out (5 * n) (entry 1 y 0)) (g .cut))
+      (e ∙ ap (Part next (n + 1)) (g .cut), λ h. w h ∙ ap (λ (y : ℕ). sets out (5 * n) (entry 1 y 0)) (g .cut))
 
 module _ (s : List ℕ) (at n : ℕ) (out : List ℕ) (x : Token) (b next : ℕ) (token-is : x ≡ capped (tokenAt s at)) (sign-is : x ≡ Sign b next) where
   found : tokenAt s at ≡ Lexer.Token.sign b next
@@ -197,6 +229,19 @@ module _ (s : List ℕ) (at n : ℕ) (out : List ℕ) (x : Token) (b next : ℕ)
   sign-next ready =
       let h = ends-as s at (Lexer.Token.sign b next) found in
       (omega (arith, h), record { short = ready .short; few = omega (arith, h, ready .few) })
+
+  -- what stands behind the sign has room for one node more
+  module _ (l : Level) (ready : Ready s at n) (out₁ : List ℕ) (inner : Step) (told : Told (parsed l s next) n out out₁ inner) where
+    room-over : (y : Parsed) → parsed l s next ≡ y → Told y n out out₁ inner → Room inner
+    room-over Parsed.fail e h = rw h tt
+    room-over (Parsed.part p end) e h =
+        let k = h .0 in
+        let v = parsed-within l s next p end e in
+        let w = ends-as s at (Lexer.Token.sign b next) found in
+        rw k (omega (arith, size-positive p), (omega (arith, w, ready .short, ready .few), (omega (arith, ready .short), top-le p)))
+
+    pub inner-room : Room inner
+    inner-room = room-over (parsed l s next) refl told
 
   -- a bracket
   module _ (open-is : b ≡ 40) (out₁ : List ℕ) (r r₁ : Step) (told : Told (parsed (of implies) s next) n out out₁ r) (closed-is : r₁ ≡ closed s r) where
@@ -218,27 +263,16 @@ module _ (s : List ℕ) (at n : ℕ) (out : List ℕ) (x : Token) (b next : ℕ)
     start-is : startOf b ≡ starting (unaryOf b)
     start-is = ap (λ (c : Bool). cond c Start.bracket (starting (unaryOf b))) (ne-eqb b 40 not-open)
 
-    none-at : (y : Option Unary) → unaryOf b ≡ y → kind ≡ prefixKind y → kind ≡ 0 → Told (parsed single s at) n out out Fail
-    none-at none e k z = told-as (parsed single s at) Parsed.fail n out out Fail (begun Start.nothing (start-is ∙ ap starting e)) refl
+    none-at : (y : Option Unary) → unaryOf b ≡ y → kind ≡ prefixKind y → kind ≡ 0 → Told (parsed single s at) n out out (stepOf 0)
+    none-at none e k z = told-as (parsed single s at) Parsed.fail n out out (stepOf 0) (begun Start.nothing (start-is ∙ ap starting e)) none-is
     none-at (some not) e k z = absurd (omega arith)
     none-at (some eventually) e k z = absurd (omega arith)
     none-at (some always) e k z = absurd (omega arith)
 
-    pub single-fail : kind ≡ 0 → Told (parsed single s at) n out out Fail
+    pub single-fail : kind ≡ 0 → Told (parsed single s at) n out out (stepOf 0)
     single-fail = none-at (unaryOf b) refl kind-is
 
-    module _ (ready : Ready s at n) (out₁ : List ℕ) (inner : Step) (told : Told (parsed single s next) n out out₁ inner) where
-      room-over : (y : Parsed) → parsed single s next ≡ y → Told y n out out₁ inner → Room inner
-      room-over Parsed.fail e h = rw h tt
-      room-over (Parsed.part p end) e h =
-          let k = h .0 in
-          let v = parsed-within single s next p end e in
-          let w = ends-as s at (Lexer.Token.sign b next) found in
-          rw k (omega (arith, size-positive p), omega (arith, w, ready .short, ready .few))
-
-      pub cap-room : Room inner
-      cap-room = room-over (parsed single s next) refl told
-
+    module _ (out₁ : List ℕ) (inner : Step) (told : Told (parsed single s next) n out out₁ inner) where
       module _ (some-kind : kind ≡ 0 → ⊥) (out₂ : List ℕ) (r : Step) (step-is : r ≡ applied inner) (wrote : AppliedIn inner kind out₁ out₂) where
         over : (u : Unary) (y : Parsed) → kind ≡ unaryKind u → Told y n out out₁ inner → Told (apply u y) n out out₂ r
         over u Parsed.fail k h = step-is ∙ ap applied h
@@ -259,27 +293,42 @@ module _ (s : List ℕ) (at n : ℕ) (out : List ℕ) (x : Token) (b next : ℕ)
 
 -- ---- the functions below the levels
 
-pub close-none : (s : List ℕ) (inner : Step) (next m b past : ℕ) → inner ≡ Part next m b → past ≡ signAt s next 41 → past ≡ 0 → Fail ≡ closed s inner
-close-none s inner next m b past e f z = sym (ap (closed s) e ∙ ap (closedAt m b) (sym f ∙ z))
+pub room-of : (r : Step) (next m b : ℕ) → r ≡ Part next m b → Room r → (1 ≤ m) × ((5 * m + 5 ≤ 5120) × ((next < 2048) × (b ≤ 255)))
+room-of r next m b e h = rw e at h
+
+-- one node more fits too
+pub more-fits : (r : Step) (next m b c : ℕ) → r ≡ Part next m b → Room r → c ≤ 255 → Fits next (m + 1) c
+more-fits r next m b c e h k =
+    let g = room-of r next m b e h in
+    (g .1 .1 .0, (omega arith, (omega arith, k)))
+
+pub close-fail : (s : List ℕ) (inner : Step) → inner ≡ Fail → stepOf 0 ≡ closed s inner
+close-fail s inner e = none-is ∙ sym (ap (closed s) e)
+
+pub close-none : (s : List ℕ) (inner : Step) (next m b past : ℕ) → inner ≡ Part next m b → past ≡ signAt s next 41 → past ≡ 0 → stepOf 0 ≡ closed s inner
+close-none s inner next m b past e f z = none-is ∙ sym (ap (closed s) e ∙ ap (closedAt m b) (sym f ∙ z))
 
 past-at : (m b past : ℕ) → (past ≡ 0 → ⊥) → closedAt m b past ≡ Part past m b
 past-at m b zero ne = absurd (ne refl)
 past-at m b (suc q) ne = refl
 
-pub close-past : (s : List ℕ) (inner : Step) (next m b past : ℕ) → inner ≡ Part next m b → past ≡ signAt s next 41 → (past ≡ 0 → ⊥) → Part past m b ≡ closed s inner
-close-past s inner next m b past e f ne = sym (ap (closed s) e ∙ ap (closedAt m b) (sym f) ∙ past-at m b past ne)
+pub close-fits : (s : List ℕ) (inner : Step) (next m b past : ℕ) → inner ≡ Part next m b → past ≡ signAt s next 41 → (past ≡ 0 → ⊥) → length s ≤ 1024 → Room inner → Fits past m b
+close-fits s inner next m b past e f ne short room =
+    let h = room-of inner next m b e room in
+    let k = sign-past s next 41 past f ne in
+    (omega arith, (h .0, (omega arith, h .1 .1 .1)))
 
-pub room-of : (r : Step) (next m b : ℕ) → r ≡ Part next m b → Room r → (1 ≤ m) × (5 * m + 5 ≤ 5120)
-room-of r next m b e h = rw e at h
+pub close-past : (s : List ℕ) (inner r : Step) (next m b past : ℕ) → r ≡ Part past m b → inner ≡ Part next m b → past ≡ signAt s next 41 → (past ≡ 0 → ⊥) → r ≡ closed s inner
+close-past s inner r next m b past d e f ne = d ∙ sym (ap (closed s) e ∙ ap (closedAt m b) (sym f) ∙ past-at m b past ne)
 
-pub join-told : (r : Step) (next m b k a t c : ℕ) (out out₁ : List ℕ) → r ≡ Part next m b → c ≡ max t b → Wrote out (5 * m) (entry k (a - 1) (m - 1)) out₁ → (Part next (m + 1) c ≡ joined t r) × JoinedIn r k a out out₁
-join-told r next m b k a t c out out₁ e f h = (ap (Part next (m + 1)) f ∙ sym (ap (joined t) e), subst (λ (y : Step). JoinedIn y k a out out₁) (sym e) h)
+pub join-told : (r x : Step) (next m b k a t c : ℕ) (out out₁ : List ℕ) → x ≡ Part next (m + 1) c → r ≡ Part next m b → c ≡ max t b → Wrote out (5 * m) (entry k (a - 1) (m - 1)) out₁ → (x ≡ joined t r) × JoinedIn r k a out out₁
+join-told r x next m b k a t c out out₁ d e f h = (d ∙ ap (Part next (m + 1)) f ∙ sym (ap (joined t) e), subst (λ (y : Step). JoinedIn y k a out out₁) (sym e) h)
 
-pub cap-told : (r : Step) (next m b k : ℕ) (out out₁ : List ℕ) → r ≡ Part next m b → Wrote out (5 * m) (entry k (m - 1) 0) out₁ → (Part next (m + 1) b ≡ applied r) × AppliedIn r k out out₁
-cap-told r next m b k out out₁ e h = (sym (ap applied e), subst (λ (y : Step). AppliedIn y k out out₁) (sym e) h)
+pub cap-told : (r x : Step) (next m b k : ℕ) (out out₁ : List ℕ) → x ≡ Part next (m + 1) b → r ≡ Part next m b → Wrote out (5 * m) (entry k (m - 1) 0) out₁ → (x ≡ applied r) × AppliedIn r k out out₁
+cap-told r x next m b k out out₁ d e h = (d ∙ sym (ap applied e), subst (λ (y : Step). AppliedIn y k out out₁) (sym e) h)
 
-pub join-none : (r : Step) (k a t : ℕ) (out : List ℕ) → r ≡ Fail → (Fail ≡ joined t r) × JoinedIn r k a out out
-join-none r k a t out e = (sym (ap (joined t) e), subst (λ (y : Step). JoinedIn y k a out out) (sym e) refl)
+pub join-none : (r : Step) (k a t : ℕ) (out : List ℕ) → r ≡ Fail → (stepOf 0 ≡ joined t r) × JoinedIn r k a out out
+join-none r k a t out e = (none-is ∙ sym (ap (joined t) e), subst (λ (y : Step). JoinedIn y k a out out) (sym e) refl)
 
-pub cap-none : (r : Step) (k : ℕ) (out : List ℕ) → r ≡ Fail → (Fail ≡ applied r) × AppliedIn r k out out
-cap-none r k out e = (sym (ap applied e), subst (λ (y : Step). AppliedIn y k out out) (sym e) refl)
+pub cap-none : (r : Step) (k : ℕ) (out : List ℕ) → r ≡ Fail → (stepOf 0 ≡ applied r) × AppliedIn r k out out
+cap-none r k out e = (none-is ∙ sym (ap applied e), subst (λ (y : Step). AppliedIn y k out out) (sym e) refl)

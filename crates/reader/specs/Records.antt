@@ -20,6 +20,11 @@ top (atom a) = min 255 a
 top (unary u p) = top p
 top (binary o p q) = max (top p) (top q)
 
+pub top-le : (p : Rule) → top p ≤ 255
+top-le (atom a) = omega arith
+top-le (unary u p) = top-le p
+top-le (binary o p q) = let h = top-le p in let k = top-le q in omega arith
+
 abbrev pub entry : (kind left right : ℕ) → List ℕ
 entry k l r = 0x4E ∷ 0x44 ∷ k ∷ l % 256 ∷ r % 256 ∷ []
 

@@ -2,7 +2,7 @@
 use mathlib.Core.Path.{_≡_}
 use mathlib.Core.Option.{Option, none, some}
 use mathlib.Core.List.{List}
-use Prim.Native.Nat.{ℕ, zero, suc, _+_, _-_, _*_, max, _≤_}
+use Prim.Native.Nat.{ℕ, zero, suc, _+_, _-_, _*_, _/_, _%_, max, _≤_, _<_}
 use lib.ListN.{length}
 use lib.Seq.{sets}
 use Rattle.rules.specs.Rule.{Unary, size}
@@ -32,6 +32,15 @@ untilLevel = of until
 abbrev pub singleLevel : Level
 singleLevel = single
 
+-- a step as one number: 0, or position, nodes and highest atom number, lowest first
+unfoldable pub stepOf : ℕ → Step
+stepOf zero = Fail
+stepOf (suc c) = Part (suc c % 2048) (suc c / 2048 % 2048) (suc c / 4194304)
+
+-- a part that fits one number
+abbrev pub Fits : (next m b : ℕ) → Type 0
+Fits next m b = (next < 2048) × ((1 ≤ m) × ((m < 2048) × (b ≤ 255)))
+
 -- what a level asks: the text is short, and there are no more nodes so far than bytes before `at`, so that each node has room
 pub record Ready (text : List ℕ) (at n : ℕ) : Type 0 where
   pub short : length text ≤ 1024
@@ -46,10 +55,10 @@ abbrev pub Told : Parsed → (n : ℕ) → (before after : List ℕ) → Step �
 Told Parsed.fail n before after r = r ≡ Fail
 Told (Parsed.part p next) n before after r = (r ≡ Part next (n + size p) (top p)) × Wrote before (5 * n) (records n p) after
 
--- there is a last node, and no more than a short text can have
+-- there is a last node, no more than a short text can have, and the part fits one number
 abbrev pub Room : Step → Type 0
 Room Fail = Unit {0}
-Room (Part next m b) = (1 ≤ m) × (5 * m + 5 ≤ 5120)
+Room (Part next m b) = (1 ≤ m) × ((5 * m + 5 ≤ 5120) × ((next < 2048) × (b ≤ 255)))
 
 -- one node more, over two parts: the last node of the left part is a - 1, and t its highest atom
 abbrev pub joined : (t : ℕ) → Step → Step

@@ -6,7 +6,8 @@ ghost use Rattle.rules.specs.Reading.Parser.{parsed, unaryOf};
 ghost use Rattle.rules.specs.Outcome.{result, buffer, readOutcome};
 ghost use Rattle.answers.specs.Told.{told};
 ghost use Rattle.reader.specs.Records.{entry};
-ghost use Rattle.reader.specs.Steps.{ruleLevel, orLevel, andLevel, untilLevel, singleLevel, Ready, Wrote, Told, Room, joined, JoinedIn, applied, AppliedIn, prefixKind, closed};
+ghost use Rattle.reader.specs.Steps.{ruleLevel, orLevel, andLevel, untilLevel, singleLevel, Ready, Wrote, Told, Room, joined, JoinedIn, applied, AppliedIn, prefixKind, closed, Fits, stepOf};
+ghost use Rattle.reader.specs.declared.Step.the-variants.{Part};
 
 // No phrase, or one that ends before `next`: `nodes` nodes are written so far, and `top` is the phrase's highest atom number.
 pub enum Step {
@@ -16,6 +17,28 @@ pub enum Step {
         nodes: usize,
         top: usize,
     },
+}
+
+// The step of a number that `pack` made, or of 0, a failure.
+fn unpack(code: usize) -> Step
+    ensures { λ r. ⌜ r ≡ stepOf code ⌝ }
+{
+    if code == 0 {
+        return Step::Fail;
+    }
+    Step::Part {
+        next: code % 2048,
+        nodes: code / 2048 % 2048,
+        top: code / 4194304,
+    }
+}
+
+// A part as one number: the levels return it in a register.
+fn pack(next: usize, nodes: usize, top: usize) -> usize
+    requires { ⌜ Fits next nodes top ⌝ }
+    ensures { λ r. ⌜ stepOf r ≡ Part next nodes top ⌝ }
+{
+    next + nodes * 2048 + top * 4194304
 }
 
 fn larger(a: usize, b: usize) -> usize
@@ -42,46 +65,37 @@ fn put(out: &mut [u8; 640], n: usize, kind: u8, left: usize, right: usize)
 }
 
 // The node over the left part, whose last node is `nodes` - 1, and the right part.
-fn join(out: &mut [u8; 640], kind: u8, nodes: usize, top: usize, right: Step) -> Step
-    requires { ⌜ (1 ≤ nodes) × Room right ⌝ }
-    ensures { λ r. ⌜ (r ≡ joined top right) × JoinedIn right kind nodes (now (out .entry)) (now (out .exit)) ⌝ }
+fn join(out: &mut [u8; 640], kind: u8, nodes: usize, top: usize, right: usize) -> usize
+    requires { ⌜ (1 ≤ nodes) × ((top ≤ 255) × Room (stepOf right)) ⌝ }
+    ensures { λ r. ⌜ (stepOf r ≡ joined top (stepOf right)) × JoinedIn (stepOf right) kind nodes (now (out .entry)) (now (out .exit)) ⌝ }
 {
-    match right {
-        Step::Fail => Step::Fail,
+    match unpack(right) {
+        Step::Fail => 0,
         Step::Part {
             next,
             nodes: m,
             top: b,
         } => {
             put(out, m, kind, nodes - 1, m - 1);
-            let t = larger(top, b);
-            Step::Part {
-                next,
-                nodes: m + 1,
-                top: t,
-            }
+            pack(next, m + 1, larger(top, b))
         }
     }
 }
 
 // The node over one part.
-fn cap(out: &mut [u8; 640], kind: u8, inner: Step) -> Step
-    requires { ⌜ Room inner ⌝ }
-    ensures { λ r. ⌜ (r ≡ applied inner) × AppliedIn inner kind (now (out .entry)) (now (out .exit)) ⌝ }
+fn cap(out: &mut [u8; 640], kind: u8, inner: usize) -> usize
+    requires { ⌜ Room (stepOf inner) ⌝ }
+    ensures { λ r. ⌜ (stepOf r ≡ applied (stepOf inner)) × AppliedIn (stepOf inner) kind (now (out .entry)) (now (out .exit)) ⌝ }
 {
-    match inner {
-        Step::Fail => Step::Fail,
+    match unpack(inner) {
+        Step::Fail => 0,
         Step::Part {
             next,
             nodes: m,
             top,
         } => {
             put(out, m, kind, m - 1, 0);
-            Step::Part {
-                next,
-                nodes: m + 1,
-                top,
-            }
+            pack(next, m + 1, top)
         }
     }
 }
@@ -103,36 +117,34 @@ fn prefix_kind(byte: u8) -> u8
 }
 
 // The part in a bracket, with the position past the closing one.
-fn close(text: &[u8], inner: Step) -> Step
-    ensures { λ r. ⌜ r ≡ closed (now (text .entry)) inner ⌝ }
+fn close(text: &[u8], inner: usize) -> usize
+    requires { ⌜ (length (now text) ≤ 1024) × Room (stepOf inner) ⌝ }
+    ensures { λ r. ⌜ stepOf r ≡ closed (now (text .entry)) (stepOf inner) ⌝ }
 {
-    match inner {
-        Step::Fail => Step::Fail,
+    match unpack(inner) {
+        Step::Fail => 0,
         Step::Part { next, nodes, top } => {
             let past = lexer::sign_at(text, next, b')');
             if past == 0 {
-                return Step::Fail;
+                return 0;
             }
-            Step::Part {
-                next: past,
-                nodes,
-                top,
-            }
+            pack(past, nodes, top)
         }
     }
 }
 
 // Rule: Or, or Or > Rule. The levels pass the text on by a reference to the slice: each then has it in a register.
-fn rule(text: &&[u8], at: usize, n: usize, out: &mut [u8; 640]) -> Step
+fn rule(text: &&[u8], at: usize, n: usize, out: &mut [u8; 640]) -> usize
     requires { ⌜ Ready (now (now text)) at n ⌝ }
-    ensures { λ r. ⌜ Told (parsed ruleLevel (now (now (text .entry))) at) n (now (out .entry)) (now (out .exit)) r ⌝ }
+    ensures { λ r. ⌜ Told (parsed ruleLevel (now (now (text .entry))) at) n (now (out .entry)) (now (out .exit)) (stepOf r) ⌝ }
 {
-    match or(text, at, n, out) {
-        Step::Fail => Step::Fail,
+    let left = or(text, at, n, out);
+    match unpack(left) {
+        Step::Fail => 0,
         Step::Part { next, nodes, top } => {
             let after = lexer::sign_at(*text, next, b'>');
             if after == 0 {
-                return Step::Part { next, nodes, top };
+                return left;
             }
             let right = rule(text, after, nodes, out);
             join(out, 5, nodes, top, right)
@@ -141,16 +153,17 @@ fn rule(text: &&[u8], at: usize, n: usize, out: &mut [u8; 640]) -> Step
 }
 
 // Or: And, or And | Or.
-fn or(text: &&[u8], at: usize, n: usize, out: &mut [u8; 640]) -> Step
+fn or(text: &&[u8], at: usize, n: usize, out: &mut [u8; 640]) -> usize
     requires { ⌜ Ready (now (now text)) at n ⌝ }
-    ensures { λ r. ⌜ Told (parsed orLevel (now (now (text .entry))) at) n (now (out .entry)) (now (out .exit)) r ⌝ }
+    ensures { λ r. ⌜ Told (parsed orLevel (now (now (text .entry))) at) n (now (out .entry)) (now (out .exit)) (stepOf r) ⌝ }
 {
-    match and(text, at, n, out) {
-        Step::Fail => Step::Fail,
+    let left = and(text, at, n, out);
+    match unpack(left) {
+        Step::Fail => 0,
         Step::Part { next, nodes, top } => {
             let after = lexer::sign_at(*text, next, b'|');
             if after == 0 {
-                return Step::Part { next, nodes, top };
+                return left;
             }
             let right = or(text, after, nodes, out);
             join(out, 4, nodes, top, right)
@@ -159,16 +172,17 @@ fn or(text: &&[u8], at: usize, n: usize, out: &mut [u8; 640]) -> Step
 }
 
 // And: Until, or Until & And.
-fn and(text: &&[u8], at: usize, n: usize, out: &mut [u8; 640]) -> Step
+fn and(text: &&[u8], at: usize, n: usize, out: &mut [u8; 640]) -> usize
     requires { ⌜ Ready (now (now text)) at n ⌝ }
-    ensures { λ r. ⌜ Told (parsed andLevel (now (now (text .entry))) at) n (now (out .entry)) (now (out .exit)) r ⌝ }
+    ensures { λ r. ⌜ Told (parsed andLevel (now (now (text .entry))) at) n (now (out .entry)) (now (out .exit)) (stepOf r) ⌝ }
 {
-    match until(text, at, n, out) {
-        Step::Fail => Step::Fail,
+    let left = until(text, at, n, out);
+    match unpack(left) {
+        Step::Fail => 0,
         Step::Part { next, nodes, top } => {
             let after = lexer::sign_at(*text, next, b'&');
             if after == 0 {
-                return Step::Part { next, nodes, top };
+                return left;
             }
             let right = and(text, after, nodes, out);
             join(out, 3, nodes, top, right)
@@ -177,16 +191,17 @@ fn and(text: &&[u8], at: usize, n: usize, out: &mut [u8; 640]) -> Step
 }
 
 // Until: Single, or Single U Until.
-fn until(text: &&[u8], at: usize, n: usize, out: &mut [u8; 640]) -> Step
+fn until(text: &&[u8], at: usize, n: usize, out: &mut [u8; 640]) -> usize
     requires { ⌜ Ready (now (now text)) at n ⌝ }
-    ensures { λ r. ⌜ Told (parsed untilLevel (now (now (text .entry))) at) n (now (out .entry)) (now (out .exit)) r ⌝ }
+    ensures { λ r. ⌜ Told (parsed untilLevel (now (now (text .entry))) at) n (now (out .entry)) (now (out .exit)) (stepOf r) ⌝ }
 {
-    match single(text, at, n, out) {
-        Step::Fail => Step::Fail,
+    let left = single(text, at, n, out);
+    match unpack(left) {
+        Step::Fail => 0,
         Step::Part { next, nodes, top } => {
             let after = lexer::sign_at(*text, next, b'U');
             if after == 0 {
-                return Step::Part { next, nodes, top };
+                return left;
             }
             let right = until(text, after, nodes, out);
             join(out, 8, nodes, top, right)
@@ -195,18 +210,14 @@ fn until(text: &&[u8], at: usize, n: usize, out: &mut [u8; 640]) -> Step
 }
 
 // Single: ! Single, or F Single, or G Single, or an atom, or ( Rule ).
-fn single(text: &&[u8], at: usize, n: usize, out: &mut [u8; 640]) -> Step
+fn single(text: &&[u8], at: usize, n: usize, out: &mut [u8; 640]) -> usize
     requires { ⌜ Ready (now (now text)) at n ⌝ }
-    ensures { λ r. ⌜ Told (parsed singleLevel (now (now (text .entry))) at) n (now (out .entry)) (now (out .exit)) r ⌝ }
+    ensures { λ r. ⌜ Told (parsed singleLevel (now (now (text .entry))) at) n (now (out .entry)) (now (out .exit)) (stepOf r) ⌝ }
 {
     match lexer::token_at(*text, at) {
         lexer::Token::Atom { number, next } => {
             put(out, n, 1, number, 0);
-            Step::Part {
-                next,
-                nodes: n + 1,
-                top: number,
-            }
+            pack(next, n + 1, number)
         }
         lexer::Token::Sign { byte, next } => {
             if byte == b'(' {
@@ -215,12 +226,12 @@ fn single(text: &&[u8], at: usize, n: usize, out: &mut [u8; 640]) -> Step
             }
             let kind = prefix_kind(byte);
             if kind == 0 {
-                return Step::Fail;
+                return 0;
             }
             let inner = single(text, next, n, out);
             cap(out, kind, inner)
         }
-        lexer::Token::Other => Step::Fail,
+        lexer::Token::Other => 0,
     }
 }
 
@@ -229,7 +240,7 @@ fn whole(text: &[u8], out: &mut [u8; 640]) -> Step
     requires { ⌜ length (now text) ≤ 1024 ⌝ }
     ensures { λ r. ⌜ Told (parsed ruleLevel (now (text .entry)) 0) 0 (now (out .entry)) (now (out .exit)) r ⌝ }
 {
-    rule(&text, 0, 0, out)
+    unpack(rule(&text, 0, 0, out))
 }
 
 // The text's node table into `out`, and its node count; or the lowest refusal, with `out` as it was.

@@ -1,10 +1,11 @@
 -- The five levels meet their contracts, in one proof of their cycle of calls. What falls at each call is the bytes left, six times, and the level's rank.
+use mathlib.Core.Path.{sym, _∙_}
 use native.Mathlib.Omega.{arith}
 use borrow.Author.Needs.{needs}
 use Rattle.rules.specs.Rule.Binary.{or as disjunction, implies as implication, and as conjunction, until as untils}
 use Rattle.rules.specs.Reading.Parser.{measure}
 use Rattle.reader.specs.Steps.{ruleLevel, orLevel, andLevel, untilLevel, singleLevel}
-use Rattle.reader.proofs.Laws.{level-fail, level-alone, level-next, level-room, level-joined, single-none, atom-room, single-atom, sign-next, single-bracket, single-fail, cap-room, single-prefix}
+use Rattle.reader.proofs.Laws.{level-fail, level-alone, level-next, level-room, level-joined, single-none, atom-room, atom-fits, inner-room, single-atom, sign-next, single-bracket, single-fail, single-prefix}
 use Prim.Native.Nat.{ℕ, _<_}
 use borrow.Fn.Kinds.{In}
 use borrow.Fn.PlainCycle.{Measures, is, falls, and}
@@ -29,7 +30,9 @@ use Rattle.reader.proofs.cap.Reads as cap-reads
 use Rattle.reader.proofs.close.Reads as close-reads
 use Rattle.reader.proofs.join.Reads as join-reads
 use Rattle.reader.proofs.prefix_kind.Reads as prefix-kind-reads
+use Rattle.reader.proofs.pack.Reads as pack-reads
 use Rattle.reader.proofs.put.Reads as put-reads
+use Rattle.reader.proofs.unpack.Reads as unpack-reads
 use Rattle.reader.proofs.+and+or+rule+single+until.{statement}
 use Rattle.reader.proofs.+and+or+rule+single+until.Tie.{close}
 
@@ -80,10 +83,13 @@ until-below t = and 3 until-kinds.ps (falls 3 until-kinds.ps _<_ μ-until t) unt
 
 -- what `and` has of those that it calls
 abbrev and-env : ℕ → and-lts.Claims
-and-env t = (until-below t, until.Post, sign-at-reads.Asked, sign-at-reads.Learnt, and-below t, and′.Post, join-reads.Asked, join-reads.Learnt)
+and-env t = (until-below t, until.Post, unpack-reads.Asked, unpack-reads.Learnt, sign-at-reads.Asked, sign-at-reads.Learnt, and-below t, and′.Post, join-reads.Asked, join-reads.Learnt)
 
 and-until-requires : (t : ℕ) → and-lts.Need-until-requires (and-env t) (and-at t) and′.Post
 and-until-requires t c κs = (omega (arith, c .before .pre .0), c .before .pre .1)
+
+and-unpack-requires : (t : ℕ) → and-lts.Need-unpack-requires (and-env t) (and-at t) and′.Post
+and-unpack-requires t c κs = search needs
 
 and-enum-told : (t : ℕ) → and-lts.Need-enum-told (and-env t) (and-at t) and′.Post
 and-enum-told t c = search needs
@@ -97,34 +103,37 @@ and-sign-at-requires t c κs = search needs
 and-returns : (t : ℕ) → and-lts.Need-returns (and-env t) (and-at t) and′.Post
 and-returns t c =
     let k = c .before .before .before .before in
-    level-alone conjunction _ _ _ _ _ _ _ _ _ _ (k .before .before .until .ensures) (k .next .given .1) (c .before .sign-at .ensures) (c .if1 .taken)
+    level-alone conjunction _ _ _ _ _ _ _ _ _ _ (k .before .before .before .until .ensures) (sym (k .before .before .unpack .ensures) ∙ k .next .given .1) (c .before .sign-at .ensures) (c .if1 .taken)
 
 and-and-requires : (t : ℕ) → and-lts.Need-and-requires (and-env t) (and-at t) and′.Post
 and-and-requires t c κs =
     let k = c .before .before .before .before .before in
-    let pre = k .before .before .before .before .pre in
-    let h = level-next conjunction _ _ _ _ _ _ _ _ _ _ (k .before .before .until .ensures) (k .next .given .1) (c .before .before .sign-at .ensures) (pre .1) (c .before .if1 .left) in
+    let pre = k .before .before .before .before .before .pre in
+    let h = level-next conjunction _ _ _ _ _ _ _ _ _ _ (k .before .before .before .until .ensures) (sym (k .before .before .unpack .ensures) ∙ k .next .given .1) (c .before .before .sign-at .ensures) (pre .1) (c .before .if1 .left) in
     (omega (arith, h .0, pre .0), h .1)
 
 and-join-requires : (t : ℕ) → and-lts.Need-join-requires (and-env t) (and-at t) and′.Post
 and-join-requires t c κs =
     let k = c .before .before .before .before .before .before .before in
-    level-room conjunction _ _ _ _ _ _ _ _ _ _ (k .before .before .until .ensures) (k .next .given .1) (c .before .before .before .before .sign-at .ensures) (k .before .before .before .before .pre .1) (c .before .before .before .if1 .left) _ _ (c .before .and .ensures)
+    level-room conjunction _ _ _ _ _ _ _ _ _ _ (k .before .before .before .until .ensures) (sym (k .before .before .unpack .ensures) ∙ k .next .given .1) (c .before .before .before .before .sign-at .ensures) (k .before .before .before .before .before .pre .1) (c .before .before .before .if1 .left) _ _ (c .before .and .ensures)
 
 and-returns-2 : (t : ℕ) → and-lts.Need-returns-2 (and-env t) (and-at t) and′.Post
-and-returns-2 t c = level-fail conjunction _ _ _ _ _ (c .before .before .until .result) (c .before .before .until .ensures) (c .enum-told .given .1)
+and-returns-2 t c = level-fail conjunction _ _ _ _ _ _ (c .before .before .before .until .ensures) (sym (c .before .before .unpack .ensures) ∙ c .enum-told .given .1)
 
 and-returns-3 : (t : ℕ) → and-lts.Need-returns-3 (and-env t) (and-at t) and′.Post
 and-returns-3 t c =
     let k = c .before .before .before .before .before .before .before .before in
-    level-joined conjunction _ _ _ _ _ _ _ _ _ _ (k .before .before .until .ensures) (k .next .given .1) (c .before .before .before .before .before .sign-at .ensures) (k .before .before .before .before .pre .1) (c .before .before .before .before .if1 .left) _ _ (c .before .before .and .ensures) _ _ (c .join .ensures .0) (c .join .ensures .1)
+    level-joined conjunction _ _ _ _ _ _ _ _ _ _ (k .before .before .before .until .ensures) (sym (k .before .before .unpack .ensures) ∙ k .next .given .1) (c .before .before .before .before .before .sign-at .ensures) (k .before .before .before .before .before .pre .1) (c .before .before .before .before .if1 .left) _ _ (c .before .before .and .ensures) _ _ (c .join .ensures .0) (c .join .ensures .1)
 
 -- what `or` has of those that it calls
 abbrev or-env : ℕ → or-lts.Claims
-or-env t = (and-below t, and′.Post, sign-at-reads.Asked, sign-at-reads.Learnt, or-below t, or.Post, join-reads.Asked, join-reads.Learnt)
+or-env t = (and-below t, and′.Post, unpack-reads.Asked, unpack-reads.Learnt, sign-at-reads.Asked, sign-at-reads.Learnt, or-below t, or.Post, join-reads.Asked, join-reads.Learnt)
 
 or-and-requires : (t : ℕ) → or-lts.Need-and-requires (or-env t) (or-at t) or.Post
 or-and-requires t c κs = (omega (arith, c .before .pre .0), c .before .pre .1)
+
+or-unpack-requires : (t : ℕ) → or-lts.Need-unpack-requires (or-env t) (or-at t) or.Post
+or-unpack-requires t c κs = search needs
 
 or-enum-told : (t : ℕ) → or-lts.Need-enum-told (or-env t) (or-at t) or.Post
 or-enum-told t c = search needs
@@ -138,34 +147,37 @@ or-sign-at-requires t c κs = search needs
 or-returns : (t : ℕ) → or-lts.Need-returns (or-env t) (or-at t) or.Post
 or-returns t c =
     let k = c .before .before .before .before in
-    level-alone disjunction _ _ _ _ _ _ _ _ _ _ (k .before .before .and .ensures) (k .next .given .1) (c .before .sign-at .ensures) (c .if1 .taken)
+    level-alone disjunction _ _ _ _ _ _ _ _ _ _ (k .before .before .before .and .ensures) (sym (k .before .before .unpack .ensures) ∙ k .next .given .1) (c .before .sign-at .ensures) (c .if1 .taken)
 
 or-or-requires : (t : ℕ) → or-lts.Need-or-requires (or-env t) (or-at t) or.Post
 or-or-requires t c κs =
     let k = c .before .before .before .before .before in
-    let pre = k .before .before .before .before .pre in
-    let h = level-next disjunction _ _ _ _ _ _ _ _ _ _ (k .before .before .and .ensures) (k .next .given .1) (c .before .before .sign-at .ensures) (pre .1) (c .before .if1 .left) in
+    let pre = k .before .before .before .before .before .pre in
+    let h = level-next disjunction _ _ _ _ _ _ _ _ _ _ (k .before .before .before .and .ensures) (sym (k .before .before .unpack .ensures) ∙ k .next .given .1) (c .before .before .sign-at .ensures) (pre .1) (c .before .if1 .left) in
     (omega (arith, h .0, pre .0), h .1)
 
 or-join-requires : (t : ℕ) → or-lts.Need-join-requires (or-env t) (or-at t) or.Post
 or-join-requires t c κs =
     let k = c .before .before .before .before .before .before .before in
-    level-room disjunction _ _ _ _ _ _ _ _ _ _ (k .before .before .and .ensures) (k .next .given .1) (c .before .before .before .before .sign-at .ensures) (k .before .before .before .before .pre .1) (c .before .before .before .if1 .left) _ _ (c .before .or .ensures)
+    level-room disjunction _ _ _ _ _ _ _ _ _ _ (k .before .before .before .and .ensures) (sym (k .before .before .unpack .ensures) ∙ k .next .given .1) (c .before .before .before .before .sign-at .ensures) (k .before .before .before .before .before .pre .1) (c .before .before .before .if1 .left) _ _ (c .before .or .ensures)
 
 or-returns-2 : (t : ℕ) → or-lts.Need-returns-2 (or-env t) (or-at t) or.Post
-or-returns-2 t c = level-fail disjunction _ _ _ _ _ (c .before .before .and .result) (c .before .before .and .ensures) (c .enum-told .given .1)
+or-returns-2 t c = level-fail disjunction _ _ _ _ _ _ (c .before .before .before .and .ensures) (sym (c .before .before .unpack .ensures) ∙ c .enum-told .given .1)
 
 or-returns-3 : (t : ℕ) → or-lts.Need-returns-3 (or-env t) (or-at t) or.Post
 or-returns-3 t c =
     let k = c .before .before .before .before .before .before .before .before in
-    level-joined disjunction _ _ _ _ _ _ _ _ _ _ (k .before .before .and .ensures) (k .next .given .1) (c .before .before .before .before .before .sign-at .ensures) (k .before .before .before .before .pre .1) (c .before .before .before .before .if1 .left) _ _ (c .before .before .or .ensures) _ _ (c .join .ensures .0) (c .join .ensures .1)
+    level-joined disjunction _ _ _ _ _ _ _ _ _ _ (k .before .before .before .and .ensures) (sym (k .before .before .unpack .ensures) ∙ k .next .given .1) (c .before .before .before .before .before .sign-at .ensures) (k .before .before .before .before .before .pre .1) (c .before .before .before .before .if1 .left) _ _ (c .before .before .or .ensures) _ _ (c .join .ensures .0) (c .join .ensures .1)
 
 -- what `rule` has of those that it calls
 abbrev rule-env : ℕ → rule-lts.Claims
-rule-env t = (or-below t, or.Post, sign-at-reads.Asked, sign-at-reads.Learnt, rule-below t, rule.Post, join-reads.Asked, join-reads.Learnt)
+rule-env t = (or-below t, or.Post, unpack-reads.Asked, unpack-reads.Learnt, sign-at-reads.Asked, sign-at-reads.Learnt, rule-below t, rule.Post, join-reads.Asked, join-reads.Learnt)
 
 rule-or-requires : (t : ℕ) → rule-lts.Need-or-requires (rule-env t) (rule-at t) rule.Post
 rule-or-requires t c κs = (omega (arith, c .before .pre .0), c .before .pre .1)
+
+rule-unpack-requires : (t : ℕ) → rule-lts.Need-unpack-requires (rule-env t) (rule-at t) rule.Post
+rule-unpack-requires t c κs = search needs
 
 rule-enum-told : (t : ℕ) → rule-lts.Need-enum-told (rule-env t) (rule-at t) rule.Post
 rule-enum-told t c = search needs
@@ -179,31 +191,31 @@ rule-sign-at-requires t c κs = search needs
 rule-returns : (t : ℕ) → rule-lts.Need-returns (rule-env t) (rule-at t) rule.Post
 rule-returns t c =
     let k = c .before .before .before .before in
-    level-alone implication _ _ _ _ _ _ _ _ _ _ (k .before .before .or .ensures) (k .next .given .1) (c .before .sign-at .ensures) (c .if1 .taken)
+    level-alone implication _ _ _ _ _ _ _ _ _ _ (k .before .before .before .or .ensures) (sym (k .before .before .unpack .ensures) ∙ k .next .given .1) (c .before .sign-at .ensures) (c .if1 .taken)
 
 rule-rule-requires : (t : ℕ) → rule-lts.Need-rule-requires (rule-env t) (rule-at t) rule.Post
 rule-rule-requires t c κs =
     let k = c .before .before .before .before .before in
-    let pre = k .before .before .before .before .pre in
-    let h = level-next implication _ _ _ _ _ _ _ _ _ _ (k .before .before .or .ensures) (k .next .given .1) (c .before .before .sign-at .ensures) (pre .1) (c .before .if1 .left) in
+    let pre = k .before .before .before .before .before .pre in
+    let h = level-next implication _ _ _ _ _ _ _ _ _ _ (k .before .before .before .or .ensures) (sym (k .before .before .unpack .ensures) ∙ k .next .given .1) (c .before .before .sign-at .ensures) (pre .1) (c .before .if1 .left) in
     (omega (arith, h .0, pre .0), h .1)
 
 rule-join-requires : (t : ℕ) → rule-lts.Need-join-requires (rule-env t) (rule-at t) rule.Post
 rule-join-requires t c κs =
     let k = c .before .before .before .before .before .before .before in
-    level-room implication _ _ _ _ _ _ _ _ _ _ (k .before .before .or .ensures) (k .next .given .1) (c .before .before .before .before .sign-at .ensures) (k .before .before .before .before .pre .1) (c .before .before .before .if1 .left) _ _ (c .before .rule .ensures)
+    level-room implication _ _ _ _ _ _ _ _ _ _ (k .before .before .before .or .ensures) (sym (k .before .before .unpack .ensures) ∙ k .next .given .1) (c .before .before .before .before .sign-at .ensures) (k .before .before .before .before .before .pre .1) (c .before .before .before .if1 .left) _ _ (c .before .rule .ensures)
 
 rule-returns-2 : (t : ℕ) → rule-lts.Need-returns-2 (rule-env t) (rule-at t) rule.Post
-rule-returns-2 t c = level-fail implication _ _ _ _ _ (c .before .before .or .result) (c .before .before .or .ensures) (c .enum-told .given .1)
+rule-returns-2 t c = level-fail implication _ _ _ _ _ _ (c .before .before .before .or .ensures) (sym (c .before .before .unpack .ensures) ∙ c .enum-told .given .1)
 
 rule-returns-3 : (t : ℕ) → rule-lts.Need-returns-3 (rule-env t) (rule-at t) rule.Post
 rule-returns-3 t c =
     let k = c .before .before .before .before .before .before .before .before in
-    level-joined implication _ _ _ _ _ _ _ _ _ _ (k .before .before .or .ensures) (k .next .given .1) (c .before .before .before .before .before .sign-at .ensures) (k .before .before .before .before .pre .1) (c .before .before .before .before .if1 .left) _ _ (c .before .before .rule .ensures) _ _ (c .join .ensures .0) (c .join .ensures .1)
+    level-joined implication _ _ _ _ _ _ _ _ _ _ (k .before .before .before .or .ensures) (sym (k .before .before .unpack .ensures) ∙ k .next .given .1) (c .before .before .before .before .before .sign-at .ensures) (k .before .before .before .before .before .pre .1) (c .before .before .before .before .if1 .left) _ _ (c .before .before .rule .ensures) _ _ (c .join .ensures .0) (c .join .ensures .1)
 
 -- what `single` has of those that it calls
 abbrev single-env : ℕ → single-lts.Claims
-single-env t = (token-at-reads.Asked, token-at-reads.Learnt, put-reads.Asked, put-reads.Learnt, rule-below t, rule.Post, close-reads.Asked, close-reads.Learnt, prefix-kind-reads.Asked, prefix-kind-reads.Learnt, single-below t, single.Post, cap-reads.Asked, cap-reads.Learnt)
+single-env t = (token-at-reads.Asked, token-at-reads.Learnt, put-reads.Asked, put-reads.Learnt, pack-reads.Asked, pack-reads.Learnt, rule-below t, rule.Post, close-reads.Asked, close-reads.Learnt, prefix-kind-reads.Asked, prefix-kind-reads.Learnt, single-below t, single.Post, cap-reads.Asked, cap-reads.Learnt)
 
 single-token-at-requires : (t : ℕ) → single-lts.Need-token-at-requires (single-env t) (single-at t) single.Post
 single-token-at-requires t c κs = search needs
@@ -214,8 +226,11 @@ single-enum-known-number t c = search needs
 single-put-requires : (t : ℕ) → single-lts.Need-put-requires (single-env t) (single-at t) single.Post
 single-put-requires t c κs = atom-room _ _ _ _ _ _ (c .before .before .before .before .token-at .ensures) (c .before .before .number .given .1) (c .before .before .before .before .before .before .pre .1)
 
-single-add-t17 : (t : ℕ) → single-lts.Need-add-t17 (single-env t) (single-at t) single.Post
-single-add-t17 t c = omega (arith, atom-room _ _ _ _ _ _ (c .before .before .before .before .before .token-at .ensures) (c .before .before .before .number .given .1) (c .before .before .before .before .before .before .before .pre .1))
+single-add-pack : (t : ℕ) → single-lts.Need-add-pack (single-env t) (single-at t) single.Post
+single-add-pack t c = omega (arith, atom-room _ _ _ _ _ _ (c .before .before .before .before .before .token-at .ensures) (c .before .before .before .number .given .1) (c .before .before .before .before .before .before .before .pre .1))
+
+single-pack-requires : (t : ℕ) → single-lts.Need-pack-requires (single-env t) (single-at t) single.Post
+single-pack-requires t c κs = atom-fits _ _ _ _ _ _ (c .before .before .before .before .before .token-at .ensures) (c .before .before .before .number .given .1) (c .before .before .before .before .before .before .before .pre .1)
 
 single-enum-known-byte : (t : ℕ) → single-lts.Need-enum-known-byte (single-env t) (single-at t) single.Post
 single-enum-known-byte t c = search needs
@@ -227,12 +242,14 @@ single-rule-requires t c κs =
     (omega (arith, h .0, s .pre .0), h .1)
 
 single-close-requires : (t : ℕ) → single-lts.Need-close-requires (single-env t) (single-at t) single.Post
-single-close-requires t c κs = search needs
+single-close-requires t c κs =
+    let s = c .before .before .before .before .before .before .before .before .before in
+    (s .pre .1 .short, inner-room _ _ _ (s .args .out .now) _ _ _ (c .before .before .before .before .before .before .before .token-at .ensures) (c .before .before .before .before .before .byte .given .1) ruleLevel (s .pre .1) _ _ (c .before .rule .ensures))
 
 single-returns : (t : ℕ) → single-lts.Need-returns (single-env t) (single-at t) single.Post
 single-returns t c =
     let s = c .before .before .before .before .before .before .before .before .before .before in
-    single-bracket _ _ _ (s .args .out .now) _ _ _ (c .before .before .before .before .before .before .before .before .token-at .ensures) (c .before .before .before .before .before .before .byte .given .1) (c .before .before .before .before .if1 .taken) _ _ (c .close .result) (c .before .before .rule .ensures) (c .close .ensures)
+    single-bracket _ _ _ (s .args .out .now) _ _ _ (c .before .before .before .before .before .before .before .before .token-at .ensures) (c .before .before .before .before .before .before .byte .given .1) (c .before .before .before .before .if1 .taken) _ _ _ (c .before .before .rule .ensures) (c .close .ensures)
 
 single-prefix-kind-requires : (t : ℕ) → single-lts.Need-prefix-kind-requires (single-env t) (single-at t) single.Post
 single-prefix-kind-requires t c κs = search needs
@@ -251,21 +268,21 @@ single-single-requires t c κs =
 single-cap-requires : (t : ℕ) → single-lts.Need-cap-requires (single-env t) (single-at t) single.Post
 single-cap-requires t c κs =
     let s = c .before .before .before .before .before .before .before .before .before .before .before in
-    cap-room _ _ _ (s .args .out .now) _ _ _ (c .before .before .before .before .before .before .before .before .before .token-at .ensures) (c .before .before .before .before .before .before .before .byte .given .1) (c .before .before .before .before .before .if1 .left) (c .before .before .before .before .prefix-kind .result) (c .before .before .before .before .prefix-kind .ensures) (s .pre .1) _ _ (c .before .single .ensures)
+    inner-room _ _ _ (s .args .out .now) _ _ _ (c .before .before .before .before .before .before .before .before .before .token-at .ensures) (c .before .before .before .before .before .before .before .byte .given .1) singleLevel (s .pre .1) _ _ (c .before .single .ensures)
 
 single-enum-told : (t : ℕ) → single-lts.Need-enum-told (single-env t) (single-at t) single.Post
 single-enum-told t c = search needs
 
 single-returns-3 : (t : ℕ) → single-lts.Need-returns-3 (single-env t) (single-at t) single.Post
 single-returns-3 t c =
-    let s = c .before .before .before .before .before .before .before .args in
-    let a = c .before .before .before .number .given in
-    single-atom (s .text .now .now) (s .at) (s .n) (c .before .before .before .before .before .token-at .result) (a .0 .0) (a .0 .1 .0) (c .before .before .before .before .before .token-at .ensures) (a .1) (s .out .now) (c .put .last .0) (c .put .ensures)
+    let s = c .before .before .before .before .before .before .before .before .args in
+    let a = c .before .before .before .before .number .given in
+    single-atom (s .text .now .now) (s .at) (s .n) (c .before .before .before .before .before .before .token-at .result) (a .0 .0) (a .0 .1 .0) (c .before .before .before .before .before .before .token-at .ensures) (a .1) (s .out .now) (c .before .put .last .0) _ (c .pack .ensures) (c .before .put .ensures)
 
 single-returns-4 : (t : ℕ) → single-lts.Need-returns-4 (single-env t) (single-at t) single.Post
 single-returns-4 t c =
     let s = c .before .before .before .before .before .before .before .before .before .before .before .before in
-    single-prefix _ _ _ (s .args .out .now) _ _ _ (c .before .before .before .before .before .before .before .before .before .before .token-at .ensures) (c .before .before .before .before .before .before .before .before .byte .given .1) (c .before .before .before .before .before .before .if1 .left) (c .before .before .before .before .before .prefix-kind .result) (c .before .before .before .before .before .prefix-kind .ensures) (s .pre .1) _ _ (c .before .before .single .ensures) (c .before .before .before .before .if2 .left) _ _ (c .cap .ensures .0) (c .cap .ensures .1)
+    single-prefix _ _ _ (s .args .out .now) _ _ _ (c .before .before .before .before .before .before .before .before .before .before .token-at .ensures) (c .before .before .before .before .before .before .before .before .byte .given .1) (c .before .before .before .before .before .before .if1 .left) (c .before .before .before .before .before .prefix-kind .result) (c .before .before .before .before .before .prefix-kind .ensures) _ _ (c .before .before .single .ensures) (c .before .before .before .before .if2 .left) _ _ (c .cap .ensures .0) (c .cap .ensures .1)
 
 single-returns-5 : (t : ℕ) → single-lts.Need-returns-5 (single-env t) (single-at t) single.Post
 single-returns-5 t c =
@@ -274,10 +291,13 @@ single-returns-5 t c =
 
 -- what `until` has of those that it calls
 abbrev until-env : ℕ → until-lts.Claims
-until-env t = (single-below t, single.Post, sign-at-reads.Asked, sign-at-reads.Learnt, until-below t, until.Post, join-reads.Asked, join-reads.Learnt)
+until-env t = (single-below t, single.Post, unpack-reads.Asked, unpack-reads.Learnt, sign-at-reads.Asked, sign-at-reads.Learnt, until-below t, until.Post, join-reads.Asked, join-reads.Learnt)
 
 until-single-requires : (t : ℕ) → until-lts.Need-single-requires (until-env t) (until-at t) until.Post
 until-single-requires t c κs = (omega (arith, c .before .pre .0), c .before .pre .1)
+
+until-unpack-requires : (t : ℕ) → until-lts.Need-unpack-requires (until-env t) (until-at t) until.Post
+until-unpack-requires t c κs = search needs
 
 until-enum-told : (t : ℕ) → until-lts.Need-enum-told (until-env t) (until-at t) until.Post
 until-enum-told t c = search needs
@@ -291,33 +311,34 @@ until-sign-at-requires t c κs = search needs
 until-returns : (t : ℕ) → until-lts.Need-returns (until-env t) (until-at t) until.Post
 until-returns t c =
     let k = c .before .before .before .before in
-    level-alone untils _ _ _ _ _ _ _ _ _ _ (k .before .before .single .ensures) (k .next .given .1) (c .before .sign-at .ensures) (c .if1 .taken)
+    level-alone untils _ _ _ _ _ _ _ _ _ _ (k .before .before .before .single .ensures) (sym (k .before .before .unpack .ensures) ∙ k .next .given .1) (c .before .sign-at .ensures) (c .if1 .taken)
 
 until-until-requires : (t : ℕ) → until-lts.Need-until-requires (until-env t) (until-at t) until.Post
 until-until-requires t c κs =
     let k = c .before .before .before .before .before in
-    let pre = k .before .before .before .before .pre in
-    let h = level-next untils _ _ _ _ _ _ _ _ _ _ (k .before .before .single .ensures) (k .next .given .1) (c .before .before .sign-at .ensures) (pre .1) (c .before .if1 .left) in
+    let pre = k .before .before .before .before .before .pre in
+    let h = level-next untils _ _ _ _ _ _ _ _ _ _ (k .before .before .before .single .ensures) (sym (k .before .before .unpack .ensures) ∙ k .next .given .1) (c .before .before .sign-at .ensures) (pre .1) (c .before .if1 .left) in
     (omega (arith, h .0, pre .0), h .1)
 
 until-join-requires : (t : ℕ) → until-lts.Need-join-requires (until-env t) (until-at t) until.Post
 until-join-requires t c κs =
     let k = c .before .before .before .before .before .before .before in
-    level-room untils _ _ _ _ _ _ _ _ _ _ (k .before .before .single .ensures) (k .next .given .1) (c .before .before .before .before .sign-at .ensures) (k .before .before .before .before .pre .1) (c .before .before .before .if1 .left) _ _ (c .before .until .ensures)
+    level-room untils _ _ _ _ _ _ _ _ _ _ (k .before .before .before .single .ensures) (sym (k .before .before .unpack .ensures) ∙ k .next .given .1) (c .before .before .before .before .sign-at .ensures) (k .before .before .before .before .before .pre .1) (c .before .before .before .if1 .left) _ _ (c .before .until .ensures)
 
 until-returns-2 : (t : ℕ) → until-lts.Need-returns-2 (until-env t) (until-at t) until.Post
-until-returns-2 t c = level-fail untils _ _ _ _ _ (c .before .before .single .result) (c .before .before .single .ensures) (c .enum-told .given .1)
+until-returns-2 t c = level-fail untils _ _ _ _ _ _ (c .before .before .before .single .ensures) (sym (c .before .before .unpack .ensures) ∙ c .enum-told .given .1)
 
 until-returns-3 : (t : ℕ) → until-lts.Need-returns-3 (until-env t) (until-at t) until.Post
 until-returns-3 t c =
     let k = c .before .before .before .before .before .before .before .before in
-    level-joined untils _ _ _ _ _ _ _ _ _ _ (k .before .before .single .ensures) (k .next .given .1) (c .before .before .before .before .before .sign-at .ensures) (k .before .before .before .before .pre .1) (c .before .before .before .before .if1 .left) _ _ (c .before .before .until .ensures) _ _ (c .join .ensures .0) (c .join .ensures .1)
+    level-joined untils _ _ _ _ _ _ _ _ _ _ (k .before .before .before .single .ensures) (sym (k .before .before .unpack .ensures) ∙ k .next .given .1) (c .before .before .before .before .before .sign-at .ensures) (k .before .before .before .before .before .pre .1) (c .before .before .before .before .if1 .left) _ _ (c .before .before .until .ensures) _ _ (c .join .ensures .0) (c .join .ensures .1)
 
 pub +and+or+rule+single+until-spec : {M : Type 1} → statement M
 +and+or+rule+single+until-spec = close μ-and μ-or μ-rule μ-single μ-until (λ t. and-lts.spec (and-env t)
     (and-at t)
     and′.Post
     (and-until-requires t)
+    (and-unpack-requires t)
     (and-enum-told t)
     (and-enum-known-next t)
     (and-sign-at-requires t)
@@ -330,6 +351,7 @@ pub +and+or+rule+single+until-spec : {M : Type 1} → statement M
     (or-at t)
     or.Post
     (or-and-requires t)
+    (or-unpack-requires t)
     (or-enum-told t)
     (or-enum-known-next t)
     (or-sign-at-requires t)
@@ -342,6 +364,7 @@ pub +and+or+rule+single+until-spec : {M : Type 1} → statement M
     (rule-at t)
     rule.Post
     (rule-or-requires t)
+    (rule-unpack-requires t)
     (rule-enum-told t)
     (rule-enum-known-next t)
     (rule-sign-at-requires t)
@@ -356,7 +379,8 @@ pub +and+or+rule+single+until-spec : {M : Type 1} → statement M
     (single-token-at-requires t)
     (single-enum-known-number t)
     (single-put-requires t)
-    (single-add-t17 t)
+    (single-add-pack t)
+    (single-pack-requires t)
     (single-enum-known-byte t)
     (single-rule-requires t)
     (single-close-requires t)
@@ -373,6 +397,7 @@ pub +and+or+rule+single+until-spec : {M : Type 1} → statement M
     (until-at t)
     until.Post
     (until-single-requires t)
+    (until-unpack-requires t)
     (until-enum-told t)
     (until-enum-known-next t)
     (until-sign-at-requires t)

@@ -1,27 +1,36 @@
 -- `reader::close` meets its contract.
-use Rattle.reader.proofs.Laws.{close-none, close-past}
+use mathlib.Core.Path.{sym, _∙_}
 use borrow.Author.Needs.{needs}
+use Rattle.reader.proofs.Laws.{close-fail, close-none, close-fits, close-past}
 use Rattle.reader.proofs.close.Statement.{statement}
 use Rattle.reader.proofs.close.Tie as tie
+
+unpack-requires : tie.Need-unpack-requires
+unpack-requires c κs = search needs
 
 enum-told : tie.Need-enum-told
 enum-told c = search needs
 
-enum-known-inner : tie.Need-enum-known-inner
-enum-known-inner c = search needs
+enum-known-next : tie.Need-enum-known-next
+enum-known-next c = search needs
 
 sign-at-requires : tie.Need-sign-at-requires
 sign-at-requires c κs = search needs
 
 returns : tie.Need-returns
-returns c = close-none _ (c .before .before .before .before .before .before .args .inner) _ _ _ (c .before .sign-at .result) (c .before .before .before .inner .given .1) (c .before .sign-at .ensures) (c .if1 .taken)
+returns c = close-none _ _ _ _ _ (c .before .sign-at .result) (sym (c .before .before .before .before .before .unpack .ensures) ∙ c .before .before .before .next .given .1) (c .before .sign-at .ensures) (c .if1 .taken)
+
+pack-requires : tie.Need-pack-requires
+pack-requires c κs =
+    let s = c .before .before .before .before .before .before .before .pre in
+    close-fits _ _ _ _ _ (c .before .sign-at .result) (sym (c .before .before .before .before .before .unpack .ensures) ∙ c .before .before .before .next .given .1) (c .before .sign-at .ensures) (c .if1 .left) (s .0) (s .1)
 
 returns-2 : tie.Need-returns-2
-returns-2 c = search needs
+returns-2 c = close-fail _ _ (sym (c .before .before .unpack .ensures) ∙ c .enum-told .given .1)
 
 returns-3 : tie.Need-returns-3
-returns-3 c = close-past _ (c .before .before .before .before .before .before .args .inner) _ _ _ (c .before .sign-at .result) (c .before .before .before .inner .given .1) (c .before .sign-at .ensures) (c .if1 .left)
+returns-3 c = close-past _ _ _ _ _ _ (c .before .before .sign-at .result) (c .pack .ensures) (sym (c .before .before .before .before .before .before .unpack .ensures) ∙ c .before .before .before .before .next .given .1) (c .before .before .sign-at .ensures) (c .before .if1 .left)
 
 pub close-spec : {M : Type 1} → statement M
 close-spec =
-    tie.close (tie.spec enum-told enum-known-inner sign-at-requires returns returns-2 returns-3)
+    tie.close (tie.spec unpack-requires enum-told enum-known-next sign-at-requires returns pack-requires returns-2 returns-3)

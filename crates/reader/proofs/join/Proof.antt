@@ -1,47 +1,59 @@
 -- `reader::join` meets its contract.
+use mathlib.Core.Path.{sym, _∙_}
 use native.Mathlib.Omega.{arith}
-use Rattle.reader.proofs.Laws.{room-of, join-none, join-told}
 use borrow.Author.Needs.{needs}
+use Rattle.reader.proofs.Laws.{room-of, more-fits, join-none, join-told}
 use Rattle.reader.proofs.join.Statement.{statement}
 use Rattle.reader.proofs.join.Tie as tie
+
+unpack-requires : tie.Need-unpack-requires
+unpack-requires c κs = search needs
 
 enum-told : tie.Need-enum-told
 enum-told c = search needs
 
-enum-known-right : tie.Need-enum-known-right
-enum-known-right c = search needs
+enum-known-next : tie.Need-enum-known-next
+enum-known-next c = search needs
 
 sub-put : tie.Need-sub-put
 sub-put c = search needs
 
 sub-put-2 : tie.Need-sub-put-2
-sub-put-2 c = room-of _ _ _ _ (c .before .before .right .given .1) (c .before .before .before .before .pre .1) .0
+sub-put-2 c = room-of _ _ _ _ (sym (c .before .before .before .before .unpack .ensures) ∙ c .before .before .next .given .1) (c .before .before .before .before .before .pre .1 .1) .0
 
 put-requires : tie.Need-put-requires
-put-requires c κs = room-of _ _ _ _ (c .before .before .right .given .1) (c .before .before .before .before .pre .1) .1
+put-requires c κs = room-of _ _ _ _ (sym (c .before .before .before .before .unpack .ensures) ∙ c .before .before .next .given .1) (c .before .before .before .before .before .pre .1 .1) .1 .0
+
+add-pack : tie.Need-add-pack
+add-pack c = omega (arith, room-of _ _ _ _ (sym (c .before .before .before .before .before .unpack .ensures) ∙ c .before .before .before .next .given .1) (c .before .before .before .before .before .before .pre .1 .1))
 
 larger-requires : tie.Need-larger-requires
 larger-requires c κs = search needs
 
-add-t13 : tie.Need-add-t13
-add-t13 c = omega (arith, room-of _ _ _ _ (c .before .before .before .before .right .given .1) (c .before .before .before .before .before .before .pre .1))
+pack-requires : tie.Need-pack-requires
+pack-requires c κs =
+    let e = (sym (c .before .before .before .before .before .before .unpack .ensures) ∙ c .before .before .before .before .next .given .1) in
+    let r = c .before .before .before .before .before .before .before .pre .1 in
+    more-fits _ _ _ _ _ e (r .1) (omega (arith, r .0, room-of _ _ _ _ e (r .1) .1 .1 .1, c .larger .ensures))
 
 returns : tie.Need-returns
-returns c = join-none _ _ _ _ _ (c .enum-told .given .1)
+returns c = join-none _ _ _ _ _ (sym (c .before .before .unpack .ensures) ∙ c .enum-told .given .1)
 
 returns-2 : tie.Need-returns-2
-returns-2 c = join-told _ _ _ _ _ _ _ _ _ _ (c .before .before .before .before .right .given .1) (c .larger .ensures) (c .before .put .ensures)
+returns-2 c = join-told _ _ _ _ _ _ _ _ _ _ _ (c .pack .ensures) (sym (c .before .before .before .before .before .before .before .unpack .ensures) ∙ c .before .before .before .before .before .next .given .1) (c .before .larger .ensures) (c .before .before .put .ensures)
 
 pub join-spec : {M : Type 1} → statement M
 join-spec =
     tie.close
     (tie.spec
+    unpack-requires
     enum-told
-    enum-known-right
+    enum-known-next
     sub-put
     sub-put-2
     put-requires
+    add-pack
     larger-requires
-    add-t13
+    pack-requires
     returns
     returns-2)

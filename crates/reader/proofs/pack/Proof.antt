@@ -1,0 +1,23 @@
+-- `reader::pack` meets its contract.
+use borrow.Author.Needs.{needs}
+use Rattle.reader.proofs.Laws.{step-packed}
+use Rattle.reader.proofs.pack.Statement.{statement}
+use Rattle.reader.proofs.pack.Tie as tie
+
+mul-result : tie.Need-mul-result
+mul-result c = search needs
+
+add-result : tie.Need-add-result
+add-result c = search needs
+
+mul-result-2 : tie.Need-mul-result-2
+mul-result-2 c = search needs
+
+add-result-2 : tie.Need-add-result-2
+add-result-2 c = search needs
+
+returns : tie.Need-returns
+returns c = step-packed _ _ _ (c .pre)
+
+pub pack-spec : {M : Type 1} → statement M
+pack-spec = tie.close (tie.spec mul-result add-result mul-result-2 add-result-2 returns)
