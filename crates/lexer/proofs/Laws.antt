@@ -5,11 +5,14 @@ use mathlib.Core.List.{List, [], _∷_}
 use Prim.Native.Nat.{ℕ, zero, suc, _+_, _-_, _*_, min, _≤_, _<_}
 use native.Mathlib.Omega.{arith}
 use lib.ListN.{length, getD, drop}
+use lib.Dec.{ltb, eqb}
+use borrow.Author.Tests.{lt-ltb, le-ltb, eq-eqb, ne-eqb}
 use Rattle.rules.specs.Reading.Lexer
-use Rattle.rules.specs.Reading.Lexer.{start, digits, value, isDigit, Numeric, tokenAt, signAt, sign-is, sign-token, token-past, token-none, token-sign, token-bad, token-atom, numeral-empty, numeral-zero}
+use Rattle.rules.specs.Reading.Lexer.{start, digits, value, isDigit, isNumeral, Numeric, atomAt, tokenAt, pastSign, token-none, token-sign, token-bad, token-atom, numeral-empty, numeral-zero}
 use Rattle.lexer.specs.declared.Token.{Token}
 use Rattle.lexer.specs.declared.Token.the-variants.{Other, Sign, Atom}
 use Rattle.lexer.specs.Capped.{capped}
+use Rattle.lexer.specs.Signs.{signFrom}
 
 -- ---- 255 stands for all numbers from there on, and stays so
 
@@ -50,16 +53,24 @@ module _ (s : List ℕ) (at p : ℕ) (past : p ≡ start s at) where
 
 -- ---- a sign, by the byte where its token begins
 
-module _ (s : List ℕ) (at p byte : ℕ) (past : p ≡ start s at) where
-  pub byte-found : (byte ≡ 97 → ⊥) → p < length s → getD s p 0 ≡ byte → p + 1 ≡ signAt s at byte
-  byte-found ne h e =
-      sym (token-past s at byte (p + 1) (token-sign s at p past h (λ f. ne (sym e ∙ f)) ∙ ap (λ (x : ℕ). Lexer.Token.sign x (p + 1)) e))
+past-cond : (byte : ℕ) (b : Bool) (x y : Lexer.Token) → pastSign byte x ≡ 0 → pastSign byte y ≡ 0 → pastSign byte (cond b x y) ≡ 0
+past-cond byte true x y h k = h
+past-cond byte false x y h k = k
 
-  pub byte-missing : (p < length s → getD s p 0 ≡ byte → ⊥) → 0 ≡ signAt s at byte
-  byte-missing ne = go (signAt s at byte) refl
-    where
-      go : (x : ℕ) → signAt s at byte ≡ x → 0 ≡ signAt s at byte
-      go zero e = sym e
-      go (suc q) e =
-          let g = sign-is s at byte (suc q) (sign-token s at byte q e) in
-          absurd (ne (omega (arith, g .inside)) (ap (λ (i : ℕ). getD s i 0) past ∙ g .byte))
+module _ (s : List ℕ) (p byte : ℕ) where
+  pub byte-found : (byte ≡ 97 → ⊥) → p < length s → getD s p 0 ≡ byte → p + 1 ≡ signFrom s p byte
+  unfolding signFrom
+  byte-found ne h e = sym (rw (lt-ltb p (length s) h, ne-eqb (getD s p 0) 97 (λ f. ne (sym e ∙ f)), eq-eqb (getD s p 0) byte e) refl)
+
+  pub byte-other : (getD s p 0 ≡ byte → ⊥) → 0 ≡ signFrom s p byte
+  unfolding signFrom
+  byte-other ne =
+      let d = drop (p + 1) s in
+      let atom = Lexer.Token.atom (value 0 d) (p + 1 + digits d) in
+      let sign = Lexer.Token.sign (getD s p 0) (p + 1) in
+      sym (past-cond byte (ltb p (length s)) (cond (eqb (getD s p 0) 97) (atomAt s (p + 1)) sign) Lexer.Token.none
+      (past-cond byte (eqb (getD s p 0) 97) (atomAt s (p + 1)) sign (past-cond byte (isNumeral (digits d) (getD s (p + 1) 0)) atom Lexer.Token.none refl refl) (rw (ne-eqb (getD s p 0) byte ne) refl)) refl)
+
+  pub byte-none : length s ≤ p → 0 ≡ signFrom s p byte
+  unfolding signFrom
+  byte-none h = sym (rw (le-ltb p (length s) h) refl)

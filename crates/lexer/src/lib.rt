@@ -1,9 +1,10 @@
 // The tokens of a rule text.
 ghost use mathlib.Core.Path.{_≡_};
 ghost use Prim.Native.Nat.{_+_, _*_, _-_, min, _≤_};
-ghost use lib.ListN.{drop};
-ghost use Rattle.rules.specs.Reading.Lexer.{start, digits as digitCount, value, tokenAt, signAt};
+ghost use lib.ListN.{length, drop};
+ghost use Rattle.rules.specs.Reading.Lexer.{start, digits as digitCount, value, tokenAt};
 ghost use Rattle.lexer.specs.Capped.{capped};
+ghost use Rattle.lexer.specs.Signs.{signFrom};
 
 // A sign has its byte, an atom its number, and each the position past it. `Other` stands where no token is.
 pub enum Token {
@@ -102,15 +103,14 @@ pub fn token_at(text: &[u8], at: usize) -> Token
     Token::Other
 }
 
-// The position past the sign `byte`, where that is the token at `at`, and else 0.
+// The position past the sign `byte`, where that is the token that begins at `at`, and else 0.
 pub fn sign_at(text: &[u8], at: usize, byte: u8) -> usize
     requires { ⌜ (byte ≡ 97 → ⊥) ⌝ }
-    ensures { λ r. ⌜ r ≡ signAt (now (text .entry)) at byte ⌝ }
+    ensures { λ r. ⌜ (r ≡ signFrom (now (text .entry)) at byte) × (r ≤ length (now (text .entry))) ⌝ }
 {
-    let p = skip(text, at);
-    if p < text.len() {
-        if text[p] == byte {
-            return p + 1;
+    if at < text.len() {
+        if text[at] == byte {
+            return at + 1;
         }
     }
     0

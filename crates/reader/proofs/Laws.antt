@@ -17,7 +17,8 @@ use Rattle.rules.specs.Grammar.{Level, tighter, sign}
 use Rattle.rules.specs.Grammar.Level.{of, single}
 use Rattle.rules.specs.Table.{unaryKind, binaryKind}
 use Rattle.rules.specs.Reading.Lexer
-use Rattle.rules.specs.Reading.Lexer.{tokenAt, signAt, Ends, token-ends, sign-ends}
+use Rattle.rules.specs.Reading.Lexer.{start, tokenAt, signAt, Ends, token-ends, sign-ends}
+use Rattle.lexer.specs.Signs.{signFrom, sign-skipped, start-le}
 use Rattle.rules.specs.Reading.Parser
 use Rattle.rules.specs.Reading.Parser.{Parsed, Start, unaryOf, startOf, starting, pair, goOn, apply, begin, lead, measure, parsed, parsed-within, single-law, pair-law}
 use Rattle.lexer.specs.declared.Token.{Token}
@@ -84,9 +85,11 @@ unary-wrote out out₁ out₂ n nodes u p e c f h = f (wrote-long out out₁ (5 
 
 -- ---- what a level told, by its step
 
-pub record Got (x : Parsed) (n : ℕ) (before after : List ℕ) (next nodes high : ℕ) : Type 0 where
+pub record Got (s : List ℕ) (x : Parsed) (n : ℕ) (before after : List ℕ) (next nodes high : ℕ) : Type 0 where
   pub rule : Rule
-  pub is : x ≡ Parsed.part rule next
+  pub end : ℕ
+  pub is : x ≡ Parsed.part rule end
+  pub skipped : next ≡ start s end
   pub count : nodes ≡ n + size rule
   pub highest : high ≡ top rule
   pub wrote : Wrote before (5 * n) (records n rule) after
@@ -94,22 +97,21 @@ pub record Got (x : Parsed) (n : ℕ) (before after : List ℕ) (next nodes high
 never : {A : Type 0} (r : Step) (next nodes high : ℕ) → r ≡ Fail → r ≡ Part next nodes high → A
 never r next nodes high p q = let z : _≡_ {A = ℕ} 0 1 = cc in absurd (omega arith)
 
-pub got : (x : Parsed) (n : ℕ) (before after : List ℕ) (r : Step) (next nodes high : ℕ) → Told x n before after r → r ≡ Part next nodes high → Got x n before after next nodes high
-got Parsed.fail n before after r next nodes high h e = never r next nodes high h e
-got (Parsed.part p y) n before after r next nodes high h e =
-    let f : r ≡ Part y (n + size p) (top p) = h .0 in
-    let y-is : y ≡ next = cc in
-    record { rule = p; is = ap (Parsed.part p) y-is; count = cc; highest = cc; wrote = h .1 }
+pub got : (s : List ℕ) (x : Parsed) (n : ℕ) (before after : List ℕ) (r : Step) (next nodes high : ℕ) → Told s x n before after r → r ≡ Part next nodes high → Got s x n before after next nodes high
+got s Parsed.fail n before after r next nodes high h e = never r next nodes high h e
+got s (Parsed.part p y) n before after r next nodes high h e =
+    let f : r ≡ Part (start s y) (n + size p) (top p) = h .0 in
+    record { rule = p; end = y; is = refl; skipped = cc; count = cc; highest = cc; wrote = h .1 }
 
-pub failed : (x : Parsed) (n : ℕ) (before after : List ℕ) (r : Step) → Told x n before after r → r ≡ Fail → x ≡ Parsed.fail
-failed Parsed.fail n before after r h e = refl
-failed (Parsed.part p y) n before after r h e = never r y (n + size p) (top p) e (h .0)
+pub failed : (s : List ℕ) (x : Parsed) (n : ℕ) (before after : List ℕ) (r : Step) → Told s x n before after r → r ≡ Fail → x ≡ Parsed.fail
+failed s Parsed.fail n before after r h e = refl
+failed s (Parsed.part p y) n before after r h e = never r (start s y) (n + size p) (top p) e (h .0)
 
-told-as : (x y : Parsed) (n : ℕ) (before after : List ℕ) (r : Step) → x ≡ y → Told y n before after r → Told x n before after r
-told-as x y n before after r e h = rw e h
+told-as : (s : List ℕ) (x y : Parsed) (n : ℕ) (before after : List ℕ) (r : Step) → x ≡ y → Told s y n before after r → Told s x n before after r
+told-as s x y n before after r e h = rw e h
 
-pub told-step : (x : Parsed) (n : ℕ) (before after : List ℕ) (r u : Step) → u ≡ r → Told x n before after r → Told x n before after u
-told-step x n before after r u e h = rw e h
+pub told-step : (s : List ℕ) (x : Parsed) (n : ℕ) (before after : List ℕ) (r u : Step) → u ≡ r → Told s x n before after r → Told s x n before after u
+told-step s x n before after r u e h = rw e h
 
 -- ---- the cases of a level of an operator
 
@@ -125,42 +127,46 @@ pair-more o s at p next zero e f ne = absurd (ne refl)
 pair-more o s at p next (suc q) e f ne = pair-as o s at (Parsed.part p next) e ∙ ap (λ (x : ℕ). goOn o p next x (parsed (of o) s)) (sym f)
 
 -- the tighter level failed
-pub level-fail : (o : Binary) (s : List ℕ) (at n : ℕ) (before after : List ℕ) (r : Step) → Told (parsed (tighter o) s at) n before after r → r ≡ Fail → Told (parsed (of o) s at) n before after (stepOf 0)
+pub level-fail : (o : Binary) (s : List ℕ) (at n : ℕ) (before after : List ℕ) (r : Step) → Told s (parsed (tighter o) s at) n before after r → r ≡ Fail → Told s (parsed (of o) s at) n before after (stepOf 0)
 level-fail o s at n before after r h e =
-    told-as (parsed (of o) s at) Parsed.fail n before after (stepOf 0) (pair-as o s at Parsed.fail (failed (parsed (tighter o) s at) n before after r h e)) none-is
+    told-as s (parsed (of o) s at) Parsed.fail n before after (stepOf 0) (pair-as o s at Parsed.fail (failed s (parsed (tighter o) s at) n before after r h e)) none-is
 
 module _ (o : Binary) (s : List ℕ) (at n : ℕ) (out out₁ : List ℕ) (r : Step) (next nodes high q : ℕ)
-    (told : Told (parsed (tighter o) s at) n out out₁ r) (part-is : r ≡ Part next nodes high) (sign-is : q ≡ signAt s next (sign o)) where
-  left : Got (parsed (tighter o) s at) n out out₁ next nodes high
-  left = got (parsed (tighter o) s at) n out out₁ r next nodes high told part-is
+    (told : Told s (parsed (tighter o) s at) n out out₁ r) (part-is : r ≡ Part next nodes high) (sign-is : q ≡ signFrom s next (sign o)) where
+  left : Got s (parsed (tighter o) s at) n out out₁ next nodes high
+  left = got s (parsed (tighter o) s at) n out out₁ r next nodes high told part-is
+
+  sign-behind : q ≡ signAt s (left .end) (sign o)
+  sign-behind = sign-is ∙ ap (λ (p : ℕ). signFrom s p (sign o)) (left .skipped) ∙ sign-skipped s (left .end) (sign o)
 
   -- no sign of the operator follows
-  pub level-alone : q ≡ 0 → Told (parsed (of o) s at) n out out₁ r
+  pub level-alone : q ≡ 0 → Told s (parsed (of o) s at) n out out₁ r
   level-alone z =
       let g = left in
-      told-as (parsed (of o) s at) (Parsed.part (g .rule) next) n out out₁ r
-      (pair-as o s at (Parsed.part (g .rule) next) (g .is) ∙ ap (λ (x : ℕ). goOn o (g .rule) next x (parsed (of o) s)) (sym sign-is ∙ z))
-      (part-is ∙ ap (λ (m : ℕ). Part next m high) (g .count) ∙ ap (Part next (n + size (g .rule))) (g .highest), g .wrote)
+      told-as s (parsed (of o) s at) (Parsed.part (g .rule) (g .end)) n out out₁ r
+      (pair-as o s at (Parsed.part (g .rule) (g .end)) (g .is) ∙ ap (λ (x : ℕ). goOn o (g .rule) (g .end) x (parsed (of o) s)) (sym sign-behind ∙ z))
+      (part-is ∙ ap (λ (x : ℕ). Part x nodes high) (g .skipped) ∙ ap (λ (m : ℕ). Part (start s (g .end)) m high) (g .count) ∙ ap (Part (start s (g .end)) (n + size (g .rule))) (g .highest), g .wrote)
 
   module _ (ready : Ready s at n) (ne : q ≡ 0 → ⊥) where
     -- the next call of the level
     pub level-next : (measure (of o) s q < measure (of o) s at) × Ready s q nodes
     level-next =
         let g = left in
-        let w = parsed-within (tighter o) s at (g .rule) next (g .is) in
-        let e = sign-past s next (sign o) q sign-is ne in
+        let w = parsed-within (tighter o) s at (g .rule) (g .end) (g .is) in
+        let e = sign-past s (g .end) (sign o) q sign-behind ne in
         let p = size-positive (g .rule) in
         (omega arith, record { short = ready .short; few = omega arith })
 
-    module _ (out₂ : List ℕ) (right : Step) (told₂ : Told (parsed (of o) s q) nodes out₁ out₂ right) where
-      room-at : (x : Parsed) → parsed (of o) s q ≡ x → Told x nodes out₁ out₂ right → Room right
+    module _ (out₂ : List ℕ) (right : Step) (told₂ : Told s (parsed (of o) s q) nodes out₁ out₂ right) where
+      room-at : (x : Parsed) → parsed (of o) s q ≡ x → Told s x nodes out₁ out₂ right → Room right
       room-at Parsed.fail e h = rw h tt
       room-at (Parsed.part p end) e h =
           let k = h .0 in
           let g = left in
-          let w = parsed-within (tighter o) s at (g .rule) next (g .is) in
+          let w = parsed-within (tighter o) s at (g .rule) (g .end) (g .is) in
           let v = parsed-within (of o) s q p end e in
-          let b = sign-past s next (sign o) q sign-is ne in
+          let u = start-le s end (v .high) in
+          let b = sign-past s (g .end) (sign o) q sign-behind ne in
           rw k (omega (arith, size-positive p), (omega (arith, ready .short, ready .few), (omega (arith, ready .short), top-le p)))
 
       pub level-room : (1 ≤ nodes) × ((high ≤ 255) × Room right)
@@ -169,18 +175,18 @@ module _ (o : Binary) (s : List ℕ) (at n : ℕ) (out out₁ : List ℕ) (r : S
           (omega (arith, size-positive (g .rule)), (omega (arith, g .highest, top-le (g .rule)), room-at (parsed (of o) s q) refl told₂))
 
       module _ (out₃ : List ℕ) (r₃ : Step) (step-is : r₃ ≡ joined high right) (wrote : JoinedIn right (binaryKind o) nodes out₂ out₃) where
-        joined-at : (x : Parsed) → parsed (of o) s q ≡ x → Told x nodes out₁ out₂ right → Told (Parser.join o (left .rule) x) n out out₃ r₃
+        joined-at : (x : Parsed) → parsed (of o) s q ≡ x → Told s x nodes out₁ out₂ right → Told s (Parser.join o (left .rule) x) n out out₃ r₃
         joined-at Parsed.fail e h = step-is ∙ ap (joined high) h
         joined-at (Parsed.part p end) e h =
             let g = left in (
-              step-is ∙ ap (joined high) (h .0) ∙ ap (λ (m : ℕ). Part end m (max high (top p))) (omega (arith, g .count))
-                  ∙ ap (λ (x : ℕ). Part end (n + size (Rule.binary o (g .rule) p)) (max x (top p))) (g .highest),
+              step-is ∙ ap (joined high) (h .0) ∙ ap (λ (m : ℕ). Part (start s end) m (max high (top p))) (omega (arith, g .count))
+                  ∙ ap (λ (x : ℕ). Part (start s end) (n + size (Rule.binary o (g .rule) p)) (max x (top p))) (g .highest),
               binary-wrote out out₁ out₂ out₃ n nodes o (g .rule) p (g .wrote) (g .count) (h .1) (subst (λ (x : Step). JoinedIn x (binaryKind o) nodes out₂ out₃) (h .0) wrote),
             )
 
-        pub level-joined : Told (parsed (of o) s at) n out out₃ r₃
+        pub level-joined : Told s (parsed (of o) s at) n out out₃ r₃
         level-joined =
-            told-as (parsed (of o) s at) (Parser.join o (left .rule) (parsed (of o) s q)) n out out₃ r₃ (pair-more o s at (left .rule) next q (left .is) sign-is ne)
+            told-as s (parsed (of o) s at) (Parser.join o (left .rule) (parsed (of o) s q)) n out out₃ r₃ (pair-more o s at (left .rule) (left .end) q (left .is) sign-behind ne)
             (joined-at (parsed (of o) s q) refl told₂)
 
 -- ---- the cases of Single
@@ -192,8 +198,8 @@ ends-as : (s : List ℕ) (at : ℕ) (t : Lexer.Token) → tokenAt s at ≡ t →
 ends-as s at t e = subst (Ends s at) e (token-ends s at)
 
 -- no token
-pub single-none : (s : List ℕ) (at n : ℕ) (out : List ℕ) (x : Token) → x ≡ capped (tokenAt s at) → x ≡ Other → Told (parsed single s at) n out out (stepOf 0)
-single-none s at n out x e f = told-as (parsed single s at) Parsed.fail n out out (stepOf 0) (single-as s at Lexer.Token.none (none-of (tokenAt s at) x e f)) none-is
+pub single-none : (s : List ℕ) (at n : ℕ) (out : List ℕ) (x : Token) → x ≡ capped (tokenAt s at) → x ≡ Other → Told s (parsed single s at) n out out (stepOf 0)
+single-none s at n out x e f = told-as s (parsed single s at) Parsed.fail n out out (stepOf 0) (single-as s at Lexer.Token.none (none-of (tokenAt s at) x e f)) none-is
 
 -- an atom
 module _ (s : List ℕ) (at n : ℕ) (x : Token) (a next : ℕ) (token-is : x ≡ capped (tokenAt s at)) (atom-is : x ≡ Atom a next) where
@@ -203,19 +209,20 @@ module _ (s : List ℕ) (at n : ℕ) (x : Token) (a next : ℕ) (token-is : x �
       let b = ends-as s at (Lexer.Token.atom (g .number) next) (g .is) in
       omega (arith, b, ready .short, ready .few)
 
-  pub atom-fits : Ready s at n → Fits next (n + 1) a
-  atom-fits ready =
+  pub atom-fits : Ready s at n → (end : ℕ) → end ≡ start s next → Fits end (n + 1) a
+  atom-fits ready end skipped =
       let g = atom-of (tokenAt s at) x a next token-is atom-is in
       let b = ends-as s at (Lexer.Token.atom (g .number) next) (g .is) in
-      (omega (arith, b, ready .short), (omega arith, (omega (arith, b, ready .short, ready .few), omega (arith, g .cut))))
+      let l = start-le s next (omega (arith, b)) in
+      (omega (arith, ready .short), (omega arith, (omega (arith, b, ready .short, ready .few), omega (arith, g .cut))))
 
-  pub single-atom : (out out₁ : List ℕ) (r : Step) → r ≡ Part next (n + 1) a → Wrote out (5 * n) (entry 1 a 0) out₁ → Told (parsed single s at) n out out₁ r
+  pub single-atom : (out out₁ : List ℕ) (r : Step) (end : ℕ) → end ≡ start s next → r ≡ Part end (n + 1) a → Wrote out (5 * n) (entry 1 a 0) out₁ → Told s (parsed single s at) n out out₁ r
   unfolding records
-  single-atom out out₁ r e w =
+  single-atom out out₁ r end skipped e w =
       let g = atom-of (tokenAt s at) x a next token-is atom-is in
-      told-as (parsed single s at) (Parsed.part (Rule.atom (g .number)) next) n out out₁ r
+      told-as s (parsed single s at) (Parsed.part (Rule.atom (g .number)) next) n out out₁ r
       (single-as s at (Lexer.Token.atom (g .number) next) (g .is))
-      (e ∙ ap (Part next (n + 1)) (g .cut), λ h. w h ∙ ap (λ (y : ℕ). sets out (5 * n) (entry 1 y 0)) (g .cut))
+      (e ∙ ap (λ (x : ℕ). Part x (n + 1) a) skipped ∙ ap (Part (start s next) (n + 1)) (g .cut), λ h. w h ∙ ap (λ (y : ℕ). sets out (5 * n) (entry 1 y 0)) (g .cut))
 
 module _ (s : List ℕ) (at n : ℕ) (out : List ℕ) (x : Token) (b next : ℕ) (token-is : x ≡ capped (tokenAt s at)) (sign-is : x ≡ Sign b next) where
   found : tokenAt s at ≡ Lexer.Token.sign b next
@@ -231,31 +238,32 @@ module _ (s : List ℕ) (at n : ℕ) (out : List ℕ) (x : Token) (b next : ℕ)
       (omega (arith, h), record { short = ready .short; few = omega (arith, h, ready .few) })
 
   -- what stands behind the sign has room for one node more
-  module _ (l : Level) (ready : Ready s at n) (out₁ : List ℕ) (inner : Step) (told : Told (parsed l s next) n out out₁ inner) where
-    room-over : (y : Parsed) → parsed l s next ≡ y → Told y n out out₁ inner → Room inner
+  module _ (l : Level) (ready : Ready s at n) (out₁ : List ℕ) (inner : Step) (told : Told s (parsed l s next) n out out₁ inner) where
+    room-over : (y : Parsed) → parsed l s next ≡ y → Told s y n out out₁ inner → Room inner
     room-over Parsed.fail e h = rw h tt
     room-over (Parsed.part p end) e h =
         let k = h .0 in
         let v = parsed-within l s next p end e in
         let w = ends-as s at (Lexer.Token.sign b next) found in
+        let u = start-le s end (v .high) in
         rw k (omega (arith, size-positive p), (omega (arith, w, ready .short, ready .few), (omega (arith, ready .short), top-le p)))
 
     pub inner-room : Room inner
     inner-room = room-over (parsed l s next) refl told
 
   -- a bracket
-  module _ (open-is : b ≡ 40) (out₁ : List ℕ) (r r₁ : Step) (told : Told (parsed (of implies) s next) n out out₁ r) (closed-is : r₁ ≡ closed s r) where
-    closed-as : (p : Rule) (y : ℕ) → Wrote out (5 * n) (records n p) out₁ → r₁ ≡ closedAt (n + size p) (top p) y → Told (Parser.closeAt p y) n out out₁ r₁
+  module _ (open-is : b ≡ 40) (out₁ : List ℕ) (r r₁ : Step) (told : Told s (parsed (of implies) s next) n out out₁ r) (closed-is : r₁ ≡ closed s r) where
+    closed-as : (p : Rule) (y : ℕ) → Wrote out (5 * n) (records n p) out₁ → r₁ ≡ closedAt s (n + size p) (top p) y → Told s (Parser.closeAt p y) n out out₁ r₁
     closed-as p zero w e = e
     closed-as p (suc q) w e = (e, w)
 
-    inside : (y : Parsed) → Told y n out out₁ r → Told (Parser.close s y) n out out₁ r₁
+    inside : (y : Parsed) → Told s y n out out₁ r → Told s (Parser.close s y) n out out₁ r₁
     inside Parsed.fail h = closed-is ∙ ap (closed s) h
-    inside (Parsed.part p end) h = closed-as p (signAt s end 41) (h .1) (closed-is ∙ ap (closed s) (h .0))
+    inside (Parsed.part p end) h = closed-as p (signAt s end 41) (h .1) (closed-is ∙ ap (closed s) (h .0) ∙ ap (closedAt s (n + size p) (top p)) (sign-skipped s end 41))
 
-    pub single-bracket : Told (parsed single s at) n out out₁ r₁
+    pub single-bracket : Told s (parsed single s at) n out out₁ r₁
     single-bracket =
-        told-as (parsed single s at) (Parser.close s (parsed (of implies) s next)) n out out₁ r₁ (begun Start.bracket (ap startOf open-is))
+        told-as s (parsed single s at) (Parser.close s (parsed (of implies) s next)) n out out₁ r₁ (begun Start.bracket (ap startOf open-is))
         (inside (parsed (of implies) s next) told)
 
   -- an operator of one side
@@ -263,32 +271,32 @@ module _ (s : List ℕ) (at n : ℕ) (out : List ℕ) (x : Token) (b next : ℕ)
     start-is : startOf b ≡ starting (unaryOf b)
     start-is = ap (λ (c : Bool). cond c Start.bracket (starting (unaryOf b))) (ne-eqb b 40 not-open)
 
-    none-at : (y : Option Unary) → unaryOf b ≡ y → kind ≡ prefixKind y → kind ≡ 0 → Told (parsed single s at) n out out (stepOf 0)
-    none-at none e k z = told-as (parsed single s at) Parsed.fail n out out (stepOf 0) (begun Start.nothing (start-is ∙ ap starting e)) none-is
+    none-at : (y : Option Unary) → unaryOf b ≡ y → kind ≡ prefixKind y → kind ≡ 0 → Told s (parsed single s at) n out out (stepOf 0)
+    none-at none e k z = told-as s (parsed single s at) Parsed.fail n out out (stepOf 0) (begun Start.nothing (start-is ∙ ap starting e)) none-is
     none-at (some not) e k z = absurd (omega arith)
     none-at (some eventually) e k z = absurd (omega arith)
     none-at (some always) e k z = absurd (omega arith)
 
-    pub single-fail : kind ≡ 0 → Told (parsed single s at) n out out (stepOf 0)
+    pub single-fail : kind ≡ 0 → Told s (parsed single s at) n out out (stepOf 0)
     single-fail = none-at (unaryOf b) refl kind-is
 
-    module _ (out₁ : List ℕ) (inner : Step) (told : Told (parsed single s next) n out out₁ inner) where
+    module _ (out₁ : List ℕ) (inner : Step) (told : Told s (parsed single s next) n out out₁ inner) where
       module _ (some-kind : kind ≡ 0 → ⊥) (out₂ : List ℕ) (r : Step) (step-is : r ≡ applied inner) (wrote : AppliedIn inner kind out₁ out₂) where
-        over : (u : Unary) (y : Parsed) → kind ≡ unaryKind u → Told y n out out₁ inner → Told (apply u y) n out out₂ r
+        over : (u : Unary) (y : Parsed) → kind ≡ unaryKind u → Told s y n out out₁ inner → Told s (apply u y) n out out₂ r
         over u Parsed.fail k h = step-is ∙ ap applied h
         over u (Parsed.part p end) k h = (
-          step-is ∙ ap applied (h .0) ∙ ap (λ (m : ℕ). Part end m (top p)) (omega arith),
+          step-is ∙ ap applied (h .0) ∙ ap (λ (m : ℕ). Part (start s end) m (top p)) (omega arith),
           unary-wrote out out₁ out₂ n (n + size p) u p (h .1) refl
               (subst (λ (y : ℕ). Wrote out₁ (5 * (n + size p)) (entry y (n + size p - 1) 0) out₂) k (subst (λ (y : Step). AppliedIn y kind out₁ out₂) (h .0) wrote)),
         )
 
-        prefix-at : (y : Option Unary) → unaryOf b ≡ y → kind ≡ prefixKind y → Told (parsed single s at) n out out₂ r
+        prefix-at : (y : Option Unary) → unaryOf b ≡ y → kind ≡ prefixKind y → Told s (parsed single s at) n out out₂ r
         prefix-at none e k = absurd (some-kind k)
         prefix-at (some u) e k =
-            told-as (parsed single s at) (apply u (parsed single s next)) n out out₂ r (begun (Start.operator u) (start-is ∙ ap starting e))
+            told-as s (parsed single s at) (apply u (parsed single s next)) n out out₂ r (begun (Start.operator u) (start-is ∙ ap starting e))
             (over u (parsed single s next) k told)
 
-        pub single-prefix : Told (parsed single s at) n out out₂ r
+        pub single-prefix : Told s (parsed single s at) n out out₂ r
         single-prefix = prefix-at (unaryOf b) refl kind-is
 
 -- ---- the functions below the levels
@@ -305,21 +313,22 @@ more-fits r next m b c e h k =
 pub close-fail : (s : List ℕ) (inner : Step) → inner ≡ Fail → stepOf 0 ≡ closed s inner
 close-fail s inner e = none-is ∙ sym (ap (closed s) e)
 
-pub close-none : (s : List ℕ) (inner : Step) (next m b past : ℕ) → inner ≡ Part next m b → past ≡ signAt s next 41 → past ≡ 0 → stepOf 0 ≡ closed s inner
-close-none s inner next m b past e f z = none-is ∙ sym (ap (closed s) e ∙ ap (closedAt m b) (sym f ∙ z))
+pub close-none : (s : List ℕ) (inner : Step) (next m b past : ℕ) → inner ≡ Part next m b → past ≡ signFrom s next 41 → past ≡ 0 → stepOf 0 ≡ closed s inner
+close-none s inner next m b past e f z = none-is ∙ sym (ap (closed s) e ∙ ap (closedAt s m b) (sym f ∙ z))
 
-past-at : (m b past : ℕ) → (past ≡ 0 → ⊥) → closedAt m b past ≡ Part past m b
-past-at m b zero ne = absurd (ne refl)
-past-at m b (suc q) ne = refl
-
-pub close-fits : (s : List ℕ) (inner : Step) (next m b past : ℕ) → inner ≡ Part next m b → past ≡ signAt s next 41 → (past ≡ 0 → ⊥) → length s ≤ 1024 → Room inner → Fits past m b
-close-fits s inner next m b past e f ne short room =
+pub close-fits : (s : List ℕ) (inner : Step) (next m b past end : ℕ) → inner ≡ Part next m b → past ≤ length s → end ≡ start s past → length s ≤ 1024 → Room inner → Fits end m b
+close-fits s inner next m b past end e f g short room =
     let h = room-of inner next m b e room in
-    let k = sign-past s next 41 past f ne in
+    let k = start-le s past f in
     (omega arith, (h .0, (omega arith, h .1 .1 .1)))
 
-pub close-past : (s : List ℕ) (inner r : Step) (next m b past : ℕ) → r ≡ Part past m b → inner ≡ Part next m b → past ≡ signAt s next 41 → (past ≡ 0 → ⊥) → r ≡ closed s inner
-close-past s inner r next m b past d e f ne = d ∙ sym (ap (closed s) e ∙ ap (closedAt m b) (sym f) ∙ past-at m b past ne)
+past-at : (s : List ℕ) (m b past : ℕ) → (past ≡ 0 → ⊥) → closedAt s m b past ≡ Part (start s past) m b
+past-at s m b zero ne = absurd (ne refl)
+past-at s m b (suc q) ne = refl
+
+pub close-past : (s : List ℕ) (inner r : Step) (next m b past end : ℕ) → r ≡ Part end m b → inner ≡ Part next m b → past ≡ signFrom s next 41 → end ≡ start s past → (past ≡ 0 → ⊥) → r ≡ closed s inner
+close-past s inner r next m b past end d e f g ne =
+    d ∙ ap (λ (x : ℕ). Part x m b) g ∙ sym (ap (closed s) e ∙ ap (closedAt s m b) (sym f) ∙ past-at s m b past ne)
 
 pub join-told : (r x : Step) (next m b k a t c : ℕ) (out out₁ : List ℕ) → x ≡ Part next (m + 1) c → r ≡ Part next m b → c ≡ max t b → Wrote out (5 * m) (entry k (a - 1) (m - 1)) out₁ → (x ≡ joined t r) × JoinedIn r k a out out₁
 join-told r x next m b k a t c out out₁ d e f h = (d ∙ ap (Part next (m + 1)) f ∙ sym (ap (joined t) e), subst (λ (y : Step). JoinedIn y k a out out₁) (sym e) h)

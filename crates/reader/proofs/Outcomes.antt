@@ -58,24 +58,24 @@ module _ (m : ℕ) (s out : List ℕ) where
         unfolding readOutcome
         outcome-of x e = rw (le-leb 1 m low, le-leb m 16 high, le-leb (length s) 1024 short) (ap (ruleChecked m (length out)) e)
 
-        module _ (scratch scratch₁ : List ℕ) (r : Step) (told-is : Told (parsed (of implies) s 0) 0 scratch scratch₁ r) where
+        module _ (scratch scratch₁ : List ℕ) (r : Step) (told-is : Told s (parsed (of implies) s 0) 0 scratch scratch₁ r) where
           pub no-rule : r ≡ Fail → Kept m s out out (Refused Grammar)
           unfolding reading
-          no-rule e = refuses Grammar (outcome-of none (ap (whole s) (failed (parsed (of implies) s 0) 0 scratch scratch₁ r told-is e)))
+          no-rule e = refuses Grammar (outcome-of none (ap (whole s) (failed s (parsed (of implies) s 0) 0 scratch scratch₁ r told-is e)))
 
-          module _ (next nodes high-atom end : ℕ) (part-is : r ≡ Part next nodes high-atom) (end-is : end ≡ start s next) where
-            first : Got (parsed (of implies) s 0) 0 scratch scratch₁ next nodes high-atom
-            first = got (parsed (of implies) s 0) 0 scratch scratch₁ r next nodes high-atom told-is part-is
+          module _ (next nodes high-atom : ℕ) (part-is : r ≡ Part next nodes high-atom) where
+            first : Got s (parsed (of implies) s 0) 0 scratch scratch₁ next nodes high-atom
+            first = got s (parsed (of implies) s 0) 0 scratch scratch₁ r next nodes high-atom told-is part-is
 
-            pub more-text : end < length s → Kept m s out out (Refused Grammar)
+            pub more-text : next < length s → Kept m s out out (Refused Grammar)
             unfolding reading
             more-text h =
-                refuses Grammar (outcome-of none (ap (whole s) (first .is) ∙ ap (λ (b : Bool). cond b none (some (first .rule))) (lt-ltb (start s next) (length s) (omega arith))))
+                refuses Grammar (outcome-of none (ap (whole s) (first .is) ∙ ap (λ (b : Bool). cond b none (some (first .rule))) (lt-ltb (start s (first .end)) (length s) (omega (arith, first .skipped)))))
 
-            module _ (to-end : length s ≤ end) where
+            module _ (to-end : length s ≤ next) where
               reading-is : reading s ≡ some (first .rule)
               unfolding reading
-              reading-is = ap (whole s) (first .is) ∙ ap (λ (b : Bool). cond b none (some (first .rule))) (le-ltb (start s next) (length s) (omega arith))
+              reading-is = ap (whole s) (first .is) ∙ ap (λ (b : Bool). cond b none (some (first .rule))) (le-ltb (start s (first .end)) (length s) (omega (arith, first .skipped)))
 
               pub atom-too-high : m ≤ high-atom → Kept m s out out (Refused AtomNumber)
               atom-too-high h =

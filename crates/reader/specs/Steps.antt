@@ -10,7 +10,8 @@ use Rattle.rules.specs.Rule.Binary.{and, or, implies, until}
 use Rattle.rules.specs.Grammar.{Level}
 use Rattle.rules.specs.Grammar.Level.{of, single}
 use Rattle.rules.specs.Table.{unaryKind}
-use Rattle.rules.specs.Reading.Lexer.{signAt}
+use Rattle.rules.specs.Reading.Lexer.{start}
+use Rattle.lexer.specs.Signs.{signFrom}
 use Rattle.rules.specs.Reading.Parser.{Parsed}
 use Rattle.reader.specs.declared.Step.{Step}
 use Rattle.reader.specs.declared.Step.the-variants.{Fail, Part}
@@ -50,10 +51,10 @@ pub record Ready (text : List ℕ) (at n : ℕ) : Type 0 where
 abbrev pub Wrote : (before : List ℕ) (at : ℕ) (bytes after : List ℕ) → Type 0
 Wrote before at bytes after = length before ≡ 640 → after ≡ sets before at bytes
 
--- what a level tells of what it parsed: its step, and the records of the nodes from n on
-abbrev pub Told : Parsed → (n : ℕ) → (before after : List ℕ) → Step → Type 0
-Told Parsed.fail n before after r = r ≡ Fail
-Told (Parsed.part p next) n before after r = (r ≡ Part next (n + size p) (top p)) × Wrote before (5 * n) (records n p) after
+-- what a level tells of what it parsed: its step, with spaces behind it skipped, and the records of the nodes from n on
+abbrev pub Told : (text : List ℕ) → Parsed → (n : ℕ) → (before after : List ℕ) → Step → Type 0
+Told text Parsed.fail n before after r = r ≡ Fail
+Told text (Parsed.part p next) n before after r = (r ≡ Part (start text next) (n + size p) (top p)) × Wrote before (5 * n) (records n p) after
 
 -- there is a last node, no more than a short text can have, and the part fits one number
 abbrev pub Room : Step → Type 0
@@ -84,10 +85,10 @@ prefixKind none = 0
 prefixKind (some u) = unaryKind u
 
 -- a part in a bracket: x is the position past the closing one, or 0
-abbrev pub closedAt : (m b x : ℕ) → Step
-closedAt m b zero = Fail
-closedAt m b (suc q) = Part (suc q) m b
+abbrev pub closedAt : List ℕ → (m b x : ℕ) → Step
+closedAt text m b zero = Fail
+closedAt text m b (suc q) = Part (start text (suc q)) m b
 
 abbrev pub closed : List ℕ → Step → Step
 closed text Fail = Fail
-closed text (Part next m b) = closedAt m b (signAt text next 41)
+closed text (Part next m b) = closedAt text m b (signFrom text next 41)

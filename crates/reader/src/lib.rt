@@ -9,7 +9,7 @@ ghost use Rattle.reader.specs.Records.{entry};
 ghost use Rattle.reader.specs.Steps.{ruleLevel, orLevel, andLevel, untilLevel, singleLevel, Ready, Wrote, Told, Room, joined, JoinedIn, applied, AppliedIn, prefixKind, closed, Fits, stepOf};
 ghost use Rattle.reader.specs.declared.Step.the-variants.{Part};
 
-// No phrase, or one that ends before `next`: `nodes` nodes are written so far, and `top` is the phrase's highest atom number.
+// No phrase, or one whose next token begins at `next`: `nodes` nodes are written so far, and `top` is the phrase's highest atom number.
 pub enum Step {
     Fail,
     Part {
@@ -116,7 +116,7 @@ fn prefix_kind(byte: u8) -> u8
     0
 }
 
-// The part in a bracket, with the position past the closing one.
+// The part in a bracket, with the position of the token past the closing one.
 fn close(text: &[u8], inner: usize) -> usize
     requires { ⌜ (length (now text) ≤ 1024) × Room (stepOf inner) ⌝ }
     ensures { λ r. ⌜ stepOf r ≡ closed (now (text .entry)) (stepOf inner) ⌝ }
@@ -128,7 +128,8 @@ fn close(text: &[u8], inner: usize) -> usize
             if past == 0 {
                 return 0;
             }
-            pack(past, nodes, top)
+            let end = lexer::skip(text, past);
+            pack(end, nodes, top)
         }
     }
 }
@@ -136,7 +137,7 @@ fn close(text: &[u8], inner: usize) -> usize
 // Rule: Or, or Or > Rule. The levels pass the text on by a reference to the slice: each then has it in a register.
 fn rule(text: &&[u8], at: usize, n: usize, out: &mut [u8; 640]) -> usize
     requires { ⌜ Ready (now (now text)) at n ⌝ }
-    ensures { λ r. ⌜ Told (parsed ruleLevel (now (now (text .entry))) at) n (now (out .entry)) (now (out .exit)) (stepOf r) ⌝ }
+    ensures { λ r. ⌜ Told (now (now (text .entry))) (parsed ruleLevel (now (now (text .entry))) at) n (now (out .entry)) (now (out .exit)) (stepOf r) ⌝ }
 {
     let left = or(text, at, n, out);
     match unpack(left) {
@@ -155,7 +156,7 @@ fn rule(text: &&[u8], at: usize, n: usize, out: &mut [u8; 640]) -> usize
 // Or: And, or And | Or.
 fn or(text: &&[u8], at: usize, n: usize, out: &mut [u8; 640]) -> usize
     requires { ⌜ Ready (now (now text)) at n ⌝ }
-    ensures { λ r. ⌜ Told (parsed orLevel (now (now (text .entry))) at) n (now (out .entry)) (now (out .exit)) (stepOf r) ⌝ }
+    ensures { λ r. ⌜ Told (now (now (text .entry))) (parsed orLevel (now (now (text .entry))) at) n (now (out .entry)) (now (out .exit)) (stepOf r) ⌝ }
 {
     let left = and(text, at, n, out);
     match unpack(left) {
@@ -174,7 +175,7 @@ fn or(text: &&[u8], at: usize, n: usize, out: &mut [u8; 640]) -> usize
 // And: Until, or Until & And.
 fn and(text: &&[u8], at: usize, n: usize, out: &mut [u8; 640]) -> usize
     requires { ⌜ Ready (now (now text)) at n ⌝ }
-    ensures { λ r. ⌜ Told (parsed andLevel (now (now (text .entry))) at) n (now (out .entry)) (now (out .exit)) (stepOf r) ⌝ }
+    ensures { λ r. ⌜ Told (now (now (text .entry))) (parsed andLevel (now (now (text .entry))) at) n (now (out .entry)) (now (out .exit)) (stepOf r) ⌝ }
 {
     let left = until(text, at, n, out);
     match unpack(left) {
@@ -193,7 +194,7 @@ fn and(text: &&[u8], at: usize, n: usize, out: &mut [u8; 640]) -> usize
 // Until: Single, or Single U Until.
 fn until(text: &&[u8], at: usize, n: usize, out: &mut [u8; 640]) -> usize
     requires { ⌜ Ready (now (now text)) at n ⌝ }
-    ensures { λ r. ⌜ Told (parsed untilLevel (now (now (text .entry))) at) n (now (out .entry)) (now (out .exit)) (stepOf r) ⌝ }
+    ensures { λ r. ⌜ Told (now (now (text .entry))) (parsed untilLevel (now (now (text .entry))) at) n (now (out .entry)) (now (out .exit)) (stepOf r) ⌝ }
 {
     let left = single(text, at, n, out);
     match unpack(left) {
@@ -212,12 +213,13 @@ fn until(text: &&[u8], at: usize, n: usize, out: &mut [u8; 640]) -> usize
 // Single: ! Single, or F Single, or G Single, or an atom, or ( Rule ).
 fn single(text: &&[u8], at: usize, n: usize, out: &mut [u8; 640]) -> usize
     requires { ⌜ Ready (now (now text)) at n ⌝ }
-    ensures { λ r. ⌜ Told (parsed singleLevel (now (now (text .entry))) at) n (now (out .entry)) (now (out .exit)) (stepOf r) ⌝ }
+    ensures { λ r. ⌜ Told (now (now (text .entry))) (parsed singleLevel (now (now (text .entry))) at) n (now (out .entry)) (now (out .exit)) (stepOf r) ⌝ }
 {
     match lexer::token_at(*text, at) {
         lexer::Token::Atom { number, next } => {
             put(out, n, 1, number, 0);
-            pack(next, n + 1, number)
+            let end = lexer::skip(*text, next);
+            pack(end, n + 1, number)
         }
         lexer::Token::Sign { byte, next } => {
             if byte == b'(' {
@@ -238,7 +240,7 @@ fn single(text: &&[u8], at: usize, n: usize, out: &mut [u8; 640]) -> usize
 // The phrase that the text begins with.
 fn whole(text: &[u8], out: &mut [u8; 640]) -> Step
     requires { ⌜ length (now text) ≤ 1024 ⌝ }
-    ensures { λ r. ⌜ Told (parsed ruleLevel (now (text .entry)) 0) 0 (now (out .entry)) (now (out .exit)) r ⌝ }
+    ensures { λ r. ⌜ Told (now (text .entry)) (parsed ruleLevel (now (text .entry)) 0) 0 (now (out .entry)) (now (out .exit)) r ⌝ }
 {
     unpack(rule(&text, 0, 0, out))
 }
@@ -261,8 +263,7 @@ pub fn read(text: &[u8], m: usize, out: &mut [u8]) -> answers::Answer
     match whole(text, &mut scratch) {
         Step::Fail => answers::Answer::Refused(answers::Refusal::Grammar),
         Step::Part { next, nodes, top } => {
-            let end = lexer::skip(text, next);
-            if end < text.len() {
+            if next < text.len() {
                 return answers::Answer::Refused(answers::Refusal::Grammar);
             }
             if m <= top {

@@ -30,74 +30,64 @@ enum-told c = search needs
 enum-known-next : tie.Need-enum-known-next
 enum-known-next c = search needs
 
-skip-requires : tie.Need-skip-requires
-skip-requires c κs = search needs
-
 returns-4 : tie.Need-returns-4
 returns-4 c =
+    let p = c .before .before in
+    let a = p .before .before .before .before .before .before .before .before .before .args in
+    let x = p .before .before .whole in
+    let y = p .next .given in
+    more-text (a .m) (a .text .now) (a .out .now) (p .before .before .before .before .before .before .if1 .left) (p .before .before .before .before .before .if2 .left) (p .before .before .before .before .if3 .left) _ (x .last .1 .0) (x .result) (x .ensures) (y .0 .0) (y .0 .1 .0) (y .0 .1 .1 .0) (y .1) (c .if4 .taken)
+
+returns-5 : tie.Need-returns-5
+returns-5 c =
     let p = c .before .before .before in
     let a = p .before .before .before .before .before .before .before .before .before .args in
     let x = p .before .before .whole in
     let y = p .next .given in
-    let z = c .before .skip in
-    more-text (a .m) (a .text .now) (a .out .now) (p .before .before .before .before .before .before .if1 .left) (p .before .before .before .before .before .if2 .left) (p .before .before .before .before .if3 .left) _ (x .last .1 .0) (x .result) (x .ensures) (y .0 .0) (y .0 .1 .0) (y .0 .1 .1 .0) (z .result) (y .1) (z .ensures) (c .if4 .taken)
+    atom-too-high (a .m) (a .text .now) (a .out .now) (p .before .before .before .before .before .before .if1 .left) (p .before .before .before .before .before .if2 .left) (p .before .before .before .before .if3 .left) _ (x .last .1 .0) (x .result) (x .ensures) (y .0 .0) (y .0 .1 .0) (y .0 .1 .1 .0) (y .1) (c .before .if4 .left) (c .if5 .taken)
 
-returns-5 : tie.Need-returns-5
-returns-5 c =
+returns-6 : tie.Need-returns-6
+returns-6 c =
     let p = c .before .before .before .before in
     let a = p .before .before .before .before .before .before .before .before .before .args in
     let x = p .before .before .whole in
     let y = p .next .given in
-    let z = c .before .before .skip in
-    atom-too-high (a .m) (a .text .now) (a .out .now) (p .before .before .before .before .before .before .if1 .left) (p .before .before .before .before .before .if2 .left) (p .before .before .before .before .if3 .left) _ (x .last .1 .0) (x .result) (x .ensures) (y .0 .0) (y .0 .1 .0) (y .0 .1 .1 .0) (z .result) (y .1) (z .ensures) (c .before .if4 .left) (c .if5 .taken)
-
-returns-6 : tie.Need-returns-6
-returns-6 c =
-    let p = c .before .before .before .before .before in
-    let a = p .before .before .before .before .before .before .before .before .before .args in
-    let x = p .before .before .whole in
-    let y = p .next .given in
-    let z = c .before .before .before .skip in
-    many-nodes (a .m) (a .text .now) (a .out .now) (p .before .before .before .before .before .before .if1 .left) (p .before .before .before .before .before .if2 .left) (p .before .before .before .before .if3 .left) _ (x .last .1 .0) (x .result) (x .ensures) (y .0 .0) (y .0 .1 .0) (y .0 .1 .1 .0) (z .result) (y .1) (z .ensures) (c .before .before .if4 .left) (c .before .if5 .left) (c .if6 .taken)
+    many-nodes (a .m) (a .text .now) (a .out .now) (p .before .before .before .before .before .before .if1 .left) (p .before .before .before .before .before .if2 .left) (p .before .before .before .before .if3 .left) _ (x .last .1 .0) (x .result) (x .ensures) (y .0 .0) (y .0 .1 .0) (y .0 .1 .1 .0) (y .1) (c .before .before .if4 .left) (c .before .if5 .left) (c .if6 .taken)
 
 mul-k : tie.Need-mul-k
 mul-k c = search needs
 
 returns-7 : tie.Need-returns-7
 returns-7 c =
-    let p = c .before .before .before .before .before .before in
+    let p = c .before .before .before .before .before in
     let a = p .before .before .before .before .before .before .before .before .before .args in
     let x = p .before .before .whole in
     let y = p .next .given in
-    let z = c .before .before .before .before .skip in
-    small-buffer (a .m) (a .text .now) (a .out .now) (p .before .before .before .before .before .before .if1 .left) (p .before .before .before .before .before .if2 .left) (p .before .before .before .before .if3 .left) _ (x .last .1 .0) (x .result) (x .ensures) (y .0 .0) (y .0 .1 .0) (y .0 .1 .1 .0) (z .result) (y .1) (z .ensures) (c .before .before .before .if4 .left) (c .before .before .if5 .left) (c .before .if6 .left) (c .if7 .taken)
+    small-buffer (a .m) (a .text .now) (a .out .now) (p .before .before .before .before .before .before .if1 .left) (p .before .before .before .before .before .if2 .left) (p .before .before .before .before .if3 .left) _ (x .last .1 .0) (x .result) (x .ensures) (y .0 .0) (y .0 .1 .0) (y .0 .1 .1 .0) (y .1) (c .before .before .before .if4 .left) (c .before .before .if5 .left) (c .before .if6 .left) (c .if7 .taken)
 
 array-share-prefix-scratch : tie.Need-array-share-prefix-scratch
 array-share-prefix-scratch c =
+    let p = c .before .before .before .before .before in
+    let a = p .before .before .before .before .before .before .before .before .before .args in
+    let x = p .before .before .whole in
+    let y = p .next .given in
+    part-fits (a .m) (a .text .now) (a .out .now) (p .before .before .before .before .before .before .if1 .left) (p .before .before .before .before .before .if2 .left) (p .before .before .before .before .if3 .left) _ (x .last .1 .0) (x .result) (x .ensures) (y .0 .0) (y .0 .1 .0) (y .0 .1 .1 .0) (y .1) (c .before .before .before .if4 .left) (c .before .before .if5 .left) (c .before .if6 .left) (c .if7 .left) refl
+
+slice-aggregate-copy : tie.Need-slice-aggregate-copy
+slice-aggregate-copy c =
     let p = c .before .before .before .before .before .before in
     let a = p .before .before .before .before .before .before .before .before .before .args in
     let x = p .before .before .whole in
     let y = p .next .given in
-    let z = c .before .before .before .before .skip in
-    part-fits (a .m) (a .text .now) (a .out .now) (p .before .before .before .before .before .before .if1 .left) (p .before .before .before .before .before .if2 .left) (p .before .before .before .before .if3 .left) _ (x .last .1 .0) (x .result) (x .ensures) (y .0 .0) (y .0 .1 .0) (y .0 .1 .1 .0) (z .result) (y .1) (z .ensures) (c .before .before .before .if4 .left) (c .before .before .if5 .left) (c .before .if6 .left) (c .if7 .left) refl
+    part-length (a .m) (a .text .now) (a .out .now) (p .before .before .before .before .before .before .if1 .left) (p .before .before .before .before .before .if2 .left) (p .before .before .before .before .if3 .left) _ (x .last .1 .0) (x .result) (x .ensures) (y .0 .0) (y .0 .1 .0) (y .0 .1 .1 .0) (y .1) (c .before .before .before .before .if4 .left) (c .before .before .before .if5 .left) (c .before .before .if6 .left) (c .before .if7 .left) refl
 
-slice-aggregate-copy : tie.Need-slice-aggregate-copy
-slice-aggregate-copy c =
+copy-requires : tie.Need-copy-requires
+copy-requires c κs =
     let p = c .before .before .before .before .before .before .before in
     let a = p .before .before .before .before .before .before .before .before .before .args in
     let x = p .before .before .whole in
     let y = p .next .given in
-    let z = c .before .before .before .before .before .skip in
-    part-length (a .m) (a .text .now) (a .out .now) (p .before .before .before .before .before .before .if1 .left) (p .before .before .before .before .before .if2 .left) (p .before .before .before .before .if3 .left) _ (x .last .1 .0) (x .result) (x .ensures) (y .0 .0) (y .0 .1 .0) (y .0 .1 .1 .0) (z .result) (y .1) (z .ensures) (c .before .before .before .before .if4 .left) (c .before .before .before .if5 .left) (c .before .before .if6 .left) (c .before .if7 .left) refl
-
-copy-requires : tie.Need-copy-requires
-copy-requires c κs =
-    let p = c .before .before .before .before .before .before .before .before in
-    let a = p .before .before .before .before .before .before .before .before .before .args in
-    let x = p .before .before .whole in
-    let y = p .next .given in
-    let z = c .before .before .before .before .before .before .skip in
-    omega (arith, part-length (a .m) (a .text .now) (a .out .now) (p .before .before .before .before .before .before .if1 .left) (p .before .before .before .before .before .if2 .left) (p .before .before .before .before .if3 .left) _ (x .last .1 .0) (x .result) (x .ensures) (y .0 .0) (y .0 .1 .0) (y .0 .1 .1 .0) (z .result) (y .1) (z .ensures) (c .before .before .before .before .before .if4 .left) (c .before .before .before .before .if5 .left) (c .before .before .before .if6 .left) (c .before .before .if7 .left) refl)
+    omega (arith, part-length (a .m) (a .text .now) (a .out .now) (p .before .before .before .before .before .before .if1 .left) (p .before .before .before .before .before .if2 .left) (p .before .before .before .before .if3 .left) _ (x .last .1 .0) (x .result) (x .ensures) (y .0 .0) (y .0 .1 .0) (y .0 .1 .1 .0) (y .1) (c .before .before .before .before .before .if4 .left) (c .before .before .before .before .if5 .left) (c .before .before .before .if6 .left) (c .before .before .if7 .left) refl)
 
 returns-8 : tie.Need-returns-8
 returns-8 c =
@@ -110,12 +100,11 @@ same-length c = search needs
 
 returns-9 : tie.Need-returns-9
 returns-9 c =
-    let p = c .before .before .before .before .before .before .before .before .before .before .before in
+    let p = c .before .before .before .before .before .before .before .before .before .before in
     let a = p .before .before .before .before .before .before .before .before .before .args in
     let x = p .before .before .whole in
     let y = p .next .given in
-    let z = c .before .before .before .before .before .before .before .before .before .skip in
-    all-read (a .m) (a .text .now) (a .out .now) (p .before .before .before .before .before .before .if1 .left) (p .before .before .before .before .before .if2 .left) (p .before .before .before .before .if3 .left) _ (x .last .1 .0) (x .result) (x .ensures) (y .0 .0) (y .0 .1 .0) (y .0 .1 .1 .0) (z .result) (y .1) (z .ensures) (c .before .before .before .before .before .before .before .before .if4 .left) (c .before .before .before .before .before .before .before .if5 .left) (c .before .before .before .before .before .before .if6 .left) (c .before .before .before .before .before .if7 .left) refl (c .before .before .copy .last .1 .0) (c .before .before .copy .ensures .1)
+    all-read (a .m) (a .text .now) (a .out .now) (p .before .before .before .before .before .before .if1 .left) (p .before .before .before .before .before .if2 .left) (p .before .before .before .before .if3 .left) _ (x .last .1 .0) (x .result) (x .ensures) (y .0 .0) (y .0 .1 .0) (y .0 .1 .1 .0) (y .1) (c .before .before .before .before .before .before .before .before .if4 .left) (c .before .before .before .before .before .before .before .if5 .left) (c .before .before .before .before .before .before .if6 .left) (c .before .before .before .before .before .if7 .left) refl (c .before .before .copy .last .1 .0) (c .before .before .copy .ensures .1)
 
 pub read-spec : {M : Type 1} → statement M
 read-spec =
@@ -127,7 +116,6 @@ read-spec =
     whole-requires
     enum-told
     enum-known-next
-    skip-requires
     returns-4
     returns-5
     returns-6

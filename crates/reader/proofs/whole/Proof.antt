@@ -15,7 +15,7 @@ unpack-requires c κs = search needs
 returns : tie.Need-returns
 returns c =
     let a = c .before .before .before .before .before .args in
-    told-step (parsed ruleLevel (a .t1 .now) 0) 0 (a .out .now) (c .before .rule .last .1 .1 .1 .0) _ _ (c .unpack .ensures) (c .before .rule .ensures)
+    told-step (a .t1 .now) (parsed ruleLevel (a .t1 .now) 0) 0 (a .out .now) (c .before .rule .last .1 .1 .1 .0) _ _ (c .unpack .ensures) (c .before .rule .ensures)
 
 pub whole-spec : {M : Type 1} → statement M
 whole-spec = tie.close (tie.spec rule-requires unpack-requires returns)
