@@ -25,7 +25,7 @@ use Rattle.rules.specs.Judge.Judged.{is-outside, is-not-binary, is-broken, is-p
 use Rattle.rules.specs.Refusals.{RunGood, TableRefused, JudgeRefused}
 use Rattle.rules.specs.Demands.{Fits, OnlyTheTruth}
 use Rattle.rules.specs.Solution.Truths.{place-lt}
-use Rattle.rules.specs.Exactness.Tests.{at-least}
+use Rattle.rules.specs.Exactness.Tests.{at-least as bounded}
 use Rattle.rules.specs.Theorems.{only-the-truth, judge-exact}
 use Rattle.rules.specs.Outcome.{judgeOutcome}
 use Rattle.rules.specs.Demands.{Answer}
@@ -38,7 +38,7 @@ not-below : (a b : ℤ) → (a <ℤ b → ⊥) → b ≤ℤ a
 not-below a b f = ltZ-no (not-T (ltZ a b) (λ t. f (record { lt = t })))
 
 not-apart : (e : ℕ) (b x : ℤ) → (Apart e b x → ⊥) → natAbs (x -ℤ b) ≤ e
-not-apart e b x f = at-least e (natAbs (x -ℤ b)) f
+not-apart e b x f = bounded e (natAbs (x -ℤ b)) f
 
 holds-iff : (o : Relation) (e : ℕ) (b s : ℤ) → (BrokenBy o e b s → ⊥) ↔ HoldsBy o e b s
 holds-iff at-least e b s = (not-below s (b -ℤ pos e), λ h k. clashℤ k h)
@@ -294,7 +294,7 @@ module _ (t m : ℕ) (table : List ℕ) (figures : List ℤ) (tolerance : ℤ) (
       )
     where
       slots : None (JudgeRefused t m table figures tolerance) → 1 ≤ t
-      slots none = at-least t 1 (λ h. none 1 (JudgeRefused.table-refused (TableRefused.slots (λ s. omega (arith, s .0)))))
+      slots none = bounded t 1 (λ h. none 1 (JudgeRefused.table-refused (TableRefused.slots (λ s. omega (arith, s .0)))))
 
       counted : (ns : List Node) → None (JudgeRefused t m table figures tolerance) → Good m table ns → Dec (length figures ≡ (m + length ns) * t) → length figures ≡ (m + length ns) * t
       counted ns none good (yes h) = h
