@@ -1,3 +1,3 @@
--- What the proofs of several functions use.
-mod Laws
+-- What the proof of `read` uses.
+mod Records
 mod Outcomes

@@ -25,11 +25,12 @@ use Rattle.answers.specs.declared.Refusal.the-variants.{Atoms, LongText, Gramma
 use Rattle.answers.specs.declared.Answer.{Answer}
 use Rattle.answers.specs.declared.Answer.the-variants.{Value, Refused}
 use Rattle.answers.specs.Told.{numberOf, told}
-use Rattle.reader.specs.declared.Step.{Step}
-use Rattle.reader.specs.declared.Step.the-variants.{Fail, Part}
-use Rattle.reader.specs.Records.{top, records, length-records, records-table, below-top, top-below}
-use Rattle.reader.specs.Steps.{Told}
-use Rattle.reader.proofs.Laws.{Got, got, failed}
+use Rattle.levels.specs.declared.Step.{Step}
+use Rattle.levels.specs.declared.Step.the-variants.{Fail, Part}
+use Rattle.levels.specs.Records.{top, records, length-records}
+use Rattle.levels.specs.Steps.{Told}
+use Rattle.levels.specs.Parts.{Got, got, failed}
+use Rattle.reader.proofs.Records.{records-table, below-top, top-below}
 
 -- what is promised of an answer, and of the buffer
 abbrev Kept : ℕ → List ℕ → List ℕ → List ℕ → Answer → Type 0

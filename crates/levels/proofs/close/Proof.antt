@@ -1,9 +1,9 @@
--- `reader::close` meets its contract.
+-- `levels::close` meets its contract.
 use mathlib.Core.Path.{sym, _∙_}
 use borrow.Author.Needs.{needs}
-use Rattle.reader.proofs.Laws.{close-fail, close-none, close-fits, close-past}
-use Rattle.reader.proofs.close.Statement.{statement}
-use Rattle.reader.proofs.close.Tie as tie
+use Rattle.levels.proofs.Laws.{close-fail, close-none, close-fits, close-past}
+use Rattle.levels.proofs.close.Statement.{statement}
+use Rattle.levels.proofs.close.Tie as tie
 
 unpack-requires : tie.Need-unpack-requires
 unpack-requires c κs = search needs

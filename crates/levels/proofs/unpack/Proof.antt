@@ -1,7 +1,7 @@
--- `reader::unpack` meets its contract.
-use Rattle.reader.proofs.Laws.{step-none, step-part}
-use Rattle.reader.proofs.unpack.Statement.{statement}
-use Rattle.reader.proofs.unpack.Tie as tie
+-- `levels::unpack` meets its contract.
+use Rattle.levels.proofs.Laws.{step-none, step-part}
+use Rattle.levels.proofs.unpack.Statement.{statement}
+use Rattle.levels.proofs.unpack.Tie as tie
 
 returns : tie.Need-returns
 returns c = step-none _ (c .if1 .taken)

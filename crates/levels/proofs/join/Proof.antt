@@ -1,10 +1,10 @@
--- `reader::join` meets its contract.
+-- `levels::join` meets its contract.
 use mathlib.Core.Path.{sym, _∙_}
 use native.Mathlib.Omega.{arith}
 use borrow.Author.Needs.{needs}
-use Rattle.reader.proofs.Laws.{room-of, more-fits, join-none, join-told}
-use Rattle.reader.proofs.join.Statement.{statement}
-use Rattle.reader.proofs.join.Tie as tie
+use Rattle.levels.proofs.Laws.{room-of, more-fits, join-none, join-told}
+use Rattle.levels.proofs.join.Statement.{statement}
+use Rattle.levels.proofs.join.Tie as tie
 
 unpack-requires : tie.Need-unpack-requires
 unpack-requires c κs = search needs

@@ -1,10 +1,10 @@
--- `reader::whole` meets its contract.
+-- `levels::whole` meets its contract.
 use Rattle.rules.specs.Reading.Parser.{parsed}
-use Rattle.reader.specs.Steps.{ruleLevel}
+use Rattle.levels.specs.Steps.{ruleLevel}
 use borrow.Author.Needs.{needs}
-use Rattle.reader.proofs.Laws.{told-step}
-use Rattle.reader.proofs.whole.Statement.{statement}
-use Rattle.reader.proofs.whole.Tie as tie
+use Rattle.levels.proofs.Laws.{told-step}
+use Rattle.levels.proofs.whole.Statement.{statement}
+use Rattle.levels.proofs.whole.Tie as tie
 
 rule-requires : tie.Need-rule-requires
 rule-requires c κs = search needs

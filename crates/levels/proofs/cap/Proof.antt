@@ -1,10 +1,10 @@
--- `reader::cap` meets its contract.
+-- `levels::cap` meets its contract.
 use mathlib.Core.Path.{sym, _∙_}
 use native.Mathlib.Omega.{arith}
 use borrow.Author.Needs.{needs}
-use Rattle.reader.proofs.Laws.{room-of, more-fits, cap-none, cap-told}
-use Rattle.reader.proofs.cap.Statement.{statement}
-use Rattle.reader.proofs.cap.Tie as tie
+use Rattle.levels.proofs.Laws.{room-of, more-fits, cap-none, cap-told}
+use Rattle.levels.proofs.cap.Statement.{statement}
+use Rattle.levels.proofs.cap.Tie as tie
 
 unpack-requires : tie.Need-unpack-requires
 unpack-requires c κs = search needs

@@ -24,10 +24,11 @@ use Rattle.rules.specs.Reading.Parser.{Parsed, Start, unaryOf, startOf, startin
 use Rattle.lexer.specs.declared.Token.{Token}
 use Rattle.lexer.specs.declared.Token.the-variants.{Other, Sign, Atom}
 use Rattle.lexer.specs.Capped.{capped, none-of, sign-of, atom-of}
-use Rattle.reader.specs.declared.Step.{Step}
-use Rattle.reader.specs.declared.Step.the-variants.{Fail, Part}
-use Rattle.reader.specs.Records.{top, top-le, entry, records, length-records}
-use Rattle.reader.specs.Steps.{Ready, Told, Room, Wrote, joined, JoinedIn, applied, AppliedIn, prefixKind, closed, closedAt, Fits, stepOf}
+use Rattle.levels.specs.declared.Step.{Step}
+use Rattle.levels.specs.declared.Step.the-variants.{Fail, Part}
+use Rattle.levels.specs.Records.{top, top-le, entry, records, length-records}
+use Rattle.levels.specs.Parts.{Got, got, failed}
+use Rattle.levels.specs.Steps.{Ready, Told, Room, Wrote, joined, JoinedIn, applied, AppliedIn, prefixKind, closed, closedAt, Fits, stepOf}
 
 -- ---- a step as one number
 
@@ -83,29 +84,7 @@ unary-wrote : (out out₁ out₂ : List ℕ) (n nodes : ℕ) (u : Unary) (p : Ru
 unfolding records
 unary-wrote out out₁ out₂ n nodes u p e c f h = f (wrote-long out out₁ (5 * n) (records n p) e h) ∙ rw (e h, c) (sym (behind out n p _))
 
--- ---- what a level told, by its step
-
-pub record Got (s : List ℕ) (x : Parsed) (n : ℕ) (before after : List ℕ) (next nodes high : ℕ) : Type 0 where
-  pub rule : Rule
-  pub end : ℕ
-  pub is : x ≡ Parsed.part rule end
-  pub skipped : next ≡ start s end
-  pub count : nodes ≡ n + size rule
-  pub highest : high ≡ top rule
-  pub wrote : Wrote before (5 * n) (records n rule) after
-
-never : {A : Type 0} (r : Step) (next nodes high : ℕ) → r ≡ Fail → r ≡ Part next nodes high → A
-never r next nodes high p q = let z : _≡_ {A = ℕ} 0 1 = cc in absurd (omega arith)
-
-pub got : (s : List ℕ) (x : Parsed) (n : ℕ) (before after : List ℕ) (r : Step) (next nodes high : ℕ) → Told s x n before after r → r ≡ Part next nodes high → Got s x n before after next nodes high
-got s Parsed.fail n before after r next nodes high h e = never r next nodes high h e
-got s (Parsed.part p y) n before after r next nodes high h e =
-    let f : r ≡ Part (start s y) (n + size p) (top p) = h .0 in
-    record { rule = p; end = y; is = refl; skipped = cc; count = cc; highest = cc; wrote = h .1 }
-
-pub failed : (s : List ℕ) (x : Parsed) (n : ℕ) (before after : List ℕ) (r : Step) → Told s x n before after r → r ≡ Fail → x ≡ Parsed.fail
-failed s Parsed.fail n before after r h e = refl
-failed s (Parsed.part p y) n before after r h e = never r (start s y) (n + size p) (top p) e (h .0)
+-- ---- what a level told, of another parse or step
 
 told-as : (s : List ℕ) (x y : Parsed) (n : ℕ) (before after : List ℕ) (r : Step) → x ≡ y → Told s y n before after r → Told s x n before after r
 told-as s x y n before after r e h = rw e h

@@ -4,38 +4,38 @@ use native.Mathlib.Omega.{arith}
 use borrow.Author.Needs.{needs}
 use Rattle.rules.specs.Rule.Binary.{or as disjunction, implies as implication, and as conjunction, until as untils}
 use Rattle.rules.specs.Reading.Parser.{measure}
-use Rattle.reader.specs.Steps.{ruleLevel, orLevel, andLevel, untilLevel, singleLevel}
-use Rattle.reader.proofs.Laws.{level-fail, level-alone, level-next, level-room, level-joined, single-none, atom-room, atom-fits, inner-room, single-atom, sign-next, single-bracket, single-fail, single-prefix}
+use Rattle.levels.specs.Steps.{ruleLevel, orLevel, andLevel, untilLevel, singleLevel}
+use Rattle.levels.proofs.Laws.{level-fail, level-alone, level-next, level-room, level-joined, single-none, atom-room, atom-fits, inner-room, single-atom, sign-next, single-bracket, single-fail, single-prefix}
 use Prim.Native.Nat.{ℕ, _<_}
 use borrow.Fn.Kinds.{In}
 use borrow.Fn.PlainCycle.{Measures, is, falls, and}
-use Rattle.reader.proofs.and.Reads as and′
-use Rattle.reader.proofs.and.Kinds as and-kinds
-use Rattle.reader.proofs.+and+or+rule+single+until.Lts-and as and-lts
-use Rattle.reader.proofs.or.Reads as or
-use Rattle.reader.proofs.or.Kinds as or-kinds
-use Rattle.reader.proofs.+and+or+rule+single+until.Lts-or as or-lts
-use Rattle.reader.proofs.rule.Reads as rule
-use Rattle.reader.proofs.rule.Kinds as rule-kinds
-use Rattle.reader.proofs.+and+or+rule+single+until.Lts-rule as rule-lts
-use Rattle.reader.proofs.single.Reads as single
-use Rattle.reader.proofs.single.Kinds as single-kinds
-use Rattle.reader.proofs.+and+or+rule+single+until.Lts-single as single-lts
-use Rattle.reader.proofs.until.Reads as until
-use Rattle.reader.proofs.until.Kinds as until-kinds
-use Rattle.reader.proofs.+and+or+rule+single+until.Lts-until as until-lts
+use Rattle.levels.proofs.and.Reads as and′
+use Rattle.levels.proofs.and.Kinds as and-kinds
+use Rattle.levels.proofs.+and+or+rule+single+until.Lts-and as and-lts
+use Rattle.levels.proofs.or.Reads as or
+use Rattle.levels.proofs.or.Kinds as or-kinds
+use Rattle.levels.proofs.+and+or+rule+single+until.Lts-or as or-lts
+use Rattle.levels.proofs.rule.Reads as rule
+use Rattle.levels.proofs.rule.Kinds as rule-kinds
+use Rattle.levels.proofs.+and+or+rule+single+until.Lts-rule as rule-lts
+use Rattle.levels.proofs.single.Reads as single
+use Rattle.levels.proofs.single.Kinds as single-kinds
+use Rattle.levels.proofs.+and+or+rule+single+until.Lts-single as single-lts
+use Rattle.levels.proofs.until.Reads as until
+use Rattle.levels.proofs.until.Kinds as until-kinds
+use Rattle.levels.proofs.+and+or+rule+single+until.Lts-until as until-lts
 use Rattle.lexer.proofs.sign_at.Reads as sign-at-reads
 use Rattle.lexer.proofs.skip.Reads as skip-reads
 use Rattle.lexer.proofs.token_at.Reads as token-at-reads
-use Rattle.reader.proofs.cap.Reads as cap-reads
-use Rattle.reader.proofs.close.Reads as close-reads
-use Rattle.reader.proofs.join.Reads as join-reads
-use Rattle.reader.proofs.prefix_kind.Reads as prefix-kind-reads
-use Rattle.reader.proofs.pack.Reads as pack-reads
-use Rattle.reader.proofs.put.Reads as put-reads
-use Rattle.reader.proofs.unpack.Reads as unpack-reads
-use Rattle.reader.proofs.+and+or+rule+single+until.{statement}
-use Rattle.reader.proofs.+and+or+rule+single+until.Tie.{close}
+use Rattle.levels.proofs.cap.Reads as cap-reads
+use Rattle.levels.proofs.close.Reads as close-reads
+use Rattle.levels.proofs.join.Reads as join-reads
+use Rattle.levels.proofs.prefix_kind.Reads as prefix-kind-reads
+use Rattle.levels.proofs.pack.Reads as pack-reads
+use Rattle.levels.proofs.put.Reads as put-reads
+use Rattle.levels.proofs.unpack.Reads as unpack-reads
+use Rattle.levels.proofs.+and+or+rule+single+until.{statement}
+use Rattle.levels.proofs.+and+or+rule+single+until.Tie.{close}
 
 abbrev μ-and : Measures 3 and-kinds.ps ℕ
 μ-and κs a = measure andLevel (a .0 .now .now) (a .1 .0)

@@ -1,4 +1,4 @@
--- `reader::put` meets its contract. A record past the 128th is past the scratch's end, where a store changes nothing.
+-- `levels::put` meets its contract. A record past the 128th is past the scratch's end, where a store changes nothing.
 use mathlib.Core.Path.{_≡_, refl, sym, ap, _∙_}
 use mathlib.Core.List.{List, [], _∷_}
 use Prim.Native.Nat.{ℕ, suc, _*_, _≤_}
@@ -6,10 +6,10 @@ use native.Mathlib.Numerals.{towards-suc}
 use native.Mathlib.Omega.{arith}
 use lib.ListN.{length}
 use lib.Seq.{sets, set-out}
-use Rattle.reader.specs.Records.{entry}
+use Rattle.levels.specs.Records.{entry}
 use borrow.Author.Needs.{needs}
-use Rattle.reader.proofs.put.Statement.{statement}
-use Rattle.reader.proofs.put.Tie as tie
+use Rattle.levels.proofs.put.Statement.{statement}
+use Rattle.levels.proofs.put.Tie as tie
 
 sets-out : (l : List ℕ) (i : ℕ) (vs : List ℕ) → length l ≤ i → sets l i vs ≡ l
 sets-out l i [] h = refl

@@ -1,8 +1,8 @@
--- `reader::pack` meets its contract.
+-- `levels::pack` meets its contract.
 use borrow.Author.Needs.{needs}
-use Rattle.reader.proofs.Laws.{step-packed}
-use Rattle.reader.proofs.pack.Statement.{statement}
-use Rattle.reader.proofs.pack.Tie as tie
+use Rattle.levels.proofs.Laws.{step-packed}
+use Rattle.levels.proofs.pack.Statement.{statement}
+use Rattle.levels.proofs.pack.Tie as tie
 
 mul-result : tie.Need-mul-result
 mul-result c = search needs

@@ -1,7 +1,7 @@
--- `reader::prefix_kind` meets its contract.
+-- `levels::prefix_kind` meets its contract.
 use borrow.Author.Tests.{eq-eqb, ne-eqb}
-use Rattle.reader.proofs.prefix_kind.Statement.{statement}
-use Rattle.reader.proofs.prefix_kind.Tie as tie
+use Rattle.levels.proofs.prefix_kind.Statement.{statement}
+use Rattle.levels.proofs.prefix_kind.Tie as tie
 
 returns : tie.Need-returns
 returns c = simp (eq-eqb (c .before .args .byte) 33 (c .if1 .taken))

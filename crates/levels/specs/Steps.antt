@@ -1,4 +1,4 @@
--- What the contracts of the reader's levels say.
+-- What the contracts of the levels say.
 use mathlib.Core.Path.{_≡_}
 use mathlib.Core.Option.{Option, none, some}
 use mathlib.Core.List.{List}
@@ -13,9 +13,9 @@ use Rattle.rules.specs.Table.{unaryKind}
 use Rattle.rules.specs.Reading.Lexer.{start}
 use Rattle.lexer.specs.Signs.{signFrom}
 use Rattle.rules.specs.Reading.Parser.{Parsed}
-use Rattle.reader.specs.declared.Step.{Step}
-use Rattle.reader.specs.declared.Step.the-variants.{Fail, Part}
-use Rattle.reader.specs.Records.{top, entry, records}
+use Rattle.levels.specs.declared.Step.{Step}
+use Rattle.levels.specs.declared.Step.the-variants.{Fail, Part}
+use Rattle.levels.specs.Records.{top, entry, records}
 
 -- 01's levels: Rule, Or, And, Until and Single
 abbrev pub ruleLevel : Level

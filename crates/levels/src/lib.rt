@@ -1,0 +1,244 @@
+// A rule's phrase and its records: five levels of the grammar that call each other in a cycle.
+ghost use mathlib.Core.Path.{_≡_};
+ghost use Prim.Native.Nat.{_+_, _*_, max, _≤_};
+ghost use lib.ListN.{length};
+ghost use Rattle.rules.specs.Reading.Parser.{parsed, unaryOf};
+ghost use Rattle.levels.specs.Records.{entry};
+ghost use Rattle.levels.specs.Steps.{ruleLevel, orLevel, andLevel, untilLevel, singleLevel, Ready, Wrote, Told, Room, joined, JoinedIn, applied, AppliedIn, prefixKind, closed, Fits, stepOf};
+ghost use Rattle.levels.specs.declared.Step.the-variants.{Part};
+
+// No phrase, or one whose next token begins at `next`: `nodes` nodes are written so far, and `top` is the phrase's highest atom number.
+pub enum Step {
+    Fail,
+    Part {
+        next: usize,
+        nodes: usize,
+        top: usize,
+    },
+}
+
+// The step of a number that `pack` made, or of 0, a failure.
+fn unpack(code: usize) -> Step
+    ensures { λ r. ⌜ r ≡ stepOf code ⌝ }
+{
+    if code == 0 {
+        return Step::Fail;
+    }
+    Step::Part {
+        next: code % 2048,
+        nodes: code / 2048 % 2048,
+        top: code / 4194304,
+    }
+}
+
+// A part as one number: the levels return it in a register.
+fn pack(next: usize, nodes: usize, top: usize) -> usize
+    requires { ⌜ Fits next nodes top ⌝ }
+    ensures { λ r. ⌜ stepOf r ≡ Part next nodes top ⌝ }
+{
+    next + nodes * 2048 + top * 4194304
+}
+
+fn larger(a: usize, b: usize) -> usize
+    ensures { λ r. ⌜ r ≡ max a b ⌝ }
+{
+    if a < b { b } else { a }
+}
+
+// Writes node `n`'s record, where it is one of the first 128: the records of a rule with more are not wanted.
+fn put(out: &mut [u8; 640], n: usize, kind: u8, left: usize, right: usize)
+    requires { ⌜ 5 * n + 5 ≤ 5120 ⌝ }
+    ensures { λ _. ⌜ Wrote (now (out .entry)) (5 * n) (entry kind left right) (now (out .exit)) ⌝ }
+{
+    if 128 <= n {
+        return;
+    }
+    let i = 5 * n;
+    let mark = table::MARK;
+    out[i] = mark[0];
+    out[i + 1] = mark[1];
+    out[i + 2] = kind;
+    out[i + 3] = (left % 256) as u8;
+    out[i + 4] = (right % 256) as u8;
+}
+
+// The node over the left part, whose last node is `nodes` - 1, and the right part.
+fn join(out: &mut [u8; 640], kind: u8, nodes: usize, top: usize, right: usize) -> usize
+    requires { ⌜ (1 ≤ nodes) × ((top ≤ 255) × Room (stepOf right)) ⌝ }
+    ensures { λ r. ⌜ (stepOf r ≡ joined top (stepOf right)) × JoinedIn (stepOf right) kind nodes (now (out .entry)) (now (out .exit)) ⌝ }
+{
+    match unpack(right) {
+        Step::Fail => 0,
+        Step::Part {
+            next,
+            nodes: m,
+            top: b,
+        } => {
+            put(out, m, kind, nodes - 1, m - 1);
+            pack(next, m + 1, larger(top, b))
+        }
+    }
+}
+
+// The node over one part.
+fn cap(out: &mut [u8; 640], kind: u8, inner: usize) -> usize
+    requires { ⌜ Room (stepOf inner) ⌝ }
+    ensures { λ r. ⌜ (stepOf r ≡ applied (stepOf inner)) × AppliedIn (stepOf inner) kind (now (out .entry)) (now (out .exit)) ⌝ }
+{
+    match unpack(inner) {
+        Step::Fail => 0,
+        Step::Part {
+            next,
+            nodes: m,
+            top,
+        } => {
+            put(out, m, kind, m - 1, 0);
+            pack(next, m + 1, top)
+        }
+    }
+}
+
+// The kind of an operator of one side, and 0 where `byte` is none.
+fn prefix_kind(byte: u8) -> u8
+    ensures { λ r. ⌜ r ≡ prefixKind (unaryOf byte) ⌝ }
+{
+    if byte == b'!' {
+        return 2;
+    }
+    if byte == b'F' {
+        return 6;
+    }
+    if byte == b'G' {
+        return 7;
+    }
+    0
+}
+
+// The part in a bracket, with the position of the token past the closing one.
+fn close(text: &[u8], inner: usize) -> usize
+    requires { ⌜ (length (now text) ≤ 1024) × Room (stepOf inner) ⌝ }
+    ensures { λ r. ⌜ stepOf r ≡ closed (now (text .entry)) (stepOf inner) ⌝ }
+{
+    match unpack(inner) {
+        Step::Fail => 0,
+        Step::Part { next, nodes, top } => {
+            let past = lexer::sign_at(text, next, b')');
+            if past == 0 {
+                return 0;
+            }
+            let end = lexer::skip(text, past);
+            pack(end, nodes, top)
+        }
+    }
+}
+
+// Rule: Or, or Or > Rule. The levels pass the text on by a reference to the slice: each then has it in a register.
+fn rule(text: &&[u8], at: usize, n: usize, out: &mut [u8; 640]) -> usize
+    requires { ⌜ Ready (now (now text)) at n ⌝ }
+    ensures { λ r. ⌜ Told (now (now (text .entry))) (parsed ruleLevel (now (now (text .entry))) at) n (now (out .entry)) (now (out .exit)) (stepOf r) ⌝ }
+{
+    let left = or(text, at, n, out);
+    match unpack(left) {
+        Step::Fail => 0,
+        Step::Part { next, nodes, top } => {
+            let after = lexer::sign_at(*text, next, b'>');
+            if after == 0 {
+                return left;
+            }
+            let right = rule(text, after, nodes, out);
+            join(out, 5, nodes, top, right)
+        }
+    }
+}
+
+// Or: And, or And | Or.
+fn or(text: &&[u8], at: usize, n: usize, out: &mut [u8; 640]) -> usize
+    requires { ⌜ Ready (now (now text)) at n ⌝ }
+    ensures { λ r. ⌜ Told (now (now (text .entry))) (parsed orLevel (now (now (text .entry))) at) n (now (out .entry)) (now (out .exit)) (stepOf r) ⌝ }
+{
+    let left = and(text, at, n, out);
+    match unpack(left) {
+        Step::Fail => 0,
+        Step::Part { next, nodes, top } => {
+            let after = lexer::sign_at(*text, next, b'|');
+            if after == 0 {
+                return left;
+            }
+            let right = or(text, after, nodes, out);
+            join(out, 4, nodes, top, right)
+        }
+    }
+}
+
+// And: Until, or Until & And.
+fn and(text: &&[u8], at: usize, n: usize, out: &mut [u8; 640]) -> usize
+    requires { ⌜ Ready (now (now text)) at n ⌝ }
+    ensures { λ r. ⌜ Told (now (now (text .entry))) (parsed andLevel (now (now (text .entry))) at) n (now (out .entry)) (now (out .exit)) (stepOf r) ⌝ }
+{
+    let left = until(text, at, n, out);
+    match unpack(left) {
+        Step::Fail => 0,
+        Step::Part { next, nodes, top } => {
+            let after = lexer::sign_at(*text, next, b'&');
+            if after == 0 {
+                return left;
+            }
+            let right = and(text, after, nodes, out);
+            join(out, 3, nodes, top, right)
+        }
+    }
+}
+
+// Until: Single, or Single U Until.
+fn until(text: &&[u8], at: usize, n: usize, out: &mut [u8; 640]) -> usize
+    requires { ⌜ Ready (now (now text)) at n ⌝ }
+    ensures { λ r. ⌜ Told (now (now (text .entry))) (parsed untilLevel (now (now (text .entry))) at) n (now (out .entry)) (now (out .exit)) (stepOf r) ⌝ }
+{
+    let left = single(text, at, n, out);
+    match unpack(left) {
+        Step::Fail => 0,
+        Step::Part { next, nodes, top } => {
+            let after = lexer::sign_at(*text, next, b'U');
+            if after == 0 {
+                return left;
+            }
+            let right = until(text, after, nodes, out);
+            join(out, 8, nodes, top, right)
+        }
+    }
+}
+
+// Single: ! Single, or F Single, or G Single, or an atom, or ( Rule ).
+fn single(text: &&[u8], at: usize, n: usize, out: &mut [u8; 640]) -> usize
+    requires { ⌜ Ready (now (now text)) at n ⌝ }
+    ensures { λ r. ⌜ Told (now (now (text .entry))) (parsed singleLevel (now (now (text .entry))) at) n (now (out .entry)) (now (out .exit)) (stepOf r) ⌝ }
+{
+    match lexer::token_at(*text, at) {
+        lexer::Token::Atom { number, next } => {
+            put(out, n, 1, number, 0);
+            let end = lexer::skip(*text, next);
+            pack(end, n + 1, number)
+        }
+        lexer::Token::Sign { byte, next } => {
+            if byte == b'(' {
+                let inner = rule(text, next, n, out);
+                return close(*text, inner);
+            }
+            let kind = prefix_kind(byte);
+            if kind == 0 {
+                return 0;
+            }
+            let inner = single(text, next, n, out);
+            cap(out, kind, inner)
+        }
+        lexer::Token::Other => 0,
+    }
+}
+
+// The phrase that the text begins with.
+pub fn whole(text: &[u8], out: &mut [u8; 640]) -> Step
+    requires { ⌜ length (now text) ≤ 1024 ⌝ }
+    ensures { λ r. ⌜ Told (now (text .entry)) (parsed ruleLevel (now (text .entry)) 0) 0 (now (out .entry)) (now (out .exit)) r ⌝ }
+{
+    unpack(rule(&text, 0, 0, out))
+}
