@@ -168,11 +168,10 @@ pub record RowsReady (T M : ℕ) (table : List ℕ) (count : ℕ) (l : List ℕ)
   pub rows : Lent (rowsOutcome T M table 65536) count (14 * count) l
   pub written : RowsWritten T M count (rows .bytes)
 
-pub rows-ready : (T M : ℕ) (table l : List ℕ) (r : Answer) (count : ℕ) → told r ≡ result (rowsOutcome T M table (length (zeros 65536))) → l ≡ buffer (rowsOutcome T M table (length (zeros 65536))) (zeros 65536) → r ≡ Value count → RowsReady T M table count l
-rows-ready T M table l r count e f v =
-    let s : length (zeros 65536) ≡ 65536 = length-zeros 65536 in
+pub rows-ready : (T M : ℕ) (table z l : List ℕ) (r : Answer) (count : ℕ) → length z ≡ 65536 → told r ≡ result (rowsOutcome T M table (length z)) → l ≡ buffer (rowsOutcome T M table (length z)) z → r ≡ Value count → RowsReady T M table count l
+rows-ready T M table z l r count s e f v =
     let w = told-value (rowsOutcome T M table 65536) r count (rw s at e) v in
-    let t = lent (rowsOutcome T M table 65536) count (14 * count) (zeros 65536) l w (rw s at f) (rows-written T M table count (w .bytes) (w .is) .size-is) in
+    let t = lent (rowsOutcome T M table 65536) count (14 * count) z l w (rw s at f) (rows-written T M table count (w .bytes) (w .is) .size-is) in
     record { rows = t; written = rows-written T M table count (t .bytes) (t .is) }
 
 -- there are few variables
@@ -189,9 +188,8 @@ pub printed-rows : (T M n count : ℕ) (bytes : List ℕ) (o : Demands.Answer Wr
 printed-rows T M n count bytes o e =
     ap (λ (x : Demands.Answer Written). printed (rowsThen T M n x)) e ∙ ap (λ (k : ℕ). headText k ((M + n) * T) ++ rowsText 0 (rowsIn count bytes)) (length-rowsIn count bytes)
 
-pub printed-refused : (T M n : ℕ) (table : List ℕ) (r : Answer) (k : Refusal) → told r ≡ result (rowsOutcome T M table (length (zeros 65536))) → r ≡ Refused k → printed (rowsThen T M n (rowsOutcome T M table 65536)) ≡ refusedText (numberOf k)
-printed-refused T M n table r k e v =
-    let s : length (zeros 65536) ≡ 65536 = length-zeros 65536 in
+pub printed-refused : (T M n : ℕ) (table z : List ℕ) (r : Answer) (k : Refusal) → length z ≡ 65536 → told r ≡ result (rowsOutcome T M table (length z)) → r ≡ Refused k → printed (rowsThen T M n (rowsOutcome T M table 65536)) ≡ refusedText (numberOf k)
+printed-refused T M n table z r k s e v =
     ap (λ (x : Demands.Answer Written). printed (rowsThen T M n x)) (told-refused (rowsOutcome T M table 65536) r k (rw s at e) v)
 
 -- the listing, by T's test and the reader's outcome

@@ -1,11 +1,14 @@
 // The page of program rowlist.
 ghost use mathlib.Core.Path.{_≡_};
-ghost use Prim.Native.Nat.{min, _≤_};
+ghost use mathlib.Core.List.{_++_};
+ghost use Prim.Native.Nat.{_+_, _*_, min, _≤_};
 ghost use lib.ListN.{length};
 ghost use lib.Seq.{sets};
+ghost use Rattle.rules.specs.Rows.{rowsIn};
 ghost use Rattle.rules.specs.Outcome.{rowsOutcome};
 ghost use Rattle.answers.specs.Told.{numberOf};
 ghost use Rattle.rowtext.specs.Put.{Put};
+ghost use Rattle.rowtext.specs.RowText.{FewTerms, headText, rowsText};
 ghost use Rattle.input.specs.Scanning.{state};
 ghost use Rattle.listing.specs.Page.{rowsThen, refusedText, printed, listing, page, shown};
 
@@ -19,20 +22,44 @@ fn put_refusal(out: &mut [u8; 160000], refusal: answers::Refusal) -> usize
     rowtext::put_bytes(out, b, b"\n")
 }
 
+// The listing of `count` row records of a table of `n` nodes.
+fn put_listing(rows: &[u8], count: usize, n: usize, t: usize, m: usize, out: &mut [u8; 160000]) -> usize
+    requires { ⌜ (n ≤ 128) × (t ≤ 64) × (m ≤ 16) × (14 * count ≤ 65536) × (14 * count ≤ length (now rows)) ⌝ }
+    requires { ⌜ FewTerms count (now rows) ⌝ }
+    ensures { λ r. ⌜ Put 0 (headText count ((m + n) * t) ++ rowsText 0 (rowsIn count (now (rows .entry)))) (now (out .entry)) (now (out .exit)) r × (r ≤ 160000) ⌝ }
+{
+    let next = rowtext::put_head(out, count, (m + n) * t);
+    rowtext::put_rows(out, next, count, rows)
+}
+
+// The rows of a table of `n` nodes, written to `rows` first.
+fn list_rows(
+    table: &[u8],
+    n: usize,
+    t: usize,
+    m: usize,
+    rows: &mut [u8],
+    out: &mut [u8; 160000],
+) -> usize
+    requires { ⌜ (n ≤ 128) × (length (now rows) ≡ 65536) ⌝ }
+    ensures { λ r. ⌜ Put 0 (printed (rowsThen t m n (rowsOutcome t m (now (table .entry)) 65536))) (now (out .entry)) (now (out .exit)) r × (r ≤ 160000) ⌝ }
+{
+    match rows::write_rows(table, t, m, rows) {
+        answers::Answer::Refused(refusal) => put_refusal(out, refusal),
+        answers::Answer::Value(count) => {
+            let end = 14 * count;
+            put_listing(&rows[..end], count, n, t, m, out)
+        }
+    }
+}
+
 // The rows of a table of `n` nodes.
-fn list_rows(table: &[u8], n: usize, t: usize, m: usize, out: &mut [u8; 160000]) -> usize
+fn list_table(table: &[u8], n: usize, t: usize, m: usize, out: &mut [u8; 160000]) -> usize
     requires { ⌜ n ≤ 128 ⌝ }
     ensures { λ r. ⌜ Put 0 (printed (rowsThen t m n (rowsOutcome t m (now (table .entry)) 65536))) (now (out .entry)) (now (out .exit)) r × (r ≤ 160000) ⌝ }
 {
     let mut rows = [0u8; 65536];
-    match rows::write_rows(table, t, m, &mut rows) {
-        answers::Answer::Refused(refusal) => put_refusal(out, refusal),
-        answers::Answer::Value(count) => {
-            let next = rowtext::put_head(out, count, (m + n) * t);
-            let end = 14 * count;
-            rowtext::put_rows(out, next, count, &rows[..end])
-        }
-    }
+    list_rows(table, n, t, m, &mut rows, out)
 }
 
 // The rows of a rule, or the lowest refusal.
@@ -50,7 +77,7 @@ fn list(text: &[u8], t: usize, m: usize, out: &mut [u8; 160000]) -> usize
         answers::Answer::Refused(refusal) => put_refusal(out, refusal),
         answers::Answer::Value(n) => {
             let end = 5 * n;
-            list_rows(&table[..end], n, t, m, out)
+            list_table(&table[..end], n, t, m, out)
         }
     }
 }

@@ -21,10 +21,13 @@ bytesOf p = p .sign ∷ p .low ∷ p .high ∷ []
 abbrev pub noBytes : List ℕ
 noBytes = 0 ∷ 0 ∷ 0 ∷ []
 
+-- a record's bytes before its terms
+abbrev pub headBytes : (relation count right : ℕ) → List ℕ
+headBytes relation count right = 0x52 ∷ 0x57 ∷ relation ∷ count ∷ right ∷ []
+
 -- a record's bytes, given those of its parts
 abbrev pub recordBytes : (relation count right : ℕ) → (a b c : Packed) → List ℕ
-recordBytes relation count right a b c =
-    0x52 ∷ 0x57 ∷ relation ∷ count ∷ right ∷ (bytesOf a ++ (bytesOf b ++ bytesOf c))
+recordBytes relation count right a b c = headBytes relation count right ++ (bytesOf a ++ (bytesOf b ++ bytesOf c))
 
 module _ (row : Row) {relation right : ℕ} (x y z : Packed) (e : relation ≡ relationByte (relationOf (row .relation))) (f : right ≡ signedByte (row .right)) where
   pub single-bytes : {a : Term} → row .terms ≡ Single a → bytesOf x ≡ termBytes (termOf a) → bytesOf y ≡ noBytes → bytesOf z ≡ noBytes →

@@ -5,12 +5,13 @@ use row::Rows;
 use row::Term;
 use row::Terms;
 ghost use mathlib.Core.Path.{_≡_};
+ghost use mathlib.Core.List.{_++_};
 ghost use Prim.Native.Nat.{_+_, _≤_};
 ghost use lib.ListN.{length};
 ghost use Rattle.lists.specs.Splice.{splice};
 ghost use Rattle.rules.specs.Rows.{relationByte, signedByte, termBytes};
 ghost use Rattle.row.specs.Meaning.{relationOf, termOf};
-ghost use Rattle.record.specs.Records.{bytesOf, noBytes, recordBytes, recordOf, recordsOf};
+ghost use Rattle.record.specs.Records.{bytesOf, noBytes, headBytes, recordBytes, recordOf, recordsOf};
 
 // The mark of a row record.
 const MARK: [u8; 2] = *b"RW";
@@ -63,6 +64,30 @@ fn unused() -> Packed
     }
 }
 
+// Writes a record's bytes before its terms from the place `at` on, and returns the next place.
+fn put_head(out: &mut [u8], at: usize, relation: u8, count: u8, right: u8) -> usize
+    requires { ⌜ at + 5 ≤ length (now out) ⌝ }
+    ensures { λ r. ⌜ (r ≡ at + 5) × (now (out .exit) ≡ splice at (headBytes relation count right) (now (out .entry))) ⌝ }
+{
+    out[at] = MARK[0];
+    out[at + 1] = MARK[1];
+    out[at + 2] = relation;
+    out[at + 3] = count;
+    out[at + 4] = right;
+    at + 5
+}
+
+// Writes a term's bytes from the place `at` on, and returns the next place.
+fn put_term(out: &mut [u8], at: usize, term: Packed) -> usize
+    requires { ⌜ at + 3 ≤ length (now out) ⌝ }
+    ensures { λ r. ⌜ (r ≡ at + 3) × (now (out .exit) ≡ splice at (bytesOf term) (now (out .entry))) ⌝ }
+{
+    out[at] = term.sign;
+    out[at + 1] = term.low;
+    out[at + 2] = term.high;
+    at + 3
+}
+
 // Writes the 14 bytes of a record from the place `at` on, and returns the next place.
 fn put_record(
     out: &mut [u8],
@@ -77,21 +102,10 @@ fn put_record(
     requires { ⌜ at + 14 ≤ length (now out) ⌝ }
     ensures { λ r. ⌜ (r ≡ at + 14) × (now (out .exit) ≡ splice at (recordBytes relation count right a b c) (now (out .entry))) ⌝ }
 {
-    out[at] = MARK[0];
-    out[at + 1] = MARK[1];
-    out[at + 2] = relation;
-    out[at + 3] = count;
-    out[at + 4] = right;
-    out[at + 5] = a.sign;
-    out[at + 6] = a.low;
-    out[at + 7] = a.high;
-    out[at + 8] = b.sign;
-    out[at + 9] = b.low;
-    out[at + 10] = b.high;
-    out[at + 11] = c.sign;
-    out[at + 12] = c.low;
-    out[at + 13] = c.high;
-    at + 14
+    let first = put_head(out, at, relation, count, right);
+    let second = put_term(out, first, a);
+    let third = put_term(out, second, b);
+    put_term(out, third, c)
 }
 
 // Writes a row's record from the place `at` on, and returns the next place.
@@ -119,6 +133,16 @@ pub fn put_row(out: &mut [u8], at: usize, row: Row) -> usize
     }
 }
 
+// Writes the records of three rows from the place `at` on, and returns the next place.
+fn put_three(out: &mut [u8], at: usize, a: Row, b: Row, c: Row) -> usize
+    requires { ⌜ at + 42 ≤ length (now out) ⌝ }
+    ensures { λ r. ⌜ (r ≡ at + 42) × (now (out .exit) ≡ splice at ((recordOf a ++ recordOf b) ++ recordOf c) (now (out .entry))) ⌝ }
+{
+    let second = put_row(out, at, a);
+    let third = put_row(out, second, b);
+    put_row(out, third, c)
+}
+
 // Writes the records of rows from the place `at` on, and returns the next place.
 pub fn put_rows(out: &mut [u8], at: usize, rows: Rows) -> usize
     requires { ⌜ at + length (recordsOf rows) ≤ length (now out) ⌝ }
@@ -126,16 +150,10 @@ pub fn put_rows(out: &mut [u8], at: usize, rows: Rows) -> usize
 {
     match rows {
         Rows::One(a) => put_row(out, at, a),
-        Rows::Three(a, b, c) => {
-            let second = put_row(out, at, a);
-            let third = put_row(out, second, b);
-            put_row(out, third, c)
-        }
+        Rows::Three(a, b, c) => put_three(out, at, a, b, c),
         Rows::Four(a, b, c, d) => {
-            let second = put_row(out, at, a);
-            let third = put_row(out, second, b);
-            let fourth = put_row(out, third, c);
-            put_row(out, fourth, d)
+            let next = put_three(out, at, a, b, c);
+            put_row(out, next, d)
         }
     }
 }

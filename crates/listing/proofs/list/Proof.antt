@@ -59,8 +59,8 @@ array-share-prefix-table c =
     let k = table-ready (s .args .m) (s .args .text .now) l (w .result) (n .0 .0) (w .ensures .0) (w .ensures .1) (n .1) in
     k .table .holds
 
-slice-aggregate-list-rows : tie.Need-slice-aggregate-list-rows
-slice-aggregate-list-rows c =
+slice-aggregate-list-table : tie.Need-slice-aggregate-list-table
+slice-aggregate-list-table c =
     let s = c .before .before .before .before .before .before .before .before .before .before in
     let w = c .before .before .before .before .before .read in
     let n = c .before .before .n .given in
@@ -68,8 +68,8 @@ slice-aggregate-list-rows c =
     let k = table-ready (s .args .m) (s .args .text .now) l (w .result) (n .0 .0) (w .ensures .0) (w .ensures .1) (n .1) in
     sym (length-take-le (5 * n .0 .0) l (k .table .holds))
 
-list-rows-requires : tie.Need-list-rows-requires
-list-rows-requires c κs =
+list-table-requires : tie.Need-list-table-requires
+list-table-requires c κs =
     let s = c .before .before .before .before .before .before .before .before .before .before .before in
     let w = c .before .before .before .before .before .before .read in
     let n = c .before .before .before .n .given in
@@ -94,7 +94,7 @@ returns-4 c =
     let n = c .before .before .before .before .n .given in
     let l = w .last .1 .1 .0 in
     let k = table-ready (s .args .m) (s .args .text .now) l (w .result) (n .0 .0) (w .ensures .0) (w .ensures .1) (n .1) in
-    let p = c .list-rows .ensures in (
+    let p = c .list-table .ensures in (
       rw (listing-rows (s .args .t) (s .args .m) (n .0 .0) (s .args .text .now) l (c .before .before .before .before .before .before .before .before .before .before .if1 .left) (c .before .before .before .before .before .before .before .before .before .if2 .left) k) (p .0),
       p .1,
     )
@@ -114,7 +114,7 @@ list-spec =
     enum-known-n
     mul-end
     array-share-prefix-table
-    slice-aggregate-list-rows
-    list-rows-requires
+    slice-aggregate-list-table
+    list-table-requires
     returns-3
     returns-4)

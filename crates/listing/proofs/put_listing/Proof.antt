@@ -1,0 +1,33 @@
+-- `listing::put_listing` meets its contract: the rows straight after the head. Assumes nothing.
+use native.Mathlib.Omega.{arith}
+use Rattle.rowtext.specs.Put.{also}
+use Rattle.listing.specs.Outcomes.{variables-few}
+use borrow.Author.Needs.{needs}
+use Rattle.listing.proofs.put_listing.Statement.{statement}
+use Rattle.listing.proofs.put_listing.Tie as tie
+
+add-put-head : tie.Need-add-put-head
+add-put-head c = search needs
+
+mul-put-head : tie.Need-mul-put-head
+mul-put-head c =
+    let s = c .before .before in
+    omega (arith, variables-few (s .args .t) (s .args .m) (s .args .n) (s .pre .0 .1) (s .pre .0 .2) (s .pre .0 .0))
+
+put-head-requires : tie.Need-put-head-requires
+put-head-requires c κs =
+    let s = c .before .before in
+    (omega arith, variables-few (s .args .t) (s .args .m) (s .args .n) (s .pre .0 .1) (s .pre .0 .2) (s .pre .0 .0))
+
+put-rows-requires : tie.Need-put-rows-requires
+put-rows-requires c κs = search needs
+
+returns : tie.Need-returns
+returns c =
+    let p = c .before .before .put-head .ensures in
+    let q = c .put-rows .ensures in
+    (also (p .0) (q .0), omega (arith, p .1, q .1))
+
+pub put-listing-spec : {M : Type 1} → statement M
+put-listing-spec =
+    tie.close (tie.spec add-put-head mul-put-head put-head-requires put-rows-requires returns)
