@@ -1,7 +1,7 @@
 -- `judge::atoms_verdict` meets its contract. An atom that is not binary is found, or none. Assumes nothing.
 use mathlib.Core.Path.{sym, ap, _∙_}
 use borrow.Author.Needs.{needs}
-use Rattle.judge.specs.Searches.{found}
+use Rattle.limits.specs.Tests.{found}
 use Rattle.judge.specs.Parts.{atoms-found, atoms-clear}
 use Rattle.judge.proofs.atoms_verdict.Statement.{statement}
 use Rattle.judge.proofs.atoms_verdict.Tie as tie
