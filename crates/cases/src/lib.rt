@@ -1,10 +1,6 @@
-// Cases written as lines: their parts, numbers and bytes, and the buffers that are lent to the calls.
-mod pattern;
+// Cases written as lines: their parts, numbers and bytes.
 mod values;
 
-pub use pattern::fill;
-pub use pattern::is_kept;
-pub use pattern::starts_with;
 pub use values::Figure;
 pub use values::Filled;
 pub use values::Number;

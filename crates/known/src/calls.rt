@@ -26,12 +26,12 @@ fn is_name(line: &[u8], name: &[u8]) -> bool {
     if first.len() != name.len() {
         return false;
     }
-    cases::starts_with(first, name)
+    pattern::starts_with(first, name)
 }
 
 // The call that a line names.
 pub fn call_of(line: &[u8]) -> u8 {
-    if cases::starts_with(line, b"#") {
+    if pattern::starts_with(line, b"#") {
         return NOTE;
     }
     if is_name(line, b"read") {
@@ -122,10 +122,10 @@ fn is_output(out: &[u8], line: &[u8], k: usize) -> bool {
         return false;
     }
     let n = filled.count;
-    if !cases::starts_with(out, &bytes[0..n]) {
+    if !pattern::starts_with(out, &bytes[0..n]) {
         return false;
     }
-    cases::is_kept(out, n)
+    pattern::is_kept(out, n)
 }
 
 // How many bytes the reader writes.
@@ -159,7 +159,7 @@ fn read_agrees(line: &[u8]) -> bool {
 
 // Fills the buffer, lends its first `room` bytes, and looks at all of it after the call; so do the two below.
 fn read_lends(line: &[u8], m: usize, room: usize, text: &[u8], out: &mut [u8]) -> bool {
-    cases::fill(out);
+    pattern::fill(out);
     if out.len() < room {
         return false;
     }
@@ -167,7 +167,7 @@ fn read_lends(line: &[u8], m: usize, room: usize, text: &[u8], out: &mut [u8]) -
     if !is_told(answer, line, 3, b'n') {
         return false;
     }
-    cases::is_kept(out, table_size(answer))
+    pattern::is_kept(out, table_size(answer))
 }
 
 // evaluate T M ROOM ANSWER RUN TRUTH TABLE
@@ -197,7 +197,7 @@ fn evaluate_agrees(line: &[u8]) -> bool {
 
 fn evaluate_lends(line: &[u8], head: Head, table: &[u8], run: &[u16], out: &mut [u8]) -> bool {
     let room = head.room;
-    cases::fill(out);
+    pattern::fill(out);
     if out.len() < room {
         return false;
     }
@@ -229,7 +229,7 @@ fn rows_agrees(line: &[u8]) -> bool {
 
 fn rows_lends(line: &[u8], head: Head, table: &[u8], out: &mut [u8]) -> bool {
     let room = head.room;
-    cases::fill(out);
+    pattern::fill(out);
     if out.len() < room {
         return false;
     }

@@ -90,11 +90,11 @@ fn ends_with_goal(rows: &[u8]) -> bool {
         return false;
     }
     let last = rows.len() - 14;
-    cases::starts_with(&rows[last..], b"RW\x02\x01\x01\x01\xc0\x23\0\0\0\0\0\0")
+    pattern::starts_with(&rows[last..], b"RW\x02\x01\x01\x01\xc0\x23\0\0\0\0\0\0")
 }
 
 fn rows_refused(table: &[u8], room: usize, out: &mut [u8]) -> bool {
-    cases::fill(out);
+    pattern::fill(out);
     if out.len() < room {
         return false;
     }
@@ -102,11 +102,11 @@ fn rows_refused(table: &[u8], room: usize, out: &mut [u8]) -> bool {
     if !is_refusal(answer, 11) {
         return false;
     }
-    cases::is_kept(out, 0)
+    pattern::is_kept(out, 0)
 }
 
 fn rows_written(table: &[u8], room: usize, count: usize, out: &mut [u8]) -> bool {
-    cases::fill(out);
+    pattern::fill(out);
     if out.len() < room {
         return false;
     }
@@ -117,11 +117,11 @@ fn rows_written(table: &[u8], room: usize, count: usize, out: &mut [u8]) -> bool
     if !ends_with_goal(&out[0..room]) {
         return false;
     }
-    cases::is_kept(out, room)
+    pattern::is_kept(out, room)
 }
 
 fn truths_refused(table: &[u8], run: &[u16], room: usize, out: &mut [u8]) -> bool {
-    cases::fill(out);
+    pattern::fill(out);
     if out.len() < room {
         return false;
     }
@@ -129,11 +129,11 @@ fn truths_refused(table: &[u8], run: &[u16], room: usize, out: &mut [u8]) -> boo
     if !is_refusal(answer, 11) {
         return false;
     }
-    cases::is_kept(out, 0)
+    pattern::is_kept(out, 0)
 }
 
 fn truths_written(table: &[u8], run: &[u16], room: usize, out: &mut [u8]) -> bool {
-    cases::fill(out);
+    pattern::fill(out);
     if out.len() < room {
         return false;
     }
@@ -144,7 +144,7 @@ fn truths_written(table: &[u8], run: &[u16], room: usize, out: &mut [u8]) -> boo
     if !are_truths(&out[0..room]) {
         return false;
     }
-    cases::is_kept(out, room)
+    pattern::is_kept(out, room)
 }
 
 // Each call is refused with one byte too few, and writes with just enough.

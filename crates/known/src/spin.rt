@@ -77,14 +77,14 @@ fn evaluate_agrees(
         return false;
     }
     let from = end - t;
-    cases::fill(out);
+    pattern::fill(out);
     if out.len() < end {
         return false;
     }
     let Answer::Value(value) = evaluator::evaluate(table, t, m, run, &mut out[0..end]) else {
         return false;
     };
-    if !cases::is_kept(out, end) {
+    if !pattern::is_kept(out, end) {
         return false;
     }
     root_agrees(line, &out[from..end], value)
@@ -101,7 +101,7 @@ fn root_agrees(line: &[u8], root: &[u8], value: usize) -> bool {
 fn read_agrees(line: &[u8], t: usize, m: usize, run: &[u16], table: &mut [u8]) -> bool
     requires { ⌜ t ≤ 64 ⌝ }
 {
-    cases::fill(table);
+    pattern::fill(table);
     if table.len() < 640 {
         return false;
     }
@@ -112,7 +112,7 @@ fn read_agrees(line: &[u8], t: usize, m: usize, run: &[u16], table: &mut [u8]) -
         return false;
     }
     let size = 5 * n;
-    if !cases::is_kept(table, size) {
+    if !pattern::is_kept(table, size) {
         return false;
     }
     let mut out = [0u8; ROOM];
