@@ -1,6 +1,8 @@
 // Numbers, lists of numbers and bytes in hexadecimal.
+ghost use mathlib.Core.Path.{_≡_};
 ghost use Prim.Native.Nat.{_≤_};
 ghost use lib.ListN.{length};
+ghost use Rattle.cases.specs.Decimal.{grownBy, decimalOf, isAnswer};
 use crate::part;
 use crate::parts;
 
@@ -36,7 +38,9 @@ impl Filled {
 }
 
 // The number with one digit more; LIMIT or more where that is none.
-fn grown(value: usize, byte: u8) -> usize {
+fn grown(value: usize, byte: u8) -> usize
+    ensures { λ r. ⌜ r ≡ grownBy value byte ⌝ }
+{
     if LIMIT <= value {
         return LIMIT;
     }
@@ -50,7 +54,9 @@ fn grown(value: usize, byte: u8) -> usize {
 }
 
 // A decimal number.
-pub fn decimal(text: &[u8]) -> Number {
+pub fn decimal(text: &[u8]) -> Number
+    ensures { λ r. ⌜ r ≡ decimalOf (now (text .entry)) ⌝ }
+{
     let mut value: usize = 0;
     let mut i: usize = 0;
     while i < text.len() {
@@ -67,7 +73,9 @@ pub fn decimal(text: &[u8]) -> Number {
 }
 
 // Whether the text is the letter and the number n.
-pub fn is_answer(text: &[u8], letter: u8, n: usize) -> bool {
+pub fn is_answer(text: &[u8], letter: u8, n: usize) -> bool
+    ensures { λ r. ⌜ r ≡ isAnswer (now (text .entry)) letter n ⌝ }
+{
     if text.len() == 0 {
         return false;
     }
