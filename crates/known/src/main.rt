@@ -1,8 +1,4 @@
 // Runs the scope paper's examples, its limits and a second evaluator's vectors through the calls, and prints what differs.
-mod calls;
-mod largest;
-mod spin;
-
 use libc::STDOUT_FILENO;
 ghost use Prim.Native.Nat.{_≤_};
 ghost use lib.ListN.{length};
@@ -29,9 +25,9 @@ fn run_call(text: &[u8], call: u8, name: &[u8]) {
     while at < text.len() {
         let end = cases::end(text, at, b'\n');
         let line = &text[at..end];
-        if calls::call_of(line) == call {
+        if lines::call_of(line) == call {
             lines = std::num::wrapping_add_u64(lines, 1);
-            if !calls::agrees(line, call) {
+            if !lines::agrees(line, call) {
                 differ = std::num::wrapping_add_u64(differ, 1);
                 print_line(b"lines.txt", number);
             }
@@ -57,8 +53,8 @@ fn run_vectors(text: &[u8]) {
         let end = cases::end(text, at, b'\n');
         let line = &text[at..end];
         number = std::num::wrapping_add_u64(number, 1);
-        truths = std::num::wrapping_add_u64(truths, spin::asked(line));
-        if !spin::agrees(line) {
+        truths = std::num::wrapping_add_u64(truths, vectors::asked(line));
+        if !vectors::agrees(line) {
             differ = std::num::wrapping_add_u64(differ, 1);
             print_line(b"spin.txt", number);
         }
@@ -87,13 +83,17 @@ fn load(name: &[u8], into: &mut [u8]) -> usize
     if n < into.len() { n } else { 0 }
 }
 
+fn run_calls(text: &[u8]) {
+    run_call(text, lines::READ, b"read");
+    run_call(text, lines::EVALUATE, b"evaluate");
+    run_call(text, lines::ROWS, b"rows");
+    run_call(text, lines::JUDGE, b"judge");
+    run_call(text, lines::OTHER, b"other");
+}
+
 fn run_lines(text: &mut [u8]) {
     let n = load(b"lines.txt", text);
-    run_call(&text[0..n], calls::READ, b"read");
-    run_call(&text[0..n], calls::EVALUATE, b"evaluate");
-    run_call(&text[0..n], calls::ROWS, b"rows");
-    run_call(&text[0..n], calls::JUDGE, b"judge");
-    run_call(&text[0..n], calls::OTHER, b"other");
+    run_calls(&text[0..n]);
 }
 
 fn run_spin(text: &mut [u8]) {

@@ -23,7 +23,14 @@ fn put_refusal(out: &mut [u8; 160000], refusal: answers::Refusal) -> usize
 }
 
 // The listing of `count` row records of a table of `n` nodes.
-fn put_listing(rows: &[u8], count: usize, n: usize, t: usize, m: usize, out: &mut [u8; 160000]) -> usize
+fn put_listing(
+    rows: &[u8],
+    count: usize,
+    n: usize,
+    t: usize,
+    m: usize,
+    out: &mut [u8; 160000],
+) -> usize
     requires { ⌜ (n ≤ 128) × (t ≤ 64) × (m ≤ 16) × (14 * count ≤ 65536) × (14 * count ≤ length (now rows)) ⌝ }
     requires { ⌜ FewTerms count (now rows) ⌝ }
     ensures { λ r. ⌜ Put 0 (headText count ((m + n) * t) ++ rowsText 0 (rowsIn count (now (rows .entry)))) (now (out .entry)) (now (out .exit)) r × (r ≤ 160000) ⌝ }

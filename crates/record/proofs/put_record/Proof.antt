@@ -21,11 +21,10 @@ same-length : tie.Need-same-length
 same-length c = search needs
 
 returns : tie.Need-returns
-returns c =
-    (
-      omega arith,
-      splice-then _ _ _ _ _ _ _ (splice-then _ _ _ _ _ _ _ (splice-then _ _ _ _ _ _ _ (c .before .before .before .before .before .before .before .before .before .before .before .before .before .before .put-head .ensures .1) (c .before .before .before .before .before .before .before .before .before .before .put-term .ensures .1) (omega arith) (omega arith)) (c .before .before .before .before .before .before .put-term2 .ensures .1) (omega arith) (omega arith)) (c .before .before .put-term3 .ensures .1) (omega arith) (omega arith),
-    )
+returns c = (
+  omega arith,
+  splice-then _ _ _ _ _ _ _ (splice-then _ _ _ _ _ _ _ (splice-then _ _ _ _ _ _ _ (c .before .before .before .before .before .before .before .before .before .before .before .before .before .before .put-head .ensures .1) (c .before .before .before .before .before .before .before .before .before .before .put-term .ensures .1) (omega arith) (omega arith)) (c .before .before .before .before .before .before .put-term2 .ensures .1) (omega arith) (omega arith)) (c .before .before .put-term3 .ensures .1) (omega arith) (omega arith),
+)
 
 pub put-record-spec : {M : Type 1} → statement M
 put-record-spec =

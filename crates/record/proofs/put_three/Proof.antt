@@ -20,11 +20,10 @@ same-length : tie.Need-same-length
 same-length c = search needs
 
 returns : tie.Need-returns
-returns c =
-    (
-      omega arith,
-      splice-then _ _ _ _ _ _ _ (splice-then _ _ _ _ _ _ _ (c .before .before .before .before .before .before .before .before .before .before .put-row .ensures .1) (c .before .before .before .before .before .before .put-row2 .ensures .1) (rw length-record (omega arith)) (omega arith)) (c .before .before .put-row3 .ensures .1) (simp (length-append, length-record) (omega arith)) (omega arith),
-    )
+returns c = (
+  omega arith,
+  splice-then _ _ _ _ _ _ _ (splice-then _ _ _ _ _ _ _ (c .before .before .before .before .before .before .before .before .before .before .put-row .ensures .1) (c .before .before .before .before .before .before .put-row2 .ensures .1) (rw length-record (omega arith)) (omega arith)) (c .before .before .put-row3 .ensures .1) (simp (length-append, length-record) (omega arith)) (omega arith),
+)
 
 pub put-three-spec : {M : Type 1} → statement M
 put-three-spec =

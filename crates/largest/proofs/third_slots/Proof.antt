@@ -1,8 +1,8 @@
 -- Safe, and ends.
 use Prim.Native.Nat.{_-_, _≤_}
 use borrow.Author.Needs.{needs}
-use Rattle.known.proofs.largest.third_slots.Statement.{statement}
-use Rattle.known.proofs.largest.third_slots.Tie as tie
+use Rattle.largest.proofs.third_slots.Statement.{statement}
+use Rattle.largest.proofs.third_slots.Tie as tie
 
 abbrev Inv-loop : tie.InvT-loop
 Inv-loop run₀ s₀ run s = s ≤ 64

@@ -1,8 +1,8 @@
 -- Safe, and ends.
 use Prim.Native.Nat.{_-_, _≤_}
 use borrow.Author.Needs.{needs}
-use Rattle.known.proofs.largest.chain.Statement.{statement}
-use Rattle.known.proofs.largest.chain.Tie as tie
+use Rattle.largest.proofs.chain.Statement.{statement}
+use Rattle.largest.proofs.chain.Tie as tie
 
 abbrev Inv-loop : tie.InvT-loop
 Inv-loop table₀ n₀ table n = (1 ≤ n) × (n ≤ 128)

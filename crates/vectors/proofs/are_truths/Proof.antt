@@ -2,8 +2,8 @@
 use Prim.Native.Nat.{_-_, _≤_}
 use borrow.Author.Needs.{needs}
 use lib.ListN.{length}
-use Rattle.known.proofs.spin.are_truths.Statement.{statement}
-use Rattle.known.proofs.spin.are_truths.Tie as tie
+use Rattle.vectors.proofs.are_truths.Statement.{statement}
+use Rattle.vectors.proofs.are_truths.Tie as tie
 
 abbrev Inv-loop : tie.InvT-loop
 Inv-loop root bits i₀ i = i ≤ length bits

@@ -1,8 +1,8 @@
 -- At most 128 nodes at 64 slots.
 use native.Mathlib.Nat.{mul-le-mul}
 use native.Mathlib.Omega.{arith}
-use Rattle.known.proofs.spin.product.Statement.{statement}
-use Rattle.known.proofs.spin.product.Tie as tie
+use Rattle.vectors.proofs.product.Statement.{statement}
+use Rattle.vectors.proofs.product.Tie as tie
 
 mul-result : tie.Need-mul-result
 mul-result c = omega (arith, mul-le-mul (c .pre .0) (c .pre .1))

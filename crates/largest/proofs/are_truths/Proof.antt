@@ -1,18 +1,15 @@
 -- Safe, and ends.
-use Prim.Native.Nat.{_-_}
+use Prim.Native.Nat.{_-_, _≤_}
 use borrow.Author.Needs.{needs}
 use lib.ListN.{length}
-use Rattle.known.proofs.spin.asked.Statement.{statement}
-use Rattle.known.proofs.spin.asked.Tie as tie
+use Rattle.largest.proofs.are_truths.Statement.{statement}
+use Rattle.largest.proofs.are_truths.Tie as tie
 
 abbrev Inv-loop : tie.InvT-loop
-Inv-loop line bits n₀ i₀ n i = Unit {0}
+Inv-loop out i₀ i = i ≤ length out
 
 abbrev μ-loop : tie.MeasureT-loop
-μ-loop line bits n₀ i₀ n i = length bits - i
-
-part-requires : tie.Need-part-requires Inv-loop μ-loop
-part-requires c κs = search needs
+μ-loop out i₀ i = length out - i
 
 loop-holds : tie.Need-loop-holds Inv-loop μ-loop
 loop-holds c = search needs
@@ -20,8 +17,11 @@ loop-holds c = search needs
 shared-slice-read-if1 : tie.Need-shared-slice-read-if1 Inv-loop μ-loop
 shared-slice-read-if1 c = search needs
 
-wrapping-add-u64-requires : tie.Need-wrapping-add-u64-requires Inv-loop μ-loop
-wrapping-add-u64-requires c κs = search needs
+truth-requires : tie.Need-truth-requires Inv-loop μ-loop
+truth-requires c κs = search needs
+
+returns : tie.Need-returns Inv-loop μ-loop
+returns c = search needs
 
 add-i : tie.Need-add-i Inv-loop μ-loop
 add-i c = search needs
@@ -32,20 +32,20 @@ loop-less c = search needs
 loop-again : tie.Need-loop-again Inv-loop μ-loop
 loop-again c = search needs
 
-returns : tie.Need-returns Inv-loop μ-loop
-returns c = search needs
+returns-2 : tie.Need-returns-2 Inv-loop μ-loop
+returns-2 c = search needs
 
-pub asked-spec : {M : Type 1} → statement M
-asked-spec =
+pub are-truths-spec : {M : Type 1} → statement M
+are-truths-spec =
     tie.close
     (tie.spec
     Inv-loop
     μ-loop
-    part-requires
     loop-holds
     shared-slice-read-if1
-    wrapping-add-u64-requires
+    truth-requires
+    returns
     add-i
     loop-less
     loop-again
-    returns)
+    returns-2)
