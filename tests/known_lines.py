@@ -8,10 +8,8 @@ The cases and what is expected of them are written down below; this script only 
 evaluates and judges nothing.
 """
 
-import sys
-from pathlib import Path
+from data_file import write_or_check
 
-TARGET = Path(__file__).resolve().parent.parent / "crates" / "known" / "data" / "lines.txt"
 LINES = []
 
 HEAD = """\
@@ -491,16 +489,9 @@ def main():
     writing_rows()
     judging()
     of_the_reference()
-    content = "".join(line + "\n" for line in LINES)
-    if sys.argv[1:] == ["--check"]:
-        if TARGET.read_text() != content:
-            sys.exit(f"{TARGET.name} differs from what this script makes")
-        print(f"{TARGET.name} is what this script makes")
-    else:
-        TARGET.parent.mkdir(parents=True, exist_ok=True)
-        TARGET.write_text(content)
-        cases = [line for line in LINES if not line.startswith("#")]
-        print(f"{len(cases)} cases, longest line {max(map(len, LINES))} bytes")
+    write_or_check("lines.txt", "".join(line + "\n" for line in LINES))
+    cases = [line for line in LINES if not line.startswith("#")]
+    print(f"{len(cases)} cases, longest line {max(map(len, LINES))} bytes")
 
 
 if __name__ == "__main__":

@@ -32,12 +32,13 @@ import tempfile
 from collections import Counter
 from pathlib import Path
 
+from data_file import write_or_check
+
 SEED = 20261115
 TREES_PER_RUN = 8
 CHAINS = ("U", ">", ">|&U")  # the operators of three more rules for each run, without brackets
 LARGEST_DEPTH = 6
 MOST_WEIGHT = 6  # SPIN's automata grow fast with the number of F, G and U
-TARGET = Path(__file__).resolve().parent.parent / "crates" / "known" / "data" / "spin.txt"
 
 # A tree is ("a", number), (operator, child) or (operator, left, right).
 SINGLE = "!FG"
@@ -231,14 +232,7 @@ def main():
         print(f"{title}: " + ", ".join(f"{key} {counts[key]}" for key in sorted(counts)))
     assert len(lines) >= 300 and set(kinds) == set("a" + SINGLE + DOUBLE) and min(kinds.values()) >= 40
     assert set(depths) == set(range(1, LARGEST_DEPTH + 1)) and {1, 64} <= set(horizons) and {1, 16} <= set(atom_counts)
-    content = "".join(lines)
-    if sys.argv[1:] == ["--check"]:
-        if TARGET.read_text() != content:
-            sys.exit(f"{TARGET.name} differs from what SPIN gives")
-        print(f"{TARGET.name} is what SPIN gives")
-    else:
-        TARGET.parent.mkdir(parents=True, exist_ok=True)
-        TARGET.write_text(content)
+    write_or_check("spin.txt", "".join(lines))
 
 
 if __name__ == "__main__":

@@ -1,0 +1,17 @@
+"""A file of crates/known/data, written by a script, or with --check compared with what the script makes."""
+
+import sys
+from pathlib import Path
+
+FOLDER = Path(__file__).resolve().parent.parent / "crates" / "known" / "data"
+
+
+def write_or_check(name, content):
+    target = FOLDER / name
+    if sys.argv[1:] != ["--check"]:
+        target.parent.mkdir(parents=True, exist_ok=True)
+        target.write_text(content)
+    elif target.read_text() != content:
+        sys.exit(f"{name} differs from what this script makes")
+    else:
+        print(f"{name} is what this script makes")
