@@ -5,7 +5,6 @@ use row::Rows;
 use row::Term;
 use row::Terms;
 ghost use mathlib.Core.Path.{_≡_};
-ghost use mathlib.Core.List.{_++_};
 ghost use Prim.Native.Nat.{_+_, _≤_};
 ghost use lib.ListN.{length};
 ghost use Rattle.lists.specs.Splice.{splice};
@@ -133,16 +132,6 @@ pub fn put_row(out: &mut [u8], at: usize, row: Row) -> usize
     }
 }
 
-// Writes the records of three rows from the place `at` on, and returns the next place.
-fn put_three(out: &mut [u8], at: usize, a: Row, b: Row, c: Row) -> usize
-    requires { ⌜ at + 42 ≤ length (now out) ⌝ }
-    ensures { λ r. ⌜ (r ≡ at + 42) × (now (out .exit) ≡ splice at ((recordOf a ++ recordOf b) ++ recordOf c) (now (out .entry))) ⌝ }
-{
-    let second = put_row(out, at, a);
-    let third = put_row(out, second, b);
-    put_row(out, third, c)
-}
-
 // Writes the records of rows from the place `at` on, and returns the next place.
 pub fn put_rows(out: &mut [u8], at: usize, rows: Rows) -> usize
     requires { ⌜ at + length (recordsOf rows) ≤ length (now out) ⌝ }
@@ -150,10 +139,16 @@ pub fn put_rows(out: &mut [u8], at: usize, rows: Rows) -> usize
 {
     match rows {
         Rows::One(a) => put_row(out, at, a),
-        Rows::Three(a, b, c) => put_three(out, at, a, b, c),
+        Rows::Three(a, b, c) => {
+            let second = put_row(out, at, a);
+            let third = put_row(out, second, b);
+            put_row(out, third, c)
+        }
         Rows::Four(a, b, c, d) => {
-            let next = put_three(out, at, a, b, c);
-            put_row(out, next, d)
+            let second = put_row(out, at, a);
+            let third = put_row(out, second, b);
+            let fourth = put_row(out, third, c);
+            put_row(out, fourth, d)
         }
     }
 }
