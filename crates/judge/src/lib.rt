@@ -10,7 +10,8 @@ ghost use Rattle.rules.specs.TableTest.{recordCount, nodesIn};
 ghost use Rattle.rules.specs.Outcome.{judgeOutcome};
 ghost use Rattle.rules.specs.Verdicts as Verdicts;
 ghost use Rattle.table.specs.Checks.{Ready};
-ghost use Rattle.judge.specs.Ruled.{verdictOf, ruled, tolerated, counted};
+ghost use Rattle.judge.specs.Ruled.{verdictOf, ruled};
+ghost use Rattle.judge.specs.Checks.{tolerated, counted};
 ghost use Rattle.judge.specs.Parts.{rowsVerdict, atomsVerdict};
 
 pub enum Verdict {

@@ -1,7 +1,7 @@
 -- `demands::evaluate` meets its contract: demands 1 and 2, from the contract of `evaluator::evaluate`.
 use Rattle.answers.specs.Told.{told}
-use Rattle.demands.specs.Demand1.{evaluator-refuses}
-use Rattle.demands.specs.Demand2.{evaluator-answers}
+use Rattle.demands.specs.Refusing.{evaluator-refuses}
+use Rattle.demands.specs.Answering.{evaluator-answers}
 use borrow.Author.Needs.{needs}
 use Rattle.demands.proofs.evaluate.Statement.{statement}
 use Rattle.demands.proofs.evaluate.Tie as tie

@@ -4,8 +4,8 @@ use lib.IntN.{ℤ}
 use mir.Facts.{toZ-ofZ}
 use Rattle.rules.specs.Outcome.{judgeOutcome}
 use Rattle.judge.specs.Ruled.{ruled}
-use Rattle.demands.specs.Demand1.{judge-refuses}
-use Rattle.demands.specs.Demand2.{judge-answers}
+use Rattle.demands.specs.Refusing.{judge-refuses}
+use Rattle.demands.specs.Answering.{judge-answers}
 use Rattle.demands.specs.Passing.{passed-means, passed-at-zero}
 use borrow.Author.Needs.{needs}
 use Rattle.demands.proofs.judge_figures.Statement.{statement}

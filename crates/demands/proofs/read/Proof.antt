@@ -1,7 +1,7 @@
 -- `demands::read` meets its contract: demands 1 and 2, from the contract of `reader::read`.
 use Rattle.answers.specs.Told.{told}
-use Rattle.demands.specs.Demand1.{reader-refuses}
-use Rattle.demands.specs.Demand2.{reader-answers}
+use Rattle.demands.specs.Refusing.{reader-refuses}
+use Rattle.demands.specs.Answering.{reader-answers}
 use borrow.Author.Needs.{needs}
 use Rattle.demands.proofs.read.Statement.{statement}
 use Rattle.demands.proofs.read.Tie as tie

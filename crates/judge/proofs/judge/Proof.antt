@@ -3,7 +3,7 @@ use mathlib.Core.Path.{refl, sym, ap, _∙_}
 use borrow.Author.Needs.{needs}
 use mir.Facts.{toZ-ofZ}
 use Rattle.table.specs.Checks.{ready}
-use Rattle.judge.specs.Ruled.{counted, judge-checked}
+use Rattle.judge.specs.Checks.{counted, judge-checked}
 use Rattle.judge.proofs.judge.Statement.{statement}
 use Rattle.judge.proofs.judge.Tie as tie
 

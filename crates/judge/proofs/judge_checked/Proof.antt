@@ -4,7 +4,7 @@ use borrow.Author.Needs.{needs}
 use lib.ListN.{length}
 use mir.Facts.{toZ-ofZ}
 use Rattle.rules.specs.TableTest.{nodesIn, length-nodesIn}
-use Rattle.judge.specs.Ruled.{tolerated, miscounted, well-counted}
+use Rattle.judge.specs.Checks.{tolerated, miscounted, well-counted}
 use Rattle.judge.proofs.judge_checked.Statement.{statement}
 use Rattle.judge.proofs.judge_checked.Tie as tie
 
