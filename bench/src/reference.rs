@@ -45,12 +45,27 @@ fn require(condition: bool, refusal: u32) -> Result<(), u32> {
 
 /// Reads a rule into `out` as a node table; the result is the number of nodes.
 pub fn read(text: &[u8], m: usize, out: &mut [u8]) -> Result<usize, u32> {
+    read_with::<false>(text, m, out)
+}
+
+/// The same by a function for each of the paper's five levels, as the proved reader does it: what that form costs.
+pub fn read_by_levels(text: &[u8], m: usize, out: &mut [u8]) -> Result<usize, u32> {
+    read_with::<true>(text, m, out)
+}
+
+fn read_with<const LEVELS: bool>(text: &[u8], m: usize, out: &mut [u8]) -> Result<usize, u32> {
     require((1..=MAX_ATOMS).contains(&m), 2)?;
     require(text.len() <= MAX_TEXT, 3)?;
-    let mut parser =
-        Parser { text, at: 0, atoms: m, atom_too_large: false, count: 0, records: [0; MAX_NODES * NODE_BYTES] };
+    let mut parser = Parser::<LEVELS> {
+        text,
+        at: 0,
+        atoms: m,
+        atom_too_large: false,
+        count: 0,
+        records: [0; MAX_NODES * NODE_BYTES],
+    };
     parser.skip_spaces();
-    parser.rule(LOOSEST).ok_or(4u32)?;
+    parser.rule().ok_or(4u32)?;
     require(parser.at == text.len(), 4)?;
     require(!parser.atom_too_large, 5)?;
     require(parser.count <= MAX_NODES, 6)?;
@@ -76,7 +91,7 @@ fn binary_operator(byte: u8) -> Option<(Binding, u8)> {
 
 /// A parser that counts the nodes beyond the table's end but does not keep them: the whole text must be
 /// seen before it is known which refusal applies.
-struct Parser<'a> {
+struct Parser<'a, const LEVELS: bool> {
     text: &'a [u8],
     at: usize,
     atoms: usize,
@@ -85,7 +100,7 @@ struct Parser<'a> {
     records: [u8; MAX_NODES * NODE_BYTES],
 }
 
-impl Parser<'_> {
+impl<const LEVELS: bool> Parser<'_, LEVELS> {
     fn peek(&self) -> Option<u8> {
         self.text.get(self.at).copied()
     }
@@ -102,18 +117,66 @@ impl Parser<'_> {
         self.skip_spaces();
     }
 
+    fn rule(&mut self) -> Option<usize> {
+        if LEVELS {
+            self.implies()
+        } else {
+            self.climb(LOOSEST)
+        }
+    }
+
     /// Operators that bind at least as tightly as `loosest`; each groups to the right.
-    fn rule(&mut self, loosest: Binding) -> Option<usize> {
+    fn climb(&mut self, loosest: Binding) -> Option<usize> {
         let mut left = self.single()?;
         while let Some((binding, kind)) = self.peek().and_then(binary_operator) {
             if binding < loosest {
                 break;
             }
             self.step();
-            let right = self.rule(binding)?;
+            let right = self.climb(binding)?;
             left = self.node(kind, left, right);
         }
         Some(left)
+    }
+
+    fn implies(&mut self) -> Option<usize> {
+        let left = self.or()?;
+        if self.peek() != Some(b'>') {
+            return Some(left);
+        }
+        self.step();
+        let right = self.implies()?;
+        Some(self.node(IMPLIES, left, right))
+    }
+
+    fn or(&mut self) -> Option<usize> {
+        let left = self.and()?;
+        if self.peek() != Some(b'|') {
+            return Some(left);
+        }
+        self.step();
+        let right = self.or()?;
+        Some(self.node(OR, left, right))
+    }
+
+    fn and(&mut self) -> Option<usize> {
+        let left = self.until()?;
+        if self.peek() != Some(b'&') {
+            return Some(left);
+        }
+        self.step();
+        let right = self.and()?;
+        Some(self.node(AND, left, right))
+    }
+
+    fn until(&mut self) -> Option<usize> {
+        let left = self.single()?;
+        if self.peek() != Some(b'U') {
+            return Some(left);
+        }
+        self.step();
+        let right = self.until()?;
+        Some(self.node(UNTIL, left, right))
     }
 
     fn single(&mut self) -> Option<usize> {
@@ -124,7 +187,7 @@ impl Parser<'_> {
             b'a' => return self.atom(),
             b'(' => {
                 self.step();
-                let inner = self.rule(LOOSEST)?;
+                let inner = self.rule()?;
                 if self.peek() != Some(b')') {
                     return None;
                 }

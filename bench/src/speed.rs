@@ -89,6 +89,10 @@ fn nanoseconds<const SIDES: usize>(rounds: &[[f64; SIDES]], side: usize) -> Stri
     format!("{:.0}", median(rounds.iter().map(|round| round[side]).collect()))
 }
 
+fn first_two(rounds: &[[f64; 3]]) -> Vec<[f64; 2]> {
+    rounds.iter().map(|&[rust, rattle, _]| [rust, rattle]).collect()
+}
+
 fn print_pair(call: &str, input: &str, rounds: &[[f64; 2]]) {
     println!(
         "| {call} | {input} | {} | {} | {} |",
@@ -104,6 +108,7 @@ pub fn run() {
     println!();
     println!("| call | input | Rust | Rattle | ratio | rounds |");
     println!("|---|---|---:|---:|---:|---|");
+    let mut levels = Vec::new();
     let mut copies = Vec::new();
     for Input { name, text, t, m } in inputs_of_three_sizes() {
         let mut table = vec![0; reference::MAX_NODES * reference::NODE_BYTES];
@@ -112,12 +117,16 @@ pub fn run() {
         let run = inputs::true_run(&table, t, m);
         let figures = inputs::solution(&table, t, m, &run);
         let label = format!("{name}: {nodes} nodes, {} bytes, T {t}, M {m}", text.len());
-        let (mut one, mut two) = (vec![0; table.len()], vec![0; table.len()]);
-        let rounds = measure([&mut || finish(reference::read(black_box(&text), m, black_box(&mut one))), &mut || {
-            finish(sepia::read(black_box(&text), m, black_box(&mut two)))
-        }]);
+        let (mut one, mut two, mut three) = (vec![0; table.len()], vec![0; table.len()], vec![0; table.len()]);
+        let rounds = measure([
+            &mut || finish(reference::read(black_box(&text), m, black_box(&mut one))),
+            &mut || finish(sepia::read(black_box(&text), m, black_box(&mut two))),
+            &mut || finish(reference::read_by_levels(black_box(&text), m, black_box(&mut three))),
+        ]);
         assert_eq!(one, two);
-        print_pair("read", &label, &rounds);
+        assert_eq!(one, three);
+        print_pair("read", &label, &first_two(&rounds));
+        levels.push(format!("| {label} | {} | {} |", nanoseconds(&rounds, 2), ratio(&rounds, 1, 2)));
 
         let (mut one, mut two) = (vec![0; nodes * t], vec![0; nodes * t]);
         let rounds = measure([
@@ -137,8 +146,7 @@ pub fn run() {
             &mut || black_box(&mut three).copy_from_slice(black_box(&source)),
         ]);
         assert_eq!(one, two);
-        let pair: Vec<[f64; 2]> = rounds.iter().map(|&[rust, rattle, _]| [rust, rattle]).collect();
-        print_pair("rows", &format!("{label}, {count} rows"), &pair);
+        print_pair("rows", &format!("{label}, {count} rows"), &first_two(&rounds));
         copies.push(format!(
             "| {name}: {count} rows, {bytes} bytes | {} | {} | {} |",
             nanoseconds(&rounds, 2),
@@ -155,6 +163,12 @@ pub fn run() {
             }]);
         print_pair("judge", &label, &rounds);
     }
+    println!();
+    println!("The reader beside one in Rust that has a function for each level of the grammar too:");
+    println!();
+    println!("| input | Rust by levels | Rattle over it | rounds |");
+    println!("|---|---:|---:|---|");
+    levels.iter().for_each(|line| println!("{line}"));
     println!();
     println!("The row writer beside a copy of its output (memcpy):");
     println!();

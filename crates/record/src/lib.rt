@@ -1,25 +1,25 @@
 // The records of rows.
 use row::Relation;
 use row::Row;
-use row::Rows;
 use row::Term;
 use row::Terms;
 ghost use mathlib.Core.Path.{_≡_};
-ghost use Prim.Native.Nat.{_+_, _≤_};
+ghost use mathlib.Core.List.{[], _∷_, _++_};
+ghost use Prim.Native.Nat.{_+_, _*_, _≤_, _<_};
 ghost use lib.ListN.{length};
 ghost use Rattle.lists.specs.Splice.{splice};
 ghost use Rattle.rules.specs.Rows.{relationByte, signedByte, termBytes};
 ghost use Rattle.row.specs.Meaning.{relationOf, termOf};
-ghost use Rattle.record.specs.Records.{bytesOf, noBytes, headBytes, recordBytes, recordOf, recordsOf};
+ghost use Rattle.record.specs.Words.{littleEndian, twoBytes};
+ghost use Rattle.record.specs.Records.{bytesOf, noBytes, headBytes, recordBytes, recordOf};
 
 // The mark of a row record.
 const MARK: [u8; 2] = *b"RW";
 
-// A term's three bytes.
+// A term's sign byte and variable.
 struct Packed {
     sign: u8,
-    low: u8,
-    high: u8,
+    variable: u16,
 }
 
 fn relation_byte(relation: Relation) -> u8
@@ -47,47 +47,95 @@ fn pack(t: Term) -> Packed
 {
     Packed {
         sign: signed_byte(t.coefficient),
-        low: (t.variable % 256) as u8,
-        high: (t.variable / 256) as u8,
+        variable: t.variable,
     }
 }
 
-// The bytes of an unused term.
+// An unused term.
 fn unused() -> Packed
     ensures { λ r. ⌜ bytesOf r ≡ noBytes ⌝ }
 {
     Packed {
         sign: 0,
-        low: 0,
-        high: 0,
+        variable: 0,
     }
 }
 
-// Writes a record's bytes before its terms from the place `at` on, and returns the next place.
-fn put_head(out: &mut [u8], at: usize, relation: u8, count: u8, right: u8) -> usize
-    requires { ⌜ at + 5 ≤ length (now out) ⌝ }
-    ensures { λ r. ⌜ (r ≡ at + 5) × (now (out .exit) ≡ splice at (headBytes relation count right) (now (out .entry))) ⌝ }
+// A word with one more byte, which comes before its others.
+fn grown(rest: u64, byte: u8) -> u64
+    requires { ⌜ rest < 72057594037927936 ⌝ }
+    ensures { λ r. ⌜ r ≡ rest * 256 + byte ⌝ }
 {
-    out[at] = MARK[0];
-    out[at + 1] = MARK[1];
-    out[at + 2] = relation;
-    out[at + 3] = count;
-    out[at + 4] = right;
-    at + 5
+    rest * 256 + (byte as u64)
 }
 
-// Writes a term's bytes from the place `at` on, and returns the next place.
-fn put_term(out: &mut [u8], at: usize, term: Packed) -> usize
-    requires { ⌜ at + 3 ≤ length (now out) ⌝ }
-    ensures { λ r. ⌜ (r ≡ at + 3) × (now (out .exit) ≡ splice at (bytesOf term) (now (out .entry))) ⌝ }
+// Writes a word's 8 bytes from the place `at` on, the lowest first, and returns the next place.
+fn put_eight(out: &mut [u8], at: usize, w: u64) -> usize
+    requires { ⌜ at + 8 ≤ length (now out) ⌝ }
+    ensures { λ r. ⌜ (r ≡ at + 8) × (now (out .exit) ≡ splice at (littleEndian 8 w) (now (out .entry))) ⌝ }
 {
-    out[at] = term.sign;
-    out[at + 1] = term.low;
-    out[at + 2] = term.high;
-    at + 3
+    let a = w / 256;
+    let b = a / 256;
+    let c = b / 256;
+    let d = c / 256;
+    let e = d / 256;
+    let f = e / 256;
+    let g = f / 256;
+    out[at] = (w % 256) as u8;
+    out[at + 1] = (a % 256) as u8;
+    out[at + 2] = (b % 256) as u8;
+    out[at + 3] = (c % 256) as u8;
+    out[at + 4] = (d % 256) as u8;
+    out[at + 5] = (e % 256) as u8;
+    out[at + 6] = (f % 256) as u8;
+    out[at + 7] = (g % 256) as u8;
+    at + 8
 }
 
-// Writes the 14 bytes of a record from the place `at` on, and returns the next place.
+// Writes a word's 4 bytes from the place `at` on, the lowest first, and returns the next place.
+fn put_four(out: &mut [u8], at: usize, w: u32) -> usize
+    requires { ⌜ at + 4 ≤ length (now out) ⌝ }
+    ensures { λ r. ⌜ (r ≡ at + 4) × (now (out .exit) ≡ splice at (littleEndian 4 w) (now (out .entry))) ⌝ }
+{
+    let a = w / 256;
+    let b = a / 256;
+    let c = b / 256;
+    out[at] = (w % 256) as u8;
+    out[at + 1] = (a % 256) as u8;
+    out[at + 2] = (b % 256) as u8;
+    out[at + 3] = (c % 256) as u8;
+    at + 4
+}
+
+// Writes a word's 2 bytes from the place `at` on, the lowest first, and returns the next place.
+fn put_two(out: &mut [u8], at: usize, w: u16) -> usize
+    requires { ⌜ at + 2 ≤ length (now out) ⌝ }
+    ensures { λ r. ⌜ (r ≡ at + 2) × (now (out .exit) ≡ splice at (twoBytes w) (now (out .entry))) ⌝ }
+{
+    out[at] = (w % 256) as u8;
+    out[at + 1] = (w / 256) as u8;
+    at + 2
+}
+
+// A record's first 8 bytes as a word: the head and the first term.
+fn first_word(relation: u8, count: u8, right: u8, a: Packed) -> u64
+    ensures { λ r. ⌜ littleEndian 8 r ≡ headBytes relation count right ++ bytesOf a ⌝ }
+{
+    let w = grown(a.variable as u64, a.sign);
+    let x = grown(w, right);
+    let y = grown(x, count);
+    let z = grown(y, relation);
+    grown(grown(z, MARK[1]), MARK[0])
+}
+
+// A record's next 4 bytes as a word: the second term, and the third one's sign byte.
+fn second_word(b: Packed, c: Packed) -> u32
+    ensures { λ r. ⌜ littleEndian 4 r ≡ bytesOf b ++ c .sign ∷ [] ⌝ }
+{
+    (b.sign as u32) + 256 * (b.variable as u32) + 16777216 * (c.sign as u32)
+}
+
+// Writes the 14 bytes of a record, as three words, from the place `at` on, and returns the next place.
 fn put_record(
     out: &mut [u8],
     at: usize,
@@ -101,10 +149,9 @@ fn put_record(
     requires { ⌜ at + 14 ≤ length (now out) ⌝ }
     ensures { λ r. ⌜ (r ≡ at + 14) × (now (out .exit) ≡ splice at (recordBytes relation count right a b c) (now (out .entry))) ⌝ }
 {
-    let first = put_head(out, at, relation, count, right);
-    let second = put_term(out, first, a);
-    let third = put_term(out, second, b);
-    put_term(out, third, c)
+    let second = put_eight(out, at, first_word(relation, count, right, a));
+    let third = put_four(out, second, second_word(b, c));
+    put_two(out, third, c.variable)
 }
 
 // Writes a row's record from the place `at` on, and returns the next place.
@@ -129,26 +176,5 @@ pub fn put_row(out: &mut [u8], at: usize, row: Row) -> usize
             pack(b),
             pack(c),
         ),
-    }
-}
-
-// Writes the records of rows from the place `at` on, and returns the next place.
-pub fn put_rows(out: &mut [u8], at: usize, rows: Rows) -> usize
-    requires { ⌜ at + length (recordsOf rows) ≤ length (now out) ⌝ }
-    ensures { λ r. ⌜ (r ≡ at + length (recordsOf rows)) × (now (out .exit) ≡ splice at (recordsOf rows) (now (out .entry))) ⌝ }
-{
-    match rows {
-        Rows::One(a) => put_row(out, at, a),
-        Rows::Three(a, b, c) => {
-            let second = put_row(out, at, a);
-            let third = put_row(out, second, b);
-            put_row(out, third, c)
-        }
-        Rows::Four(a, b, c, d) => {
-            let second = put_row(out, at, a);
-            let third = put_row(out, second, b);
-            let fourth = put_row(out, third, c);
-            put_row(out, fourth, d)
-        }
     }
 }

@@ -7,8 +7,6 @@ use Rattle.row.specs.declared.Term.{Term}
 use Rattle.row.specs.declared.Terms.{Terms}
 use Rattle.row.specs.declared.Terms.the-variants.{Single, Pair, Triple}
 use Rattle.row.specs.declared.Row.{Row}
-use Rattle.row.specs.declared.Rows.{Rows}
-use Rattle.row.specs.declared.Rows.the-variants.{One, Three, Four}
 
 abbrev pub relationOf : Relation → Rules.Relation
 relationOf AtLeast = Rules.Relation.at-least
@@ -24,9 +22,3 @@ termsOf (Triple a b c) = termOf a ∷ termOf b ∷ termOf c ∷ []
 
 abbrev pub rowOf : Row → Rules.Row
 rowOf r = record { relation = relationOf (r .relation); terms = termsOf (r .terms); right = r .right }
-
--- the rows of a node at a slot, in order
-abbrev pub listOf : Rows → List Rules.Row
-listOf (One a) = rowOf a ∷ []
-listOf (Three a b c) = rowOf a ∷ rowOf b ∷ rowOf c ∷ []
-listOf (Four a b c d) = rowOf a ∷ rowOf b ∷ rowOf c ∷ rowOf d ∷ []

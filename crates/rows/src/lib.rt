@@ -16,26 +16,38 @@ ghost use Rattle.row.specs.Kinds.{nodeCount};
 ghost use Rattle.rows.specs.Parts.{nodeBytes, nodesBytes, countTo};
 ghost use Rattle.rows.specs.Answers.{rowsAnswer};
 
-// Writes a node's rows at t slots from the place `at` on, and returns the next place.
+// Writes the rows of a node of this kind at t slots from the place `at` on, and returns the next place.
 // `big`, `p` and `q` are the variables of the node and its parts at the first slot.
 fn write_node(out: &mut [u8], at: usize, kind: Kind, t: u16, big: u16, p: u16, q: u16) -> usize
-    requires { ⌜ (t ≤ 64) × (big ≤ 25600) × (p ≤ 25600) × (q ≤ 25600) ⌝ }
+    requires { ⌜ (1 ≤ t) × (t ≤ 64) × (big ≤ 25600) × (p ≤ 25600) × (q ≤ 25600) ⌝ }
     requires { ⌜ at + length (nodeBytes kind t big p q) ≤ length (now out) ⌝ }
     ensures { λ r. ⌜ (r ≡ at + length (nodeBytes kind t big p q)) × (now (out .exit) ≡ splice at (nodeBytes kind t big p q) (now (out .entry))) ⌝ }
 {
-    let mut next = at;
-    let mut s: u16 = 0;
-    while s < t {
-        let rows = row::slot_rows(kind, s + 1 < t, big + s, p + s, q + s);
-        next = record::put_rows(out, next, rows);
-        s += 1;
+    let inner = t - 1;
+    match kind {
+        Kind::Atom => families::write_same(out, at, t, big, p),
+        Kind::Not => families::write_not(out, at, t, big, p),
+        Kind::And => families::write_and(out, at, t, big, p, q),
+        Kind::Or => families::write_or(out, at, t, big, p, q),
+        Kind::Implies => families::write_implies(out, at, t, big, p, q),
+        Kind::Eventually => {
+            let last = families::write_or(out, at, inner, big, p, big + 1);
+            families::write_same(out, last, 1, big + inner, p + inner)
+        }
+        Kind::Always => {
+            let last = families::write_and(out, at, inner, big, p, big + 1);
+            families::write_same(out, last, 1, big + inner, p + inner)
+        }
+        Kind::Until => {
+            let last = families::write_until(out, at, inner, big, p, q);
+            families::write_same(out, last, 1, big + inner, q + inner)
+        }
     }
-    next
 }
 
 // Writes the rows of the first n nodes at the start of `out`, and returns the next place.
 fn write_nodes(table: &[u8], n: usize, t: usize, m: usize, out: &mut [u8]) -> usize
-    requires { ⌜ (t ≤ 64) × (m ≤ 16) × (n ≤ 128) × (n ≤ recordCount (now table)) ⌝ }
+    requires { ⌜ (1 ≤ t) × (t ≤ 64) × (m ≤ 16) × (n ≤ 128) × (n ≤ recordCount (now table)) ⌝ }
     requires { ⌜ length (nodesBytes t m (nodesIn (now table)) n) ≤ length (now out) ⌝ }
     ensures { λ r. ⌜ (r ≡ length (nodesBytes t m (nodesIn (now (table .entry))) n)) × (now (out .exit) ≡ splice 0 (nodesBytes t m (nodesIn (now (table .entry))) n) (now (out .entry))) ⌝ }
 {

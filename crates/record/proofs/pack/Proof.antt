@@ -12,17 +12,11 @@ use Rattle.record.proofs.pack.Tie as tie
 signed-byte-requires : tie.Need-signed-byte-requires
 signed-byte-requires c κs = search needs
 
-cast-t4 : tie.Need-cast-t4
-cast-t4 c = search needs
-
-cast-t6 : tie.Need-cast-t6
-cast-t6 c = search needs
-
 returns : tie.Need-returns
 returns c =
-    let t = c .before .before .before .before .args .t in
+    let t = c .before .before .args .t in
     ap (λ (b : ℕ). b ∷ t .variable % 256 ∷ t .variable / 256 ∷ [])
-    (c .before .before .signed-byte .ensures ∙ ap signedByte (toZ-ofZ {w = w8} {z = t .coefficient} (search needs)))
+    (c .signed-byte .ensures ∙ ap signedByte (toZ-ofZ {w = w8} {z = t .coefficient} (search needs)))
 
 pub pack-spec : {M : Type 1} → statement M
-pack-spec = tie.close (tie.spec signed-byte-requires cast-t4 cast-t6 returns)
+pack-spec = tie.close (tie.spec signed-byte-requires returns)

@@ -1,83 +1,262 @@
--- `rows::write_node` meets its contract. The loop's invariant: the rows of the slots passed are written. Assumes nothing.
-use Prim.Native.Nat.{_≤_, _-_}
+-- `rows::write_node` meets its contract. By the kind: one family of rows at every slot, or one and then another at the last. Assumes nothing.
+use mathlib.Core.Path.{_≡_}
+use Prim.Native.Nat.{_+_, _-_}
 use native.Mathlib.Omega.{arith}
 use borrow.Author.Needs.{needs}
-use Rattle.lists.specs.Filling.{Filled, filled-none, filled-room, filled-more, filled-all}
-use Rattle.record.specs.Records.{records-are}
-use Rattle.rows.specs.Parts.{slotBytes, nodeBytes}
+use Rattle.rules.specs.Rows.{sameRows, andRows, orRows}
+use Rattle.families.specs.Slots.{pairs, triples, untilNext}
+use Rattle.rows.specs.Parts.{nodeBytes, one-room, one-done, first-room, second-room, both-done, by-kind, node-same, node-not, node-and, node-or, node-implies, node-eventually, node-always, node-until}
 use Rattle.rows.proofs.write_node.Statement.{statement}
 use Rattle.rows.proofs.write_node.Tie as tie
 
-abbrev Inv-loop : tie.InvT-loop
-Inv-loop out₀ at kind t big p q next₀ s₀ out next s = (s ≤ t) × Filled at (slotBytes kind t big p q) out₀ s out next
+sub-inner : tie.Need-sub-inner
+sub-inner c = search needs
 
-abbrev μ-loop : tie.MeasureT-loop
-μ-loop out₀ at kind t big p q next₀ s₀ out next s = t - s
+enum-told : tie.Need-enum-told
+enum-told c = search needs
 
-loop-holds : tie.Need-loop-holds Inv-loop μ-loop
-loop-holds c = (omega arith, filled-none _ _ _)
+write-same-requires : tie.Need-write-same-requires
+write-same-requires c κs =
+    let w = c .before in
+    let a = w .before .before .before in
+    (omega arith, one-room (a .args .at) (by-kind (a .args .t) (a .args .big) (a .args .p) (a .args .q) (w .enum-told .given .1) (node-same (a .args .t) (a .args .big) (a .args .p) (a .args .q))) (a .pre .1))
 
-add-slot-rows : tie.Need-add-slot-rows Inv-loop μ-loop
-add-slot-rows c = search needs
+enum-told-2 : tie.Need-enum-told-2
+enum-told-2 c = search needs
 
-add-slot-rows-2 : tie.Need-add-slot-rows-2 Inv-loop μ-loop
-add-slot-rows-2 c = search needs
+write-not-requires : tie.Need-write-not-requires
+write-not-requires c κs =
+    let w = c .before in
+    let a = w .before .before .before in
+    (omega arith, one-room (a .args .at) (by-kind (a .args .t) (a .args .big) (a .args .p) (a .args .q) (w .enum-told2 .given .1) (node-not (a .args .t) (a .args .big) (a .args .p) (a .args .q))) (a .pre .1))
 
-add-slot-rows-3 : tie.Need-add-slot-rows-3 Inv-loop μ-loop
-add-slot-rows-3 c = search needs
+enum-told-3 : tie.Need-enum-told-3
+enum-told-3 c = search needs
 
-add-slot-rows-4 : tie.Need-add-slot-rows-4 Inv-loop μ-loop
-add-slot-rows-4 c = search needs
+write-and-requires : tie.Need-write-and-requires
+write-and-requires c κs =
+    let w = c .before in
+    let a = w .before .before .before in
+    (omega arith, one-room (a .args .at) (by-kind (a .args .t) (a .args .big) (a .args .p) (a .args .q) (w .enum-told3 .given .1) (node-and (a .args .t) (a .args .big) (a .args .p) (a .args .q))) (a .pre .1))
 
-slot-rows-requires : tie.Need-slot-rows-requires Inv-loop μ-loop
-slot-rows-requires c κs = search needs
+enum-told-4 : tie.Need-enum-told-4
+enum-told-4 c = search needs
 
-put-rows-requires : tie.Need-put-rows-requires Inv-loop μ-loop
-unfolding nodeBytes
-put-rows-requires c κs =
-    let l = c .before .before .before in
-    let a = l .before .before in
-    rw (records-are (c .before .slot-rows .result) (c .before .slot-rows .ensures)) (filled-room (l .loop .inv .1) (a .args .t) (omega arith) (a .pre .1))
+write-or-requires : tie.Need-write-or-requires
+write-or-requires c κs =
+    let w = c .before in
+    let a = w .before .before .before in
+    (omega arith, one-room (a .args .at) (by-kind (a .args .t) (a .args .big) (a .args .p) (a .args .q) (w .enum-told4 .given .1) (node-or (a .args .t) (a .args .big) (a .args .p) (a .args .q))) (a .pre .1))
 
-add-s : tie.Need-add-s Inv-loop μ-loop
-add-s c = search needs
+enum-told-5 : tie.Need-enum-told-5
+enum-told-5 c = search needs
 
-loop-less : tie.Need-loop-less Inv-loop μ-loop
-loop-less c = search needs
+write-implies-requires : tie.Need-write-implies-requires
+write-implies-requires c κs =
+    let w = c .before in
+    let a = w .before .before .before in
+    (omega arith, one-room (a .args .at) (by-kind (a .args .t) (a .args .big) (a .args .p) (a .args .q) (w .enum-told5 .given .1) (node-implies (a .args .t) (a .args .big) (a .args .p) (a .args .q))) (a .pre .1))
 
-loop-again : tie.Need-loop-again Inv-loop μ-loop
-unfolding nodeBytes
-loop-again c =
-    let p = c .before .before in
-    let l = p .before .before .before .before in
-    let a = l .before .before in
-    let e = records-are (p .before .before .slot-rows .result) (p .before .before .slot-rows .ensures) in (
-      omega arith,
-      filled-more (l .loop .inv .1) (a .args .t) (omega arith) (a .pre .1) _ _ (rw e at (p .put-rows .ensures .1)) (rw e at (p .put-rows .ensures .0)) (omega arith),
-    )
+enum-told-6 : tie.Need-enum-told-6
+enum-told-6 c = search needs
 
-same-length : tie.Need-same-length Inv-loop μ-loop
+add-write-or : tie.Need-add-write-or
+add-write-or c = search needs
+
+write-or-requires-2 : tie.Need-write-or-requires-2
+write-or-requires-2 c κs =
+    let w = c .before in
+    let a = w .before .before .before in
+    (omega arith, first-room (a .args .at) (triples orRows (a .args .big) (a .args .p) (a .args .big + 1) (a .args .t - 1)) (pairs sameRows (a .args .big + (a .args .t - 1)) (a .args .p + (a .args .t - 1)) 1) (by-kind (a .args .t) (a .args .big) (a .args .p) (a .args .q) (w .enum-told6 .given .1) (node-eventually (a .args .t) (a .args .big) (a .args .p) (a .args .q) (omega arith))) (a .pre .1))
+
+add-write-same : tie.Need-add-write-same
+add-write-same c = search needs
+
+add-write-same-2 : tie.Need-add-write-same-2
+add-write-same-2 c = search needs
+
+write-same-requires-2 : tie.Need-write-same-requires-2
+write-same-requires-2 c κs =
+    let f = c .before .before .before in
+    let w = f .before .before in
+    let a = w .before .before .before in
+    (omega arith, second-room (a .args .at) (triples orRows (a .args .big) (a .args .p) (a .args .big + 1) (a .args .t - 1)) (pairs sameRows (a .args .big + (a .args .t - 1)) (a .args .p + (a .args .t - 1)) 1) (by-kind (a .args .t) (a .args .big) (a .args .p) (a .args .q) (w .enum-told6 .given .1) (node-eventually (a .args .t) (a .args .big) (a .args .p) (a .args .q) (omega arith))) (omega (arith, a .pre .1)) (f .write-or2 .ensures .0))
+
+enum-told-7 : tie.Need-enum-told-7
+enum-told-7 c = search needs
+
+add-write-and : tie.Need-add-write-and
+add-write-and c = search needs
+
+write-and-requires-2 : tie.Need-write-and-requires-2
+write-and-requires-2 c κs =
+    let w = c .before in
+    let a = w .before .before .before in
+    (omega arith, first-room (a .args .at) (triples andRows (a .args .big) (a .args .p) (a .args .big + 1) (a .args .t - 1)) (pairs sameRows (a .args .big + (a .args .t - 1)) (a .args .p + (a .args .t - 1)) 1) (by-kind (a .args .t) (a .args .big) (a .args .p) (a .args .q) (w .enum-told7 .given .1) (node-always (a .args .t) (a .args .big) (a .args .p) (a .args .q) (omega arith))) (a .pre .1))
+
+add-write-same-3 : tie.Need-add-write-same-3
+add-write-same-3 c = search needs
+
+add-write-same-4 : tie.Need-add-write-same-4
+add-write-same-4 c = search needs
+
+write-same-requires-3 : tie.Need-write-same-requires-3
+write-same-requires-3 c κs =
+    let f = c .before .before .before in
+    let w = f .before .before in
+    let a = w .before .before .before in
+    (omega arith, second-room (a .args .at) (triples andRows (a .args .big) (a .args .p) (a .args .big + 1) (a .args .t - 1)) (pairs sameRows (a .args .big + (a .args .t - 1)) (a .args .p + (a .args .t - 1)) 1) (by-kind (a .args .t) (a .args .big) (a .args .p) (a .args .q) (w .enum-told7 .given .1) (node-always (a .args .t) (a .args .big) (a .args .p) (a .args .q) (omega arith))) (omega (arith, a .pre .1)) (f .write-and2 .ensures .0))
+
+enum-told-8 : tie.Need-enum-told-8
+enum-told-8 c = search needs
+
+write-until-requires : tie.Need-write-until-requires
+write-until-requires c κs =
+    let w = c .before in
+    let a = w .before .before .before in
+    (omega arith, first-room (a .args .at) (triples untilNext (a .args .big) (a .args .p) (a .args .q) (a .args .t - 1)) (pairs sameRows (a .args .big + (a .args .t - 1)) (a .args .q + (a .args .t - 1)) 1) (by-kind (a .args .t) (a .args .big) (a .args .p) (a .args .q) (w .enum-told8 .given .1) (node-until (a .args .t) (a .args .big) (a .args .p) (a .args .q) (omega arith))) (a .pre .1))
+
+add-write-same-5 : tie.Need-add-write-same-5
+add-write-same-5 c = search needs
+
+add-write-same-6 : tie.Need-add-write-same-6
+add-write-same-6 c = search needs
+
+write-same-requires-4 : tie.Need-write-same-requires-4
+write-same-requires-4 c κs =
+    let f = c .before .before .before in
+    let w = f .before .before in
+    let a = w .before .before .before in
+    (omega arith, second-room (a .args .at) (triples untilNext (a .args .big) (a .args .p) (a .args .q) (a .args .t - 1)) (pairs sameRows (a .args .big + (a .args .t - 1)) (a .args .q + (a .args .t - 1)) 1) (by-kind (a .args .t) (a .args .big) (a .args .p) (a .args .q) (w .enum-told8 .given .1) (node-until (a .args .t) (a .args .big) (a .args .p) (a .args .q) (omega arith))) (omega (arith, a .pre .1)) (f .write-until .ensures .0))
+
+same-length : tie.Need-same-length
 same-length c = search needs
 
-returns : tie.Need-returns Inv-loop μ-loop
-unfolding nodeBytes
-returns c = filled-all (c .before .loop .inv .1) (c .before .before .before .args .t) (omega arith)
+returns : tie.Need-returns
+returns c =
+    let f = c .before .before in
+    let w = f .before .before in
+    let a = w .before .before .before in
+    one-done (a .args .at) (by-kind (a .args .t) (a .args .big) (a .args .p) (a .args .q) (w .enum-told .given .1) (node-same (a .args .t) (a .args .big) (a .args .p) (a .args .q))) _ (f .write-same .ensures)
+
+same-length-2 : tie.Need-same-length-2
+same-length-2 c = search needs
+
+returns-2 : tie.Need-returns-2
+returns-2 c =
+    let f = c .before .before in
+    let w = f .before .before in
+    let a = w .before .before .before in
+    one-done (a .args .at) (by-kind (a .args .t) (a .args .big) (a .args .p) (a .args .q) (w .enum-told2 .given .1) (node-not (a .args .t) (a .args .big) (a .args .p) (a .args .q))) _ (f .write-not .ensures)
+
+same-length-3 : tie.Need-same-length-3
+same-length-3 c = search needs
+
+returns-3 : tie.Need-returns-3
+returns-3 c =
+    let f = c .before .before in
+    let w = f .before .before in
+    let a = w .before .before .before in
+    one-done (a .args .at) (by-kind (a .args .t) (a .args .big) (a .args .p) (a .args .q) (w .enum-told3 .given .1) (node-and (a .args .t) (a .args .big) (a .args .p) (a .args .q))) _ (f .write-and .ensures)
+
+same-length-4 : tie.Need-same-length-4
+same-length-4 c = search needs
+
+returns-4 : tie.Need-returns-4
+returns-4 c =
+    let f = c .before .before in
+    let w = f .before .before in
+    let a = w .before .before .before in
+    one-done (a .args .at) (by-kind (a .args .t) (a .args .big) (a .args .p) (a .args .q) (w .enum-told4 .given .1) (node-or (a .args .t) (a .args .big) (a .args .p) (a .args .q))) _ (f .write-or .ensures)
+
+same-length-5 : tie.Need-same-length-5
+same-length-5 c = search needs
+
+returns-5 : tie.Need-returns-5
+returns-5 c =
+    let f = c .before .before in
+    let w = f .before .before in
+    let a = w .before .before .before in
+    one-done (a .args .at) (by-kind (a .args .t) (a .args .big) (a .args .p) (a .args .q) (w .enum-told5 .given .1) (node-implies (a .args .t) (a .args .big) (a .args .p) (a .args .q))) _ (f .write-implies .ensures)
+
+same-length-6 : tie.Need-same-length-6
+same-length-6 c = search needs
+
+returns-6 : tie.Need-returns-6
+returns-6 c =
+    let g = c .before .before in
+    let f = g .before .before .before .before in
+    let w = f .before .before in
+    let a = w .before .before .before in
+    both-done (a .args .at) (triples orRows (a .args .big) (a .args .p) (a .args .big + 1) (a .args .t - 1)) (pairs sameRows (a .args .big + (a .args .t - 1)) (a .args .p + (a .args .t - 1)) 1) (by-kind (a .args .t) (a .args .big) (a .args .p) (a .args .q) (w .enum-told6 .given .1) (node-eventually (a .args .t) (a .args .big) (a .args .p) (a .args .q) (omega arith))) (a .pre .1) _ (omega arith) (f .write-or2 .ensures) (g .write-same2 .ensures)
+
+same-length-7 : tie.Need-same-length-7
+same-length-7 c = search needs
+
+returns-7 : tie.Need-returns-7
+returns-7 c =
+    let g = c .before .before in
+    let f = g .before .before .before .before in
+    let w = f .before .before in
+    let a = w .before .before .before in
+    both-done (a .args .at) (triples andRows (a .args .big) (a .args .p) (a .args .big + 1) (a .args .t - 1)) (pairs sameRows (a .args .big + (a .args .t - 1)) (a .args .p + (a .args .t - 1)) 1) (by-kind (a .args .t) (a .args .big) (a .args .p) (a .args .q) (w .enum-told7 .given .1) (node-always (a .args .t) (a .args .big) (a .args .p) (a .args .q) (omega arith))) (a .pre .1) _ (omega arith) (f .write-and2 .ensures) (g .write-same3 .ensures)
+
+same-length-8 : tie.Need-same-length-8
+same-length-8 c = search needs
+
+returns-8 : tie.Need-returns-8
+returns-8 c =
+    let g = c .before .before in
+    let f = g .before .before .before .before in
+    let w = f .before .before in
+    let a = w .before .before .before in
+    both-done (a .args .at) (triples untilNext (a .args .big) (a .args .p) (a .args .q) (a .args .t - 1)) (pairs sameRows (a .args .big + (a .args .t - 1)) (a .args .q + (a .args .t - 1)) 1) (by-kind (a .args .t) (a .args .big) (a .args .p) (a .args .q) (w .enum-told8 .given .1) (node-until (a .args .t) (a .args .big) (a .args .p) (a .args .q) (omega arith))) (a .pre .1) _ (omega arith) (f .write-until .ensures) (g .write-same4 .ensures)
 
 pub write-node-spec : {M : Type 1} → statement M
 write-node-spec =
     tie.close
     (tie.spec
-    Inv-loop
-    μ-loop
-    loop-holds
-    add-slot-rows
-    add-slot-rows-2
-    add-slot-rows-3
-    add-slot-rows-4
-    slot-rows-requires
-    put-rows-requires
-    add-s
-    loop-less
-    loop-again
+    sub-inner
+    enum-told
+    write-same-requires
+    enum-told-2
+    write-not-requires
+    enum-told-3
+    write-and-requires
+    enum-told-4
+    write-or-requires
+    enum-told-5
+    write-implies-requires
+    enum-told-6
+    add-write-or
+    write-or-requires-2
+    add-write-same
+    add-write-same-2
+    write-same-requires-2
+    enum-told-7
+    add-write-and
+    write-and-requires-2
+    add-write-same-3
+    add-write-same-4
+    write-same-requires-3
+    enum-told-8
+    write-until-requires
+    add-write-same-5
+    add-write-same-6
+    write-same-requires-4
     same-length
-    returns)
+    returns
+    same-length-2
+    returns-2
+    same-length-3
+    returns-3
+    same-length-4
+    returns-4
+    same-length-5
+    returns-5
+    same-length-6
+    returns-6
+    same-length-7
+    returns-7
+    same-length-8
+    returns-8)

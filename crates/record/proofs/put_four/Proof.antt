@@ -1,20 +1,20 @@
--- `record::put_head` meets its contract. Five stores, one after the other. Assumes nothing.
+-- `record::put_four` meets its contract. Four stores, one after the other. Assumes nothing.
 use mathlib.Core.Path.{refl}
 use native.Mathlib.Omega.{arith}
 use lib.ListN.{length-set}
 use Rattle.lists.specs.Stores.{stores-splice}
 use borrow.Author.Needs.{needs}
-use Rattle.record.proofs.put_head.Statement.{statement}
-use Rattle.record.proofs.put_head.Tie as tie
+use Rattle.record.proofs.put_four.Statement.{statement}
+use Rattle.record.proofs.put_four.Tie as tie
 
-array-read-out : tie.Need-array-read-out
-array-read-out c = search needs
+cast-out : tie.Need-cast-out
+cast-out c = search needs
 
 slice-write-out : tie.Need-slice-write-out
 slice-write-out c = search needs
 
-array-read-out-2 : tie.Need-array-read-out-2
-array-read-out-2 c = search needs
+cast-out-2 : tie.Need-cast-out-2
+cast-out-2 c = search needs
 
 add-out : tie.Need-add-out
 add-out c = search needs
@@ -22,23 +22,23 @@ add-out c = search needs
 slice-write-out-2 : tie.Need-slice-write-out-2
 slice-write-out-2 c = simp length-set (omega arith)
 
+cast-out-3 : tie.Need-cast-out-3
+cast-out-3 c = search needs
+
 add-out-2 : tie.Need-add-out-2
 add-out-2 c = search needs
 
 slice-write-out-3 : tie.Need-slice-write-out-3
 slice-write-out-3 c = simp length-set (omega arith)
 
+cast-out-4 : tie.Need-cast-out-4
+cast-out-4 c = search needs
+
 add-out-3 : tie.Need-add-out-3
 add-out-3 c = search needs
 
 slice-write-out-4 : tie.Need-slice-write-out-4
 slice-write-out-4 c = simp length-set (omega arith)
-
-add-out-4 : tie.Need-add-out-4
-add-out-4 c = search needs
-
-slice-write-out-5 : tie.Need-slice-write-out-5
-slice-write-out-5 c = simp length-set (omega arith)
 
 add-result : tie.Need-add-result
 add-result c = search needs
@@ -49,21 +49,21 @@ same-length c = search needs
 returns : tie.Need-returns
 returns c = (refl, stores-splice _ _ _ _ (omega arith))
 
-pub put-head-spec : {M : Type 1} → statement M
-put-head-spec =
+pub put-four-spec : {M : Type 1} → statement M
+put-four-spec =
     tie.close
     (tie.spec
-    array-read-out
+    cast-out
     slice-write-out
-    array-read-out-2
+    cast-out-2
     add-out
     slice-write-out-2
+    cast-out-3
     add-out-2
     slice-write-out-3
+    cast-out-4
     add-out-3
     slice-write-out-4
-    add-out-4
-    slice-write-out-5
     add-result
     same-length
     returns)
