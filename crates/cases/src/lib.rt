@@ -3,11 +3,8 @@ mod values;
 
 pub use values::Figure;
 pub use values::Filled;
-pub use values::Number;
-pub use values::decimal;
 pub use values::figures;
 pub use values::hex;
-pub use values::is_answer;
 pub use values::run;
 pub use values::signed;
 ghost use Prim.Native.Nat.{_≤_};

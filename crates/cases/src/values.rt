@@ -1,18 +1,9 @@
-// Numbers, lists of numbers and bytes in hexadecimal.
-ghost use mathlib.Core.Path.{_≡_};
+// Lists of numbers and bytes in hexadecimal.
 ghost use Prim.Native.Nat.{_≤_};
 ghost use lib.ListN.{length};
-ghost use Rattle.cases.specs.Decimal.{grownBy, decimalOf, isAnswer};
 use crate::part;
 use crate::parts;
-
-// Numbers have at most ten digits.
-const LIMIT: usize = 10000000000;
-
-pub enum Number {
-    Is(usize),
-    Bad,
-}
+use decimals::Number;
 
 // How much of an array is filled; not good where the text is no such list, or one too long.
 pub struct Filled {
@@ -35,57 +26,6 @@ impl Filled {
         good: false,
         count: 0,
     };
-}
-
-// The number with one digit more; LIMIT or more where that is none.
-fn grown(value: usize, byte: u8) -> usize
-    ensures { λ r. ⌜ r ≡ grownBy value byte ⌝ }
-{
-    if LIMIT <= value {
-        return LIMIT;
-    }
-    if byte < b'0' {
-        return LIMIT;
-    }
-    if b'9' < byte {
-        return LIMIT;
-    }
-    value * 10 + (byte - b'0') as usize
-}
-
-// A decimal number.
-pub fn decimal(text: &[u8]) -> Number
-    ensures { λ r. ⌜ r ≡ decimalOf (now (text .entry)) ⌝ }
-{
-    let mut value: usize = 0;
-    let mut i: usize = 0;
-    while i < text.len() {
-        value = grown(value, text[i]);
-        i += 1;
-    }
-    if i == 0 {
-        return Number::Bad;
-    }
-    if LIMIT <= value {
-        return Number::Bad;
-    }
-    Number::Is(value)
-}
-
-// Whether the text is the letter and the number n.
-pub fn is_answer(text: &[u8], letter: u8, n: usize) -> bool
-    ensures { λ r. ⌜ r ≡ isAnswer (now (text .entry)) letter n ⌝ }
-{
-    if text.len() == 0 {
-        return false;
-    }
-    if text[0] != letter {
-        return false;
-    }
-    match decimal(&text[1..]) {
-        Number::Is(m) => m == n,
-        Number::Bad => false,
-    }
 }
 
 // Whether the text stands for an empty list.
@@ -161,7 +101,7 @@ pub fn run(text: &[u8], into: &mut [u16]) -> Filled
     }
     let mut i: usize = 0;
     while i < n {
-        let Number::Is(x) = decimal(part(text, i, b',')) else {
+        let Number::Is(x) = decimals::decimal(part(text, i, b',')) else {
             return Filled::BAD;
         };
         if 65535 < x {
@@ -188,7 +128,7 @@ pub fn signed(text: &[u8]) -> Figure {
         return Figure::Bad;
     }
     if text[0] != b'-' {
-        let Number::Is(x) = decimal(text) else {
+        let Number::Is(x) = decimals::decimal(text) else {
             return Figure::Bad;
         };
         if 2147483647 < x {
@@ -196,7 +136,7 @@ pub fn signed(text: &[u8]) -> Figure {
         }
         return Figure::Is(x as i32);
     }
-    let Number::Is(x) = decimal(&text[1..]) else {
+    let Number::Is(x) = decimals::decimal(&text[1..]) else {
         return Figure::Bad;
     };
     if 2147483648 < x {

@@ -7,11 +7,15 @@ use lib.ListN.{length, length-append}
 use Rattle.lists.specs.Splice.{splice, splice-nil}
 use Rattle.lists.specs.Filling.{splice-then, splice-as}
 use Rattle.rules.specs.Rows as Rules
-use Rattle.rules.specs.Rows.{rowBytes, rowsBytes}
+use Rattle.rules.specs.Rows.{rowBytes, rowsBytes, untilRows}
 use Rattle.rules.specs.RowParts.{rowsBytes-append}
 use Rattle.row.specs.declared.Row.{Row}
 use Rattle.row.specs.Meaning.{rowOf}
 use Rattle.record.specs.Records.{recordOf, record-is, length-record}
+
+-- the rows of until before the last slot, where P' is the variable after P
+abbrev pub untilNext : (P p q : ℕ) → List Rules.Row
+untilNext P p q = untilRows P p q (P + 1)
 
 -- the rows rs are written from `at` on: m is what l is now, and `next` the next place
 pub record Put (at : ℕ) (rs : List Rules.Row) (l m : List ℕ) (next : ℕ) : Type 0 where

@@ -12,10 +12,10 @@ use Rattle.rules.specs.Rows.{goalRow, rowsOf}
 use Rattle.rules.specs.Judge as Judge
 use Rattle.rules.specs.Judge.Verdict.{outside, not-binary, broken, passed}
 use Rattle.rules.specs.Verdicts.{isBroken, orElse, firstOutside, firstNotBinary, firstBroken, verdict}
-use Rattle.search.specs.declared.Search.{Search}
-use Rattle.search.specs.declared.Search.the-variants.{Clear, Broken}
-use Rattle.search.specs.Searches.{tested, first-broken, all-clear}
-use Rattle.search.specs.Searches as Searches
+use Rattle.slotcheck.specs.declared.Search.{Search}
+use Rattle.slotcheck.specs.declared.Search.the-variants.{Clear, Broken}
+use Rattle.slotcheck.specs.Searches.{tested, first-broken, all-clear}
+use Rattle.slotcheck.specs.Searches as Searches
 use Rattle.limits.specs.Tests.{outsideAt, notBinaryAt}
 
 module _ (T M e : ℕ) (ns : List Node) (xs : List ℤ) where

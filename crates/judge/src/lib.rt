@@ -1,7 +1,7 @@
 // The judge of a solver's figures.
 use answers::Refusal;
 use limits::Found;
-use search::Search;
+use slotcheck::Search;
 use table::Checked;
 ghost use mathlib.Core.Path.{_≡_};
 ghost use Prim.Native.Nat.{_+_, _*_, _≤_};

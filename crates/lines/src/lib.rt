@@ -1,7 +1,7 @@
 // The cases of lines.txt, one a line: a call, what it is called with, and what it must answer and write.
 use answers::Answer;
 use cases::Figure;
-use cases::Number;
+use decimals::Number;
 use judge::Ruling;
 use judge::Verdict;
 
@@ -102,15 +102,15 @@ fn head_of(line: &[u8]) -> Head {
 }
 
 fn number_at(line: &[u8], k: usize) -> Number {
-    cases::decimal(cases::part(line, k, b' '))
+    decimals::decimal(cases::part(line, k, b' '))
 }
 
 // Whether the answer is the one of the line's part k. A result has the letter given.
 fn is_told(answer: Answer, line: &[u8], k: usize, letter: u8) -> bool {
     let told = cases::part(line, k, b' ');
     match answer {
-        Answer::Value(n) => cases::is_answer(told, letter, n),
-        Answer::Refused(r) => cases::is_answer(told, b'r', answers::number(r) as usize),
+        Answer::Value(n) => decimals::is_answer(told, letter, n),
+        Answer::Refused(r) => decimals::is_answer(told, b'r', answers::number(r) as usize),
     }
 }
 
@@ -242,17 +242,17 @@ fn rows_lends(line: &[u8], head: Head, table: &[u8], out: &mut [u8]) -> bool {
 
 fn is_verdict(verdict: Verdict, told: &[u8]) -> bool {
     match verdict {
-        Verdict::Outside(v) => cases::is_answer(told, b'o', v),
-        Verdict::NotBinary(v) => cases::is_answer(told, b'b', v),
-        Verdict::Broken(row) => cases::is_answer(told, b'k', row),
-        Verdict::Passed(n) => cases::is_answer(told, b'p', n),
+        Verdict::Outside(v) => decimals::is_answer(told, b'o', v),
+        Verdict::NotBinary(v) => decimals::is_answer(told, b'b', v),
+        Verdict::Broken(row) => decimals::is_answer(told, b'k', row),
+        Verdict::Passed(n) => decimals::is_answer(told, b'p', n),
     }
 }
 
 fn is_ruled(ruling: Ruling, told: &[u8]) -> bool {
     match ruling {
         Ruling::Judged(verdict) => is_verdict(verdict, told),
-        Ruling::Refused(r) => cases::is_answer(told, b'r', answers::number(r) as usize),
+        Ruling::Refused(r) => decimals::is_answer(told, b'r', answers::number(r) as usize),
     }
 }
 

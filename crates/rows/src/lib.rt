@@ -13,37 +13,8 @@ ghost use Rattle.rules.specs.Outcome.{result, buffer, rowsOutcome};
 ghost use Rattle.answers.specs.Told.{told};
 ghost use Rattle.table.specs.Checks.{Ready};
 ghost use Rattle.row.specs.Kinds.{nodeCount};
-ghost use Rattle.rows.specs.Parts.{nodeBytes, nodesBytes, countTo};
+ghost use Rattle.rows.specs.Parts.{nodesBytes, countTo};
 ghost use Rattle.rows.specs.Answers.{rowsAnswer};
-
-// Writes the rows of a node of this kind at t slots from the place `at` on, and returns the next place.
-// `big`, `p` and `q` are the variables of the node and its parts at the first slot.
-fn write_node(out: &mut [u8], at: usize, kind: Kind, t: u16, big: u16, p: u16, q: u16) -> usize
-    requires { ⌜ (1 ≤ t) × (t ≤ 64) × (big ≤ 25600) × (p ≤ 25600) × (q ≤ 25600) ⌝ }
-    requires { ⌜ at + length (nodeBytes kind t big p q) ≤ length (now out) ⌝ }
-    ensures { λ r. ⌜ (r ≡ at + length (nodeBytes kind t big p q)) × (now (out .exit) ≡ splice at (nodeBytes kind t big p q) (now (out .entry))) ⌝ }
-{
-    let inner = t - 1;
-    match kind {
-        Kind::Atom => families::write_same(out, at, t, big, p),
-        Kind::Not => families::write_not(out, at, t, big, p),
-        Kind::And => families::write_and(out, at, t, big, p, q),
-        Kind::Or => families::write_or(out, at, t, big, p, q),
-        Kind::Implies => families::write_implies(out, at, t, big, p, q),
-        Kind::Eventually => {
-            let last = families::write_or(out, at, inner, big, p, big + 1);
-            families::write_same(out, last, 1, big + inner, p + inner)
-        }
-        Kind::Always => {
-            let last = families::write_and(out, at, inner, big, p, big + 1);
-            families::write_same(out, last, 1, big + inner, p + inner)
-        }
-        Kind::Until => {
-            let last = families::write_until(out, at, inner, big, p, q);
-            families::write_same(out, last, 1, big + inner, q + inner)
-        }
-    }
-}
 
 // Writes the rows of the first n nodes at the start of `out`, and returns the next place.
 fn write_nodes(table: &[u8], n: usize, t: usize, m: usize, out: &mut [u8]) -> usize
@@ -59,7 +30,7 @@ fn write_nodes(table: &[u8], n: usize, t: usize, m: usize, out: &mut [u8]) -> us
         let big = row::place(m + i, t);
         let p = row::place(row::left_part(kind, m, node.left), t);
         let q = row::place(m + node.right, t);
-        next = write_node(out, next, kind, t as u16, big, p, q);
+        next = noderows::write_node(out, next, kind, t as u16, big, p, q);
         i += 1;
     }
     next

@@ -1,49 +1,19 @@
--- A table's rows, part by part, as they are tested.
-use mathlib.Core.Path.{_≡_, sym, ap, _∙_}
+-- All rows of a table tested: those of the nodes, and then the goal row.
+use mathlib.Core.Path.{_≡_, sym, _∙_}
 use mathlib.Core.Bool.{Bool}
 use mathlib.Core.List.{List, [], _∷_}
-use Prim.Native.Nat.{ℕ, _+_, _-_, _*_}
-use lib.Dec.{ltb}
+use Prim.Native.Nat.{ℕ, _-_}
 use lib.IntN.{pos}
 use lib.ListN.{length}
-use Rattle.lists.specs.Flat.{flat, flat-same}
-use Rattle.rules.specs.Table.{Node, nodeAt}
-use Rattle.rules.specs.Rows.{Row, eq, plus, slack, rowsAt, slotsRows, slackRows, goalRow, rowsOf}
-use Rattle.rules.specs.RowParts.{slots-parts, nodes-parts}
-use Rattle.table.specs.Nodes.{nodeBy}
-use Rattle.table.specs.declared.Kind.{Kind}
-use Rattle.row.specs.Kinds.{kindRows, leftPart, slot-rows}
-use Rattle.search.specs.declared.Search.{Search}
-use Rattle.search.specs.declared.Search.the-variants.{Clear}
-use Rattle.search.specs.Searches.{tested, tested-append, tested-one, next}
+use Rattle.rules.specs.Table.{Node}
+use Rattle.rules.specs.Rows.{Row, eq, plus, slack, slackRows, goalRow, rowsOf}
+use Rattle.row.specs.NodeRows.{rowsTo, all-parts, goal-is}
+use Rattle.slotcheck.specs.declared.Search.{Search}
+use Rattle.slotcheck.specs.declared.Search.the-variants.{Clear}
+use Rattle.slotcheck.specs.Searches.{tested, tested-append, tested-one, next}
 
--- P, p and q are the variables of the node and its parts at the first slot; the node's rows at slot s + 1
-abbrev pub slotRows : Kind → (T P p q s : ℕ) → List Row
-slotRows k T P p q s = kindRows k (ltb (s + 1) T) (P + s) (p + s) (q + s)
-
-unfoldable pub nodeRows : Kind → (T P p q : ℕ) → List Row
-nodeRows k T P p q = flat (slotRows k T P p q) T
-
--- the rows of node n, and of the first k nodes
-abbrev pub partRows : (T M : ℕ) → List Node → (n : ℕ) → List Row
-partRows T M ns n = slotsRows T M n (nodeAt ns n) T 1
-
-unfoldable pub rowsTo : (T M : ℕ) → List Node → (k : ℕ) → List Row
-rowsTo T M ns k = flat (partRows T M ns) k
-
-module _ (T M : ℕ) (ns : List Node) where
-  pub node-part : (n : ℕ) (k : Kind) (l r : ℕ) {P p q : ℕ} → nodeBy k l r ≡ nodeAt ns n → P ≡ (M + n) * T → p ≡ leftPart k M l * T → q ≡ (M + r) * T →
-      nodeRows k T P p q ≡ partRows T M ns n
-  unfolding nodeRows
-  node-part n k l r {P} {p} {q} e x y z =
-      flat-same (slotRows k T P p q) (λ s. rowsAt T M n (nodeBy k l r) (s + 1)) T (λ s h. rw (x, y, z) (sym (slot-rows T M n k l r s)))
-      ∙ sym (slots-parts T M n (nodeBy k l r) T) ∙ ap (λ (nd : Node). slotsRows T M n nd T 1) e
-
-  -- all nodes' rows, and then the goal row
-  pub all-tested : (f : Row → Bool) (n v : ℕ) {s : Search} → length ns ≡ n → s ≡ tested f (Clear 0) (rowsTo T M ns n) → v ≡ slack T M (n - 1) 1 →
-      next f s (eq (plus v ∷ []) (pos 1)) ≡ tested f (Clear 0) (rowsOf T M ns)
-  unfolding rowsTo
-  all-tested f n v {s} e p q =
-      let rows : rowsTo T M ns n ≡ slackRows T M ns = ap (flat (partRows T M ns)) (sym e) ∙ sym (nodes-parts T M ns) in
-      let goal : eq (plus v ∷ []) (pos 1) ≡ goalRow T M ns = ap (λ (v : ℕ). eq (plus v ∷ []) (pos 1)) (q ∙ ap (λ (k : ℕ). slack T M (k - 1) 1) (sym e)) in
-      rw (goal, p, rows) (sym (tested-append f (Clear 0) (slackRows T M ns) (goalRow T M ns ∷ []) ∙ tested-one f _ (goalRow T M ns)))
+pub all-tested : (T M : ℕ) (ns : List Node) (f : Row → Bool) (n v : ℕ) {s : Search} → length ns ≡ n → s ≡ tested f (Clear 0) (rowsTo T M ns n) → v ≡ slack T M (n - 1) 1 →
+    next f s (eq (plus v ∷ []) (pos 1)) ≡ tested f (Clear 0) (rowsOf T M ns)
+all-tested T M ns f n v {s} e p q =
+    rw (goal-is T M ns n e q, p, all-parts T M ns n e)
+    (sym (tested-append f (Clear 0) (slackRows T M ns) (goalRow T M ns ∷ []) ∙ tested-one f _ (goalRow T M ns)))

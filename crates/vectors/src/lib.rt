@@ -1,6 +1,6 @@
 // The vectors of spin.txt, one a line: T M RUN BITS RULE. A bit is the rule's truth at a slot, or - where it is not asked.
 use answers::Answer;
-use cases::Number;
+use decimals::Number;
 ghost use Prim.Native.Nat.{_≤_};
 
 // The length of the buffers of which a part is lent: more than 128 nodes at 64 slots.
@@ -121,13 +121,13 @@ fn read_agrees(line: &[u8], t: usize, m: usize, run: &[u16], table: &mut [u8]) -
 
 // Whether the calls give a line's truths. A line that cannot be read does not agree.
 pub fn agrees(line: &[u8]) -> bool {
-    let Number::Is(t) = cases::decimal(cases::part(line, 0, b' ')) else {
+    let Number::Is(t) = decimals::decimal(cases::part(line, 0, b' ')) else {
         return false;
     };
     if 64 < t {
         return false;
     }
-    let Number::Is(m) = cases::decimal(cases::part(line, 1, b' ')) else {
+    let Number::Is(m) = decimals::decimal(cases::part(line, 1, b' ')) else {
         return false;
     };
     let mut run = [0u16; 128];

@@ -9,7 +9,8 @@ use Rattle.lists.specs.Filling.{splice-as, splice-then}
 use Rattle.rules.specs.Rows.{rowsOf}
 use Rattle.rules.specs.TableTest.{nodesIn, length-nodesIn}
 use Rattle.record.specs.Records.{recordOf, record-is}
-use Rattle.rows.specs.Parts.{nodesBytes, before-goal, bytes-are, goal-is}
+use Rattle.row.specs.NodeRows.{goal-is}
+use Rattle.rows.specs.Parts.{nodesBytes, before-goal, bytes-are}
 use Rattle.rows.proofs.write_all.Statement.{statement}
 use Rattle.rows.proofs.write_all.Tie as tie
 

@@ -5,7 +5,8 @@ use native.Mathlib.Omega.{arith}
 use borrow.Author.Needs.{needs}
 use Rattle.lists.specs.Filling.{Filled, filled-none, filled-room, filled-more, filled-all}
 use Rattle.rules.specs.TableTest.{nodesIn}
-use Rattle.rows.specs.Parts.{nodeBytes, nodesBytes, partBytes, node-part}
+use Rattle.noderows.specs.Node.{nodeBytes}
+use Rattle.rows.specs.Parts.{nodesBytes, partBytes, part-bytes}
 use Rattle.rows.proofs.write_nodes.Statement.{statement}
 use Rattle.rows.proofs.write_nodes.Tie as tie
 
@@ -50,7 +51,7 @@ part c =
     let two = c .before .before .before in
     let nd = two .before .before .before in
     let a = nd .before .before .before .before .before .args in
-    node-part (a .t) (a .m) (nodesIn (a .table .now)) (nd .before .before .loop .i) (nd .node-at .result .kind) (nd .node-at .result .left) (nd .node-at .result .right)
+    part-bytes (a .t) (a .m) (nodesIn (a .table .now)) (nd .before .before .loop .i) (nd .node-at .result .kind) (nd .node-at .result .left) (nd .node-at .result .right)
     (nd .node-at .ensures .is) (two .before .before .place .ensures .0) (two .place2 .ensures .0 ∙ ap (λ (x : ℕ). x * a .t) (two .before .left-part .ensures .0)) (c .before .place3 .ensures .0)
 
 write-node-requires : tie.Need-write-node-requires Inv-loop μ-loop

@@ -4,7 +4,7 @@ use mathlib.Core.Bool.{Bool}
 use borrow.Author.Needs.{needs}
 use Rattle.rules.specs.TableTest.{nodesIn, length-nodesIn}
 use Rattle.rules.specs.Verdicts.{isBroken}
-use Rattle.search.specs.Searches.{stepped}
+use Rattle.slotcheck.specs.Searches.{stepped}
 use Rattle.search.specs.Parts.{all-tested}
 use Rattle.search.proofs.test_all.Statement.{statement}
 use Rattle.search.proofs.test_all.Tie as tie

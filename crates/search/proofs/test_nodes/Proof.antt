@@ -6,10 +6,10 @@ use borrow.Author.Needs.{needs}
 use Rattle.lists.specs.Flat.{flat}
 use Rattle.rules.specs.TableTest.{nodesIn}
 use Rattle.rules.specs.Verdicts.{isBroken}
-use Rattle.search.specs.declared.Search.{Search}
-use Rattle.search.specs.declared.Search.the-variants.{Clear}
-use Rattle.search.specs.Searches.{tested, tested-start, tested-more, reached, reached-start, over-rest}
-use Rattle.search.specs.Parts.{nodeRows, partRows, rowsTo, node-part}
+use Rattle.slotcheck.specs.declared.Search.{Search}
+use Rattle.slotcheck.specs.declared.Search.the-variants.{Clear}
+use Rattle.slotcheck.specs.Searches.{tested, tested-start, tested-more, reached, reached-start, over-rest}
+use Rattle.row.specs.NodeRows.{nodeRows, partRows, rowsTo, node-part}
 use Rattle.search.proofs.test_nodes.Statement.{statement}
 use Rattle.search.proofs.test_nodes.Tie as tie
 
