@@ -1,6 +1,9 @@
 // Lists of numbers and bytes in hexadecimal.
+ghost use mathlib.Core.Path.{_≡_};
 ghost use Prim.Native.Nat.{_≤_};
+ghost use lib.IntN.{pos, negℤ};
 ghost use lib.ListN.{length};
+ghost use Rattle.cases.specs.Values.{isNone, hexDigit, signedOf};
 use crate::part;
 use crate::parts;
 use decimals::Number;
@@ -29,7 +32,9 @@ impl Filled {
 }
 
 // Whether the text stands for an empty list.
-fn is_none(text: &[u8]) -> bool {
+fn is_none(text: &[u8]) -> bool
+    ensures { λ r. ⌜ r ≡ isNone (now (text .entry)) ⌝ }
+{
     if text.len() != 1 {
         return false;
     }
@@ -38,7 +43,7 @@ fn is_none(text: &[u8]) -> bool {
 
 // A hexadecimal digit, in lower case; 16 where the byte is none.
 fn digit(byte: u8) -> u8
-    ensures { λ r. ⌜ r ≤ 16 ⌝ }
+    ensures { λ r. ⌜ (r ≤ 16) × (r ≡ hexDigit byte) ⌝ }
 {
     if byte < b'0' {
         return 16;
@@ -118,12 +123,15 @@ pub fn run(text: &[u8], into: &mut [u16]) -> Filled
 
 fn minus(size: usize) -> i32
     requires { ⌜ size ≤ 2147483648 ⌝ }
+    ensures { λ r. ⌜ r ≡ negℤ (pos size) ⌝ }
 {
     (0 - (size as i64)) as i32
 }
 
 // A decimal number of 32 bits, with its sign where it is below zero.
-pub fn signed(text: &[u8]) -> Figure {
+pub fn signed(text: &[u8]) -> Figure
+    ensures { λ r. ⌜ r ≡ signedOf (now (text .entry)) ⌝ }
+{
     if text.len() == 0 {
         return Figure::Bad;
     }

@@ -1,4 +1,6 @@
 // Runs the scope paper's examples, its limits and a second evaluator's vectors through the calls, and prints what differs.
+mod lines;
+
 use libc::STDOUT_FILENO;
 ghost use Prim.Native.Nat.{_≤_};
 ghost use lib.ListN.{length};
@@ -101,8 +103,8 @@ fn run_spin(text: &mut [u8]) {
     run_vectors(&text[0..n]);
 }
 
-fn run_largest() {
-    if largest::agrees() {
+fn run_largest(out: &mut [u8]) {
+    if largest::agrees(out) {
         io::write_all(STDOUT_FILENO, b"largest 32196 rows 450744 bytes\n");
     } else {
         io::write_all(STDOUT_FILENO, b"largest differs\n");
@@ -110,8 +112,8 @@ fn run_largest() {
 }
 
 fn main() {
-    let mut text = [0u8; 131072];
-    run_lines(&mut text);
-    run_spin(&mut text);
-    run_largest();
+    let mut buffer = [0u8; 450816];
+    run_lines(&mut buffer);
+    run_spin(&mut buffer);
+    run_largest(&mut buffer);
 }

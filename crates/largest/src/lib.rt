@@ -1,6 +1,11 @@
 // The largest row case: 128 nodes, an atom and then until over the node before on both sides, T 64 and M 16.
 use answers::Answer;
+ghost use mathlib.Core.Path.{_≡_};
 ghost use Prim.Native.Nat.{_<_};
+ghost use lib.ListN.{length};
+ghost use Rattle.rules.specs.Outcome.{rowsOutcome, evaluateOutcome};
+ghost use Rattle.answers.specs.Told.{told};
+ghost use Rattle.largest.specs.Checks.{isValue, isRefusal, thirdTruth, areThirds, endsWithGoal, passesRefused, passesWritten};
 
 // The row count, and the bytes of all rows and of all truths.
 struct Sizes {
@@ -44,7 +49,9 @@ fn chain() -> [u8; 640] {
 }
 
 // The atom holds at every third slot.
-fn truth(slot: usize) -> u8 {
+fn truth(slot: usize) -> u8
+    ensures { λ r. ⌜ r ≡ thirdTruth slot ⌝ }
+{
     if slot % 3 == 0 { 1 } else { 0 }
 }
 
@@ -59,7 +66,9 @@ fn third_slots() -> [u16; 64] {
 }
 
 // Whether each byte is the atom's truth at its slot, as it is for every node of the chain.
-fn are_truths(out: &[u8]) -> bool {
+fn are_truths(out: &[u8]) -> bool
+    ensures { λ r. ⌜ r ≡ areThirds (now (out .entry)) ⌝ }
+{
     let mut i: usize = 0;
     while i < out.len() {
         if out[i] != truth(i % 64) {
@@ -70,14 +79,18 @@ fn are_truths(out: &[u8]) -> bool {
     true
 }
 
-fn is_value(answer: Answer, value: usize) -> bool {
+fn is_value(answer: Answer, value: usize) -> bool
+    ensures { λ r. ⌜ r ≡ isValue (told answer) value ⌝ }
+{
     match answer {
         Answer::Value(n) => n == value,
         Answer::Refused(_) => false,
     }
 }
 
-fn is_refusal(answer: Answer, number: u32) -> bool {
+fn is_refusal(answer: Answer, number: u32) -> bool
+    ensures { λ r. ⌜ r ≡ isRefusal (told answer) number ⌝ }
+{
     match answer {
         Answer::Value(_) => false,
         Answer::Refused(r) => answers::number(r) == number,
@@ -85,7 +98,9 @@ fn is_refusal(answer: Answer, number: u32) -> bool {
 }
 
 // The last row: the root at slot 1, variable (16 + 127)·64 = 9152, is 1.
-fn ends_with_goal(rows: &[u8]) -> bool {
+fn ends_with_goal(rows: &[u8]) -> bool
+    ensures { λ r. ⌜ r ≡ endsWithGoal (now (rows .entry)) ⌝ }
+{
     if rows.len() < 14 {
         return false;
     }
@@ -93,7 +108,9 @@ fn ends_with_goal(rows: &[u8]) -> bool {
     pattern::starts_with(&rows[last..], b"RW\x02\x01\x01\x01\xc0\x23\0\0\0\0\0\0")
 }
 
-fn rows_refused(table: &[u8], room: usize, out: &mut [u8]) -> bool {
+fn rows_refused(table: &[u8], room: usize, out: &mut [u8]) -> bool
+    ensures { λ r. ⌜ r ≡ passesRefused (rowsOutcome 64 16 (now (table .entry)) room) room (length (now (out .entry))) ⌝ }
+{
     pattern::fill(out);
     if out.len() < room {
         return false;
@@ -105,7 +122,9 @@ fn rows_refused(table: &[u8], room: usize, out: &mut [u8]) -> bool {
     pattern::is_kept(out, 0)
 }
 
-fn rows_written(table: &[u8], room: usize, count: usize, out: &mut [u8]) -> bool {
+fn rows_written(table: &[u8], room: usize, count: usize, out: &mut [u8]) -> bool
+    ensures { λ r. ⌜ r ≡ passesWritten endsWithGoal (rowsOutcome 64 16 (now (table .entry)) room) count room (length (now (out .entry))) ⌝ }
+{
     pattern::fill(out);
     if out.len() < room {
         return false;
@@ -120,7 +139,9 @@ fn rows_written(table: &[u8], room: usize, count: usize, out: &mut [u8]) -> bool
     pattern::is_kept(out, room)
 }
 
-fn truths_refused(table: &[u8], run: &[u16], room: usize, out: &mut [u8]) -> bool {
+fn truths_refused(table: &[u8], run: &[u16], room: usize, out: &mut [u8]) -> bool
+    ensures { λ r. ⌜ r ≡ passesRefused (evaluateOutcome 64 16 (now (table .entry)) (now (run .entry)) room) room (length (now (out .entry))) ⌝ }
+{
     pattern::fill(out);
     if out.len() < room {
         return false;
@@ -132,7 +153,9 @@ fn truths_refused(table: &[u8], run: &[u16], room: usize, out: &mut [u8]) -> boo
     pattern::is_kept(out, 0)
 }
 
-fn truths_written(table: &[u8], run: &[u16], room: usize, out: &mut [u8]) -> bool {
+fn truths_written(table: &[u8], run: &[u16], room: usize, out: &mut [u8]) -> bool
+    ensures { λ r. ⌜ r ≡ passesWritten areThirds (evaluateOutcome 64 16 (now (table .entry)) (now (run .entry)) room) 1 room (length (now (out .entry))) ⌝ }
+{
     pattern::fill(out);
     if out.len() < room {
         return false;
@@ -167,9 +190,9 @@ fn all_agree(table: &[u8], run: &[u16], sizes: Sizes, out: &mut [u8]) -> bool {
     truths_written(table, run, sizes.truths, out)
 }
 
-pub fn agrees() -> bool {
+// Whether the calls do so with a part of `out`; it needs a byte more than all rows.
+pub fn agrees(out: &mut [u8]) -> bool {
     let table = chain();
     let run = third_slots();
-    let mut out = [0u8; 450816];
-    all_agree(&table, &run, document_sizes(), &mut out)
+    all_agree(&table, &run, document_sizes(), out)
 }

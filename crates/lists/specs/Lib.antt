@@ -9,3 +9,4 @@ pub mod Place
 pub mod Splice
 pub mod Stores
 pub mod Filling
+pub mod Flags

@@ -14,7 +14,8 @@ use Rattle.rules.specs.Rows.{sameRows, notRows, andRows, orRows, impliesRows, r
 use Rattle.rules.specs.RowParts.{rowsBytes-flat}
 use Rattle.table.specs.declared.Kind.{Kind}
 use Rattle.table.specs.declared.Kind.the-variants.{Atom, Not, And, Or, Implies, Eventually, Always, Until}
-use Rattle.row.specs.NodeRows.{rowsOn, nodeRows}
+use Rattle.row.specs.Kinds.{rowsOn}
+use Rattle.row.specs.NodeRows.{nodeRows}
 use Rattle.families.specs.Put.{untilNext}
 use Rattle.noderows.specs.Slots.{pairAt, tripleAt, pairs, triples}
 

@@ -59,11 +59,11 @@ leftPart Eventually M l = M + l
 leftPart Always M l = M + l
 leftPart Until M l = M + l
 
--- the rows of node n at slot s + 1
-abbrev pub slotRows : (T M n : ℕ) → Kind → (l r s : ℕ) → List Row
-slotRows T M n k l r s = kindRows k (ltb (s + 1) T) ((M + n) * T + s) (leftPart k M l * T + s) ((M + r) * T + s)
+-- P, p and q are the variables of the node and its parts at the first slot; the node's rows at slot s + 1
+abbrev pub rowsOn : Kind → (T P p q s : ℕ) → List Row
+rowsOn k T P p q s = kindRows k (ltb (s + 1) T) (P + s) (p + s) (q + s)
 
-pub slot-rows : (T M n : ℕ) (k : Kind) (l r s : ℕ) → rowsAt T M n (nodeBy k l r) (s + 1) ≡ slotRows T M n k l r s
+pub slot-rows : (T M n : ℕ) (k : Kind) (l r s : ℕ) → rowsAt T M n (nodeBy k l r) (s + 1) ≡ rowsOn k T ((M + n) * T) (leftPart k M l * T) ((M + r) * T) s
 slot-rows T M n k l r s = go k
   where
     here : s + 1 - 1 ≡ s
@@ -72,7 +72,7 @@ slot-rows T M n k l r s = go k
     next : (M + n) * T + (s + 1 + 1 - 1) ≡ (M + n) * T + s + 1
     next = omega arith
 
-    go : (k : Kind) → rowsAt T M n (nodeBy k l r) (s + 1) ≡ slotRows T M n k l r s
+    go : (k : Kind) → rowsAt T M n (nodeBy k l r) (s + 1) ≡ rowsOn k T ((M + n) * T) (leftPart k M l * T) ((M + r) * T) s
     go Atom = rw here
     go Not = rw here
     go And = rw here

@@ -2,7 +2,6 @@
 use mathlib.Core.Path.{_≡_, sym, ap, _∙_}
 use mathlib.Core.List.{List, [], _∷_}
 use Prim.Native.Nat.{ℕ, _+_, _-_, _*_}
-use lib.Dec.{ltb}
 use lib.IntN.{pos}
 use lib.ListN.{length}
 use Rattle.lists.specs.Flat.{flat, flat-same}
@@ -11,12 +10,9 @@ use Rattle.rules.specs.Rows.{Row, eq, plus, slack, rowsAt, slotsRows, slackRows
 use Rattle.rules.specs.RowParts.{slots-parts, nodes-parts}
 use Rattle.table.specs.Nodes.{nodeBy}
 use Rattle.table.specs.declared.Kind.{Kind}
-use Rattle.row.specs.Kinds.{kindRows, leftPart, slot-rows}
+use Rattle.row.specs.Kinds.{rowsOn, leftPart, slot-rows}
 
--- P, p and q are the variables of the node and its parts at the first slot; the node's rows at slot s + 1
-abbrev pub rowsOn : Kind → (T P p q s : ℕ) → List Row
-rowsOn k T P p q s = kindRows k (ltb (s + 1) T) (P + s) (p + s) (q + s)
-
+-- P, p and q are the variables of the node and its parts at the first slot
 unfoldable pub nodeRows : Kind → (T P p q : ℕ) → List Row
 nodeRows k T P p q = flat (rowsOn k T P p q) T
 

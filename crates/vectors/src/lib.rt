@@ -1,26 +1,45 @@
 // The vectors of spin.txt, one a line: T M RUN BITS RULE. A bit is the rule's truth at a slot, or - where it is not asked.
 use answers::Answer;
 use decimals::Number;
+ghost use mathlib.Core.Path.{_≡_};
+ghost use mathlib.Core.Bool.{_&&_};
 ghost use Prim.Native.Nat.{_≤_};
+ghost use Rattle.cases.specs.Parts.{partOf};
+ghost use Rattle.vectors.specs.Truths.{isTruth, areTruths, isFirst, asksFor, askedIn};
 
 // The length of the buffers of which a part is lent: more than 128 nodes at 64 slots.
 const ROOM: usize = 8448;
 
-// How many truths a line asks for.
-pub fn asked(line: &[u8]) -> u64 {
-    let bits = cases::part(line, 3, b' ');
-    let mut n: u64 = 0;
+// A bit's share of the truths asked for.
+fn asks(bit: u8) -> usize
+    ensures { λ r. ⌜ (r ≡ asksFor bit) × (r ≤ 1) ⌝ }
+{
+    if bit == b'-' { 0 } else { 1 }
+}
+
+// How many truths the bits ask for.
+fn count_asked(bits: &[u8]) -> usize
+    ensures { λ r. ⌜ r ≡ askedIn (now (bits .entry)) ⌝ }
+{
+    let mut n: usize = 0;
     let mut i: usize = 0;
     while i < bits.len() {
-        if bits[i] != b'-' {
-            n = std::num::wrapping_add_u64(n, 1);
-        }
+        n += asks(bits[i]);
         i += 1;
     }
     n
 }
 
-fn is_truth(byte: u8, bit: u8) -> bool {
+// How many truths a line asks for.
+pub fn asked(line: &[u8]) -> u64
+    ensures { λ r. ⌜ r ≡ askedIn (partOf (now (line .entry)) 3 32) ⌝ }
+{
+    count_asked(cases::part(line, 3, b' ')) as u64
+}
+
+fn is_truth(byte: u8, bit: u8) -> bool
+    ensures { λ r. ⌜ r ≡ isTruth byte bit ⌝ }
+{
     if bit == b'0' {
         return byte == 0;
     }
@@ -31,7 +50,9 @@ fn is_truth(byte: u8, bit: u8) -> bool {
 }
 
 // Whether the root's bytes are the truths asked for.
-fn are_truths(root: &[u8], bits: &[u8]) -> bool {
+fn are_truths(root: &[u8], bits: &[u8]) -> bool
+    ensures { λ r. ⌜ r ≡ areTruths (now (root .entry)) (now (bits .entry)) ⌝ }
+{
     if root.len() != bits.len() {
         return false;
     }
@@ -46,7 +67,9 @@ fn are_truths(root: &[u8], bits: &[u8]) -> bool {
 }
 
 // Whether the evaluator's result is the root's truth at slot 1.
-fn is_first(root: &[u8], value: usize) -> bool {
+fn is_first(root: &[u8], value: usize) -> bool
+    ensures { λ r. ⌜ r ≡ isFirst (now (root .entry)) value ⌝ }
+{
     if root.len() == 0 {
         return false;
     }
@@ -90,7 +113,10 @@ fn evaluate_agrees(
     root_agrees(line, &out[from..end], value)
 }
 
-fn root_agrees(line: &[u8], root: &[u8], value: usize) -> bool {
+// Whether the root's bytes and the result are the line's truths.
+fn root_agrees(line: &[u8], root: &[u8], value: usize) -> bool
+    ensures { λ r. ⌜ r ≡ isFirst (now (root .entry)) value && areTruths (now (root .entry)) (partOf (now (line .entry)) 3 32) ⌝ }
+{
     if !is_first(root, value) {
         return false;
     }

@@ -4,7 +4,7 @@ use native.Mathlib.Nat.{mul-le-mul}
 use native.Mathlib.Omega.{arith}
 use borrow.Author.Tests.{lt-leb, le-leb}
 use Rattle.rules.specs.TableTest.{length-nodesIn}
-use Rattle.table.specs.Flags.{off, on}
+use Rattle.lists.specs.Flags.{off, on}
 use borrow.Author.Needs.{needs}
 use Rattle.evaluator.proofs.own_check.Statement.{statement}
 use Rattle.evaluator.proofs.own_check.Tie as tie

@@ -7,7 +7,8 @@ use Rattle.lists.specs.Flat.{flat}
 use Rattle.rules.specs.Verdicts.{isBroken}
 use Rattle.slotcheck.specs.declared.Search.{Search}
 use Rattle.slotcheck.specs.Searches.{tested, tested-start, tested-more, reached, over-rest}
-use Rattle.row.specs.NodeRows.{rowsOn, nodeRows}
+use Rattle.row.specs.Kinds.{rowsOn}
+use Rattle.row.specs.NodeRows.{nodeRows}
 use Rattle.search.proofs.test_node.Statement.{statement}
 use Rattle.search.proofs.test_node.Tie as tie
 

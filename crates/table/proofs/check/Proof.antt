@@ -1,5 +1,5 @@
 -- `table::check` meets its contract, a rung for each test. Assumes nothing.
-use Rattle.table.specs.Flags.{off, on}
+use Rattle.lists.specs.Flags.{off, on}
 use Rattle.table.specs.Checks.{checkOf}
 use borrow.Author.Needs.{needs}
 use Rattle.table.proofs.check.Statement.{statement}

@@ -4,7 +4,7 @@ use mathlib.Core.Bool.{true, and-false}
 use Prim.Native.Nat.{_≤_, _<_, _-_}
 use native.Mathlib.Omega.{arith}
 use borrow.Author.Needs.{needs}
-use Rattle.table.specs.Flags.{off, on}
+use Rattle.lists.specs.Flags.{off, on}
 use Rattle.lists.specs.All.{all, all-none, all-more, all-fails}
 use Rattle.rules.specs.TableTest.{recordGood, recordCount, good}
 use Rattle.table.proofs.good.Statement.{statement}

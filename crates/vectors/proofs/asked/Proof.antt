@@ -1,51 +1,18 @@
--- Safe, and ends.
-use Prim.Native.Nat.{_-_}
+-- `vectors::asked` meets its contract. Assumes nothing.
+use mathlib.Core.Path.{ap, _∙_}
 use borrow.Author.Needs.{needs}
-use lib.ListN.{length}
+use Rattle.vectors.specs.Truths.{askedIn}
 use Rattle.vectors.proofs.asked.Statement.{statement}
 use Rattle.vectors.proofs.asked.Tie as tie
 
-abbrev Inv-loop : tie.InvT-loop
-Inv-loop line bits n₀ i₀ n i = Unit {0}
-
-abbrev μ-loop : tie.MeasureT-loop
-μ-loop line bits n₀ i₀ n i = length bits - i
-
-part-requires : tie.Need-part-requires Inv-loop μ-loop
+part-requires : tie.Need-part-requires
 part-requires c κs = search needs
 
-loop-holds : tie.Need-loop-holds Inv-loop μ-loop
-loop-holds c = search needs
+count-asked-requires : tie.Need-count-asked-requires
+count-asked-requires c κs = search needs
 
-shared-slice-read-if1 : tie.Need-shared-slice-read-if1 Inv-loop μ-loop
-shared-slice-read-if1 c = search needs
-
-wrapping-add-u64-requires : tie.Need-wrapping-add-u64-requires Inv-loop μ-loop
-wrapping-add-u64-requires c κs = search needs
-
-add-i : tie.Need-add-i Inv-loop μ-loop
-add-i c = search needs
-
-loop-less : tie.Need-loop-less Inv-loop μ-loop
-loop-less c = search needs
-
-loop-again : tie.Need-loop-again Inv-loop μ-loop
-loop-again c = search needs
-
-returns : tie.Need-returns Inv-loop μ-loop
-returns c = search needs
+returns : tie.Need-returns
+returns c = c .count-asked .ensures ∙ ap askedIn (c .before .part .ensures)
 
 pub asked-spec : {M : Type 1} → statement M
-asked-spec =
-    tie.close
-    (tie.spec
-    Inv-loop
-    μ-loop
-    part-requires
-    loop-holds
-    shared-slice-read-if1
-    wrapping-add-u64-requires
-    add-i
-    loop-less
-    loop-again
-    returns)
+asked-spec = tie.close (tie.spec part-requires count-asked-requires returns)

@@ -1,11 +1,9 @@
--- The number below zero fits: its size less one is below 2 to the power 31.
+-- `cases::minus` meets its contract: the number fits, as its size less one is below 2 to the power 31. Assumes nothing.
 use mathlib.Core.Path.{_≡_, subst⁻¹, _∙_, ap}
-use mathlib.Core.Bool.{Bool, true, false, cond}
-use Prim.Native.Nat.{ℕ, zero, suc, _-_, _^_, _≤_, _<_}
+use Prim.Native.Nat.{ℕ, zero, suc, _^_, _≤_, _<_}
 use native.Mathlib.Omega.{arith}
 use borrow.Author.Needs.{needs}
-use lib.Dec.{ltb}
-use lib.IntN.{ℤ, pos, negsuc, _-ℤ_}
+use lib.IntN.{ℤ, pos, negℤ, _-ℤ_, +ℤ-idl}
 use lib.Signed.{mag}
 use mir.Syntax.{w32, w64}
 use mir.Val.{SFits, toZ}
@@ -13,16 +11,12 @@ use mir.Facts.{toZ-pos, toZ-ofZ}
 use Rattle.cases.proofs.values.minus.Statement.{statement}
 use Rattle.cases.proofs.values.minus.Tie as tie
 
-by-test : (t : Bool) (n : ℕ) → n ≤ 2147483648 → mag (cond t (negsuc (n - 1)) (pos (0 - n))) < 2147483648
-by-test true n h = omega arith
-by-test false n h = omega arith
-
-small : (n : ℕ) → n ≤ 2147483648 → mag (pos 0 -ℤ pos n) < 2147483648
+small : (n : ℕ) → n ≤ 2147483648 → mag (negℤ (pos n)) < 2147483648
 small zero h = omega arith
-small (suc n) h = by-test (ltb 0 (suc n)) (suc n) h
+small (suc n) h = omega arith
 
-turned : (n : ℕ) → n ≤ 2147483648 → pos 0 -ℤ toZ w64 n ≡ pos 0 -ℤ pos n
-turned n h = let s : n < 2 ^ 63 = omega arith in ap (λ (z : ℤ). pos 0 -ℤ z) (toZ-pos w64 s)
+turned : (n : ℕ) → n ≤ 2147483648 → pos 0 -ℤ toZ w64 n ≡ negℤ (pos n)
+turned n h = let s : n < 2 ^ 63 = omega arith in ap (λ (z : ℤ). pos 0 -ℤ z) (toZ-pos w64 s) ∙ +ℤ-idl (negℤ (pos n))
 
 cast-result : tie.Need-cast-result
 cast-result c = search needs
@@ -37,7 +31,7 @@ cast-result-2 c =
     (record { sfits = small (c .args .size) (search needs) })
 
 returns : tie.Need-returns
-returns c = search needs
+returns c = toZ-ofZ (cast-result-2 c) ∙ toZ-ofZ (sub-result c) ∙ turned (c .args .size) (search needs)
 
 pub minus-spec : {M : Type 1} → statement M
 minus-spec = tie.close (tie.spec cast-result sub-result cast-result-2 returns)

@@ -1,9 +1,6 @@
 // The cases of lines.txt, one a line: a call, what it is called with, and what it must answer and write.
-use answers::Answer;
 use cases::Figure;
 use decimals::Number;
-use judge::Ruling;
-use judge::Verdict;
 
 // The calls by a letter, a note, and a line that names no call.
 pub const NOTE: u8 = b'#';
@@ -105,15 +102,6 @@ fn number_at(line: &[u8], k: usize) -> Number {
     decimals::decimal(cases::part(line, k, b' '))
 }
 
-// Whether the answer is the one of the line's part k. A result has the letter given.
-fn is_told(answer: Answer, line: &[u8], k: usize, letter: u8) -> bool {
-    let told = cases::part(line, k, b' ');
-    match answer {
-        Answer::Value(n) => decimals::is_answer(told, letter, n),
-        Answer::Refused(r) => decimals::is_answer(told, b'r', answers::number(r) as usize),
-    }
-}
-
 // Whether the buffer starts with the line's part k, in hexadecimal, and is as it was after that.
 fn is_output(out: &[u8], line: &[u8], k: usize) -> bool {
     let mut bytes = [0u8; 2048];
@@ -126,14 +114,6 @@ fn is_output(out: &[u8], line: &[u8], k: usize) -> bool {
         return false;
     }
     pattern::is_kept(out, n)
-}
-
-// How many bytes the reader writes.
-fn table_size(answer: Answer) -> usize {
-    match answer {
-        Answer::Value(n) => if n <= 128 { 5 * n } else { 0 },
-        Answer::Refused(_) => 0,
-    }
 }
 
 // read M ROOM ANSWER TEXT
@@ -164,10 +144,10 @@ fn read_lends(line: &[u8], m: usize, room: usize, text: &[u8], out: &mut [u8]) -
         return false;
     }
     let answer = reader::read(text, m, &mut out[0..room]);
-    if !is_told(answer, line, 3, b'n') {
+    if !said::is_told(answer, cases::part(line, 3, b' '), b'n') {
         return false;
     }
-    pattern::is_kept(out, table_size(answer))
+    pattern::is_kept(out, said::table_size(answer))
 }
 
 // evaluate T M ROOM ANSWER RUN TRUTH TABLE
@@ -202,7 +182,7 @@ fn evaluate_lends(line: &[u8], head: Head, table: &[u8], run: &[u16], out: &mut 
         return false;
     }
     let answer = evaluator::evaluate(table, head.t, head.m, run, &mut out[0..room]);
-    if !is_told(answer, line, 4, b'v') {
+    if !said::is_told(answer, cases::part(line, 4, b' '), b'v') {
         return false;
     }
     is_output(out, line, 6)
@@ -234,26 +214,10 @@ fn rows_lends(line: &[u8], head: Head, table: &[u8], out: &mut [u8]) -> bool {
         return false;
     }
     let answer = rows::write_rows(table, head.t, head.m, &mut out[0..room]);
-    if !is_told(answer, line, 4, b'n') {
+    if !said::is_told(answer, cases::part(line, 4, b' '), b'n') {
         return false;
     }
     is_output(out, line, 5)
-}
-
-fn is_verdict(verdict: Verdict, told: &[u8]) -> bool {
-    match verdict {
-        Verdict::Outside(v) => decimals::is_answer(told, b'o', v),
-        Verdict::NotBinary(v) => decimals::is_answer(told, b'b', v),
-        Verdict::Broken(row) => decimals::is_answer(told, b'k', row),
-        Verdict::Passed(n) => decimals::is_answer(told, b'p', n),
-    }
-}
-
-fn is_ruled(ruling: Ruling, told: &[u8]) -> bool {
-    match ruling {
-        Ruling::Judged(verdict) => is_verdict(verdict, told),
-        Ruling::Refused(r) => decimals::is_answer(told, b'r', answers::number(r) as usize),
-    }
 }
 
 // judge T M E FIGURES ANSWER TABLE
@@ -287,5 +251,5 @@ fn judge_rules(line: &[u8], table: &[u8], figures: &[i32]) -> bool {
         return false;
     };
     let ruling = judge::judge(table, t, m, figures, e);
-    is_ruled(ruling, cases::part(line, 5, b' '))
+    said::is_ruled(ruling, cases::part(line, 5, b' '))
 }

@@ -1,0 +1,4 @@
+pub mod Parts
+pub mod Walk
+pub mod Values
+pub mod Signs
