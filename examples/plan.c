@@ -31,10 +31,10 @@ int main(void) {
     for (size_t i = 0; i < nodes * T; i++) figures[M * T + i] = truth[i] * ONE;
 
     sepia_verdict verdict = sepia_judge(table, bytes, T, M, figures, (M + nodes) * T, 0);
-    printf("verdict %u, value %u\n", verdict.verdict, verdict.value);
+    printf("verdict %u, value %u, shortfall %lld\n", verdict.verdict, verdict.value, (long long)verdict.shortfall);
 
     figures[M * T + (nodes - 1) * T] = 500000; /* a figure left at one half */
     verdict = sepia_judge(table, bytes, T, M, figures, (M + nodes) * T, 1000);
-    printf("verdict %u, value %u\n", verdict.verdict, verdict.value);
+    printf("verdict %u, value %u, shortfall %lld\n", verdict.verdict, verdict.value, (long long)verdict.shortfall);
     return 0;
 }

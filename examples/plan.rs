@@ -13,6 +13,7 @@ struct Verdict {
     refusal: u32,
     verdict: u32,
     value: u32,
+    shortfall: i64,
 }
 
 #[link(name = "sepia", kind = "static")]
@@ -40,9 +41,9 @@ fn rows(table: &[u8], t: usize, m: usize, out: &mut [u8]) -> Result<usize, u32> 
     answer(unsafe { sepia_rows(table.as_ptr(), table.len(), t, m, out.as_mut_ptr(), out.len()) })
 }
 
-fn judge(table: &[u8], t: usize, m: usize, figures: &[i32], e: i32) -> Result<(u32, usize), u32> {
+fn judge(table: &[u8], t: usize, m: usize, figures: &[i32], e: i32) -> Result<(u32, usize, i64), u32> {
     let v = unsafe { sepia_judge(table.as_ptr(), table.len(), t, m, figures.as_ptr(), figures.len(), e) };
-    if v.refusal == 0 { Ok((v.verdict, v.value as usize)) } else { Err(v.refusal) }
+    if v.refusal == 0 { Ok((v.verdict, v.value as usize, v.shortfall)) } else { Err(v.refusal) }
 }
 
 const T: usize = 4;
@@ -65,11 +66,11 @@ fn main() -> Result<(), u32> {
     // one figure for each variable: the atoms of the run, then each node's truth
     let atoms = (0..M).flat_map(|a| run.iter().map(move |r| (r >> a & 1) as i32 * ONE));
     let mut figures: Vec<i32> = atoms.chain(truth.iter().map(|&b| b as i32 * ONE)).collect();
-    let (verdict, value) = judge(table, T, M, &figures, 0)?;
-    println!("verdict {verdict}, value {value}");
+    let (verdict, value, shortfall) = judge(table, T, M, &figures, 0)?;
+    println!("verdict {verdict}, value {value}, shortfall {shortfall}");
 
     figures[M * T + (nodes - 1) * T] = 500_000; // a figure left at one half
-    let (verdict, value) = judge(table, T, M, &figures, 1000)?;
-    println!("verdict {verdict}, value {value}");
+    let (verdict, value, shortfall) = judge(table, T, M, &figures, 1000)?;
+    println!("verdict {verdict}, value {value}, shortfall {shortfall}");
     Ok(())
 }

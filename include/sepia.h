@@ -40,15 +40,18 @@ typedef struct {
 enum {
     SEPIA_OUTSIDE = 0,    /* value: the lowest variable below -e or above 1,000,000 + e */
     SEPIA_NOT_BINARY = 1, /* value: the lowest atom variable more than e from both 0 and 1,000,000 */
-    SEPIA_BROKEN = 2,     /* value: the lowest row that does not hold within e */
+    SEPIA_BROKEN = 2,     /* value: the lowest row that does not hold within e; shortfall: how far off it is */
     SEPIA_PASSED = 3      /* value: the row count */
 };
 
-/* refusal 0: verdict and its value. Otherwise both are 0. */
+/* refusal 0: verdict and its value. Otherwise both are 0.
+ * shortfall is in millionths, for SEPIA_BROKEN: of a >= row the right side less the sum, of an = row the distance between them, e not taken off;
+ * always above e. Otherwise it is 0. */
 typedef struct {
     uint32_t refusal;
     uint32_t verdict;
     uint32_t value;
+    int64_t shortfall;
 } sepia_verdict;
 
 /* Reads a rule text with atoms below m into its node table, 5 bytes a node (640 bytes are enough for any). The result is the node count. */

@@ -1,7 +1,7 @@
 #!/usr/bin/env python3
 """Changes every line of crates/known/data, one thing in each, and has `known` name every one of them.
 
-Three runs: each answer changed, each last byte of an output changed, each first truth of a vector changed.
+Four runs: each answer changed, each shortfall changed, each last byte of an output changed, each first truth of a vector changed.
 Needs target/bin/known, which `rt check known` makes."""
 
 import re
@@ -16,11 +16,18 @@ KNOWN = FOLDER.parents[2] / "target" / "bin" / "known"
 
 # where the answer and the output stand in a line of each call
 ANSWER = {"read": 3, "evaluate": 4, "rows": 4, "judge": 5}
+VERDICT = {"judge": 5}
 OUTPUT = {"evaluate": 6, "rows": 5}
 
 
 def other_answer(answer):
-    return f"{answer[0]}{int(answer[1:]) + 1}"
+    return re.sub(r"\d+", lambda number: str(int(number[0]) + 1), answer, count=1)
+
+
+def other_shortfall(answer):
+    """The answer with another shortfall, or None where it has none."""
+    row, comma, shortfall = answer.partition(",")
+    return f"{row},{int(shortfall) + 1}" if comma else None
 
 
 def other_byte(output):
@@ -38,7 +45,7 @@ def changed(line, places, change):
     if place is None or parts[place] == "-":
         return None
     parts[place] = change(parts[place])
-    return " ".join(parts)
+    return None if parts[place] is None else " ".join(parts)
 
 
 def differing(lines, spin):
@@ -60,7 +67,11 @@ def hold(what, named, changed_ones):
 def main():
     lines = (FOLDER / "lines.txt").read_text().splitlines()
     spin = (FOLDER / "spin.txt").read_text().splitlines()
-    for what, places, change in (("answers", ANSWER, other_answer), ("outputs", OUTPUT, other_byte)):
+    for what, places, change in (
+        ("answers", ANSWER, other_answer),
+        ("shortfalls", VERDICT, other_shortfall),
+        ("outputs", OUTPUT, other_byte),
+    ):
         edited = [changed(line, places, change) for line in lines]
         numbers = [n for n, line in enumerate(edited, 1) if line is not None]
         hold(what, differing([e or line for e, line in zip(edited, lines)], spin), (numbers, []))

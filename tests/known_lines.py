@@ -21,7 +21,7 @@ The scope paper's examples and the edges of its limits, made by tests/known_line
 TEXT, TRUTH, ROWS and TABLE are bytes in hexadecimal, RUN and FIGURES numbers with commas; - stands for none of them.
 TRUTH and ROWS are the output, - where the call refuses. ROOM is the length of the output buffer.
 ANSWER: n and a count (read, rows), v and a truth (evaluate), o, b, k or p and a number (judge: outside, not binary,
-broken, passed), r and the refusal. No number has more than ten digits.
+broken, passed), r and the refusal. After k and the row stand a comma and the shortfall. No number has more than ten digits.
 Above each group stands where its expected values come from."""
 
 
@@ -361,7 +361,7 @@ ONE = 1000000
 
 def judging():
     say("The paper: `a0`, T 1, M 1")
-    judge(1, 1, 0, [ONE, 999999], "k0", ATOM)
+    judge(1, 1, 0, [ONE, 999999], "k0,1", ATOM)
     judge(1, 1, 1, [ONE, 999999], "p2", ATOM)
     judge(1, 1, 0, [500000, 500000], "b0", ATOM)
     judge(1, 1, 0, [-1, 0], "o0", ATOM)
@@ -396,12 +396,12 @@ def judging():
     judge(1, 1, 0, [ONE, ONE + 1], "o1", ATOM)
     judge(1, 1, 1, [ONE + 1, ONE + 1], "p2", ATOM)
     judge(1, 1, 1, [ONE + 2, ONE + 1], "o0", ATOM)
-    judge(1, 1, 1, [-1, -1], "k1", ATOM)
+    judge(1, 1, 1, [-1, -1], "k1,1000001", ATOM)
     judge(1, 1, 1, [-2, -1], "o0", ATOM)
     judge(1, 1, 1000, [ONE + 1000, ONE + 1000], "p2", ATOM)
     judge(1, 1, 1000, [ONE + 1000, ONE + 1001], "o1", ATOM)
     judge(1, 1, 1000, [ONE, -1001], "o1", ATOM)
-    judge(1, 1, 1000, [ONE, -1000], "k0", ATOM)
+    judge(1, 1, 1000, [ONE, -1000], "k0,1001000", ATOM)
     judge(1, 1, 0, [500000, -1], "o1", ATOM)
     judge(1, 1, 0, [2147483647, 2147483647], "o0", ATOM)
     judge(1, 1, 1000, [-2147483648, 0], "o0", ATOM)
@@ -409,49 +409,58 @@ def judging():
     judge(1, 1, 0, [0, -2147483648], "o1", ATOM)
     say("By hand: not binary is strict and of atoms alone")
     judge(1, 1, 0, [1, 1], "b0", ATOM)
-    judge(1, 1, 1, [1, 1], "k1", ATOM)
+    judge(1, 1, 1, [1, 1], "k1,999999", ATOM)
     judge(1, 1, 1, [2, 2], "b0", ATOM)
     judge(1, 1, 0, [999999, 999999], "b0", ATOM)
     judge(1, 1, 1, [999999, 999999], "p2", ATOM)
     judge(1, 1, 1000, [999000, 999000], "p2", ATOM)
     judge(1, 1, 1000, [998999, 998999], "b0", ATOM)
-    judge(1, 1, 1000, [1000, 1000], "k1", ATOM)
+    judge(1, 1, 1000, [1000, 1000], "k1,999000", ATOM)
     judge(1, 1, 1000, [1001, 1001], "b0", ATOM)
-    judge(1, 1, 0, [ONE, 500000], "k0", ATOM)
+    judge(1, 1, 0, [ONE, 500000], "k0,500000", ATOM)
     judge(1, 2, 0, [ONE, 500000, ONE], "b1", ATOM)
     say("By hand: = rows within e either way, the goal row last")
-    judge(1, 1, 0, [0, 0], "k1", ATOM)
+    judge(1, 1, 0, [0, 0], "k1,1000000", ATOM)
     judge(1, 1, 1, [999999, ONE], "p2", ATOM)
-    judge(1, 1, 1, [999999, ONE + 1], "k0", ATOM)
+    judge(1, 1, 1, [999999, ONE + 1], "k0,2", ATOM)
     judge(1, 1, 1000, [ONE, 999000], "p2", ATOM)
-    judge(1, 1, 1000, [ONE, 998999], "k0", ATOM)
+    judge(1, 1, 1000, [ONE, 998999], "k0,1001", ATOM)
     judge(64, 1, 0, [ONE] * 128, "p65", ATOM)
-    judge(64, 1, 0, [ONE] * 127 + [999999], "k63", ATOM)
-    judge(64, 1, 0, [0] + [ONE] * 63 + [0] + [ONE] * 63, "k64", ATOM)
+    judge(64, 1, 0, [ONE] * 127 + [999999], "k63,1", ATOM)
+    judge(64, 1, 0, [0] + [ONE] * 63 + [0] + [ONE] * 63, "k64,1000000", ATOM)
     say("By hand: `a0Ua1`, T 2, M 2, rows numbered as rowlist prints them")
     met = [ONE, 0, 0, ONE, ONE, 0, 0, ONE, ONE, ONE]
     judge(2, 2, 0, met, "p10", UNTIL)
-    judge(2, 2, 0, met[:4] + [0] + met[5:], "k0", UNTIL)
-    judge(2, 2, 0, met[:7] + [0] + met[8:], "k3", UNTIL)
-    judge(2, 2, 0, met[:9] + [0], "k6", UNTIL)
-    judge(2, 2, 0, met[:8] + [0, ONE], "k7", UNTIL)
-    judge(2, 2, 0, met[:8] + [0, 0], "k8", UNTIL)
-    judge(2, 2, 0, met[:8] + [500000, 500000], "k8", UNTIL)
+    judge(2, 2, 0, met[:4] + [0] + met[5:], "k0,1000000", UNTIL)
+    judge(2, 2, 0, met[:7] + [0] + met[8:], "k3,1000000", UNTIL)
+    judge(2, 2, 0, met[:9] + [0], "k6,1000000", UNTIL)
+    judge(2, 2, 0, met[:8] + [0, ONE], "k7,1000000", UNTIL)
+    judge(2, 2, 0, met[:8] + [0, 0], "k8,1000000", UNTIL)
+    judge(2, 2, 0, met[:8] + [500000, 500000], "k8,500000", UNTIL)
     judge(2, 2, 1, met[:8] + [999999, 999999], "p10", UNTIL)
-    judge(2, 2, 1, met[:8] + [999999, 999998], "k8", UNTIL)
+    judge(2, 2, 1, met[:8] + [999999, 999998], "k8,2", UNTIL)
     never = [ONE, ONE, 0, 0, ONE, ONE, 0, 0]
-    judge(2, 2, 0, never + [0, 0], "k9", UNTIL)
-    judge(2, 2, 0, never + [ONE, ONE], "k8", UNTIL)
-    judge(2, 2, 0, never + [ONE, 0], "k6", UNTIL)
+    judge(2, 2, 0, never + [0, 0], "k9,1000000", UNTIL)
+    judge(2, 2, 0, never + [ONE, ONE], "k8,1000000", UNTIL)
+    judge(2, 2, 0, never + [ONE, 0], "k6,1000000", UNTIL)
     late = [0, 0, 0, ONE, 0, 0, 0, ONE]
-    judge(2, 2, 0, late + [0, ONE], "k9", UNTIL)
-    judge(2, 2, 0, late + [ONE, ONE], "k5", UNTIL)
-    judge(2, 2, 0, [0, 0, ONE, ONE, 0, 0, ONE, ONE, 0, ONE], "k4", UNTIL)
+    judge(2, 2, 0, late + [0, ONE], "k9,1000000", UNTIL)
+    judge(2, 2, 0, late + [ONE, ONE], "k5,1000000", UNTIL)
+    judge(2, 2, 0, [0, 0, ONE, ONE, 0, 0, ONE, ONE, 0, ONE], "k4,1000000", UNTIL)
     say("By hand: e once for a row, whatever its terms: `a0&a1`, T 1, M 2, third row P - p - q >= -1")
     both = table((1, 0, 0), (1, 1, 0), (3, 0, 1))
     judge(1, 2, 1, [ONE, ONE, ONE, ONE, 999999], "p6", both)
-    judge(1, 2, 1, [ONE, ONE, ONE + 1, ONE, 999999], "k4", both)
+    judge(1, 2, 1, [ONE, ONE, ONE + 1, ONE, 999999], "k4,2", both)
     judge(1, 2, 2, [ONE, ONE, ONE + 1, ONE, 999999], "p6", both)
+    say("By hand: the shortfall, e not taken off: of >= rows the right side less the sum, of = rows the distance either way")
+    judge(1, 1, 1000, [ONE, ONE + 1000], "p2", ATOM)
+    judge(1, 1, 1000, [0, 1001], "k0,1001", ATOM)
+    judge(1, 1, 1000, [0, -1000], "k1,1001000", ATOM)
+    judge(1, 1, 999, [1, ONE + 999], "k0,1000998", ATOM)
+    judge(1, 2, 1000, [ONE, ONE, ONE, ONE, 998999], "k4,1001", both)
+    judge(1, 2, 1000, [ONE, 0, ONE, 0, 1001], "k3,1001", both)
+    judge(1, 2, 1000, [ONE, ONE, ONE + 1000, ONE + 1000, -1000], "k4,1003000", both)
+    judge(1, 2, 1000, [0, 0, -1000, 0, 1], "k2,1001", both)
 
 
 # A rule of every kind: `G(a0>Fa1)&!(a2U!a0)|a1`, T 4, M 3.
@@ -472,8 +481,8 @@ def of_the_reference():
     read(3, 65, "n13", "G(a0>Fa1)&!(a2U!a0)|a1")
     read(3, 64, "r11", "G(a0>Fa1)&!(a2U!a0)|a1")
     for run, answer, truth, verdict in (
-        ([0, 1, 2, 4], "v0", "0100 0010 1110 1111 1111 0001 0100 1011 1011 0100 0100 0010 0110", "k97"),
-        ([5, 7, 4, 1], "v0", "1101 0100 1100 1110 0000 1110 1101 0010 1110 0001 0000 0100 0100", "k97"),
+        ([0, 1, 2, 4], "v0", "0100 0010 1110 1111 1111 0001 0100 1011 1011 0100 0100 0010 0110", "k97,1000000"),
+        ([5, 7, 4, 1], "v0", "1101 0100 1100 1110 0000 1110 1101 0010 1110 0001 0000 0100 0100", "k97,1000000"),
         ([5, 5, 5, 7], "v1", "1111 0001 1111 1111 1111 1111 1111 0000 0000 1111 1111 0001 1111", "p98"),
         ([2, 0, 0, 0], "v1", "0000 1000 1000 1111 1111 0000 0000 1111 1111 0000 0000 1000 1000", "p98"),
         ([1, 4, 1, 3], "v1", "1011 0001 1111 1111 1111 0100 1011 0100 0100 1011 1011 0001 1011", "p98"),

@@ -193,7 +193,7 @@ fn judge(cases: u64, random: &mut Random, counts: &mut Counts) -> Result<(), Str
         counts.add(match expected {
             Ok(Verdict::Outside(_)) => "outside".to_string(),
             Ok(Verdict::NotBinary(_)) => "not binary".to_string(),
-            Ok(Verdict::Broken(_)) => "broken".to_string(),
+            Ok(Verdict::Broken(..)) => "broken".to_string(),
             Ok(Verdict::Passed(_)) => "passed".to_string(),
             Err(number) => refusal(number),
         });

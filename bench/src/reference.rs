@@ -29,7 +29,8 @@ pub const UNTIL: u8 = 8;
 pub enum Verdict {
     Outside(usize),
     NotBinary(usize),
-    Broken(usize),
+    /// The row, and its shortfall in millionths.
+    Broken(usize, i64),
     Passed(usize),
 }
 
@@ -460,11 +461,11 @@ pub fn judge(table: &[u8], t: usize, m: usize, figures: &[i32], e: i32) -> Resul
     if let Some(variable) = figures[..m * t].iter().position(|figure| (e + 1..one - e).contains(figure)) {
         return Ok(Verdict::NotBinary(variable));
     }
-    let mut checker = Checker { figures, e: i64::from(e), count: 0 };
+    let mut checker = Checker { figures, e: i64::from(e), count: 0, shortfall: 0 };
     Ok(if all_rows(&table, t, m, &mut checker) {
         Verdict::Passed(checker.count)
     } else {
-        Verdict::Broken(checker.count)
+        Verdict::Broken(checker.count, checker.shortfall)
     })
 }
 
@@ -473,6 +474,8 @@ struct Checker<'a> {
     e: i64,
     /// The rows that held, which is the number of the first that did not.
     count: usize,
+    /// How far off the last row is that was looked at.
+    shortfall: i64,
 }
 
 impl Rows for Checker<'_> {
@@ -482,11 +485,12 @@ impl Rows for Checker<'_> {
             .iter()
             .map(|&(coefficient, variable)| i64::from(coefficient) * i64::from(self.figures[variable]))
             .sum();
-        let difference = sum - i64::from(right) * ONE;
-        let holds = match relation {
-            Relation::AtLeast => difference >= -self.e,
-            Relation::Equal => difference.abs() <= self.e,
+        let difference = i64::from(right) * ONE - sum;
+        self.shortfall = match relation {
+            Relation::AtLeast => difference,
+            Relation::Equal => difference.abs(),
         };
+        let holds = self.shortfall <= self.e;
         self.count += usize::from(holds);
         holds
     }

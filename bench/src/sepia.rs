@@ -15,6 +15,7 @@ struct RawVerdict {
     refusal: u32,
     verdict: u32,
     value: u32,
+    shortfall: i64,
 }
 
 extern "C" {
@@ -69,13 +70,13 @@ pub fn judge(table: &[u8], t: usize, m: usize, figures: &[i32], e: i32) -> Resul
     // SAFETY: as in `read`; nothing is written.
     let raw = unsafe { sepia_judge(table.as_ptr(), table.len(), t, m, figures.as_ptr(), figures.len(), e) };
     let value = raw.value as usize;
-    match (raw.refusal, raw.verdict) {
-        (0, 0) => Ok(Verdict::Outside(value)),
-        (0, 1) => Ok(Verdict::NotBinary(value)),
-        (0, 2) => Ok(Verdict::Broken(value)),
-        (0, 3) => Ok(Verdict::Passed(value)),
-        // No verdict of the paper: nothing that the reference answers.
-        (0, _) => Err(0),
-        (refusal, _) => Err(refusal),
+    match (raw.refusal, raw.verdict, raw.shortfall) {
+        (0, 0, 0) => Ok(Verdict::Outside(value)),
+        (0, 1, 0) => Ok(Verdict::NotBinary(value)),
+        (0, 2, shortfall) => Ok(Verdict::Broken(value, shortfall)),
+        (0, 3, 0) => Ok(Verdict::Passed(value)),
+        (0, ..) => Err(0), // no verdict of the paper: nothing that the reference answers
+        (refusal, _, 0) => Err(refusal),
+        (..) => Err(0),
     }
 }

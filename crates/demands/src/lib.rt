@@ -5,6 +5,7 @@ ghost use Rattle.demands.specs.Demand1.{ReaderRefuses, EvaluatorRefuses,
 ghost use Rattle.demands.specs.Demand2.{ReaderAnswers, EvaluatorAnswers, RowWriterAnswers, JudgeAnswers};
 ghost use Rattle.demands.specs.Demand3.{Demanded};
 ghost use Rattle.demands.specs.Passed.{PassedMeans, PassedAtZero};
+ghost use Rattle.demands.specs.Shortfall.{SameVerdict, JudgedAsBefore, CarriesShortfall};
 use answers::Answer;
 use answers::Refusal;
 use judge::Ruling;
@@ -33,12 +34,15 @@ pub fn write_rows(table: &[u8], t: usize, m: usize, out: &mut [u8]) -> Answer
     rows::write_rows(table, t, m, out)
 }
 
-// Demands 1 and 2 of the judge, and what a passed verdict means.
+// Demands 1 and 2 of the judge, what a passed verdict means, and what a broken one carries.
 pub fn judge_figures(table: &[u8], t: usize, m: usize, figures: &[i32], e: i32) -> Ruling
     ensures { λ r. ⌜ JudgeRefuses t m (now (table .entry)) (now (figures .entry)) e (ruled r) ⌝ }
     ensures { λ r. ⌜ JudgeAnswers t m (now (table .entry)) (now (figures .entry)) e (ruled r) ⌝ }
     ensures { λ r. ⌜ PassedMeans t m (now (table .entry)) (now (figures .entry)) e (ruled r) ⌝ }
     ensures { λ r. ⌜ PassedAtZero t m (now (table .entry)) (now (figures .entry)) e (ruled r) ⌝ }
+    ensures { λ r. ⌜ SameVerdict t m (now (table .entry)) (now (figures .entry)) e (ruled r) ⌝ }
+    ensures { λ r. ⌜ JudgedAsBefore t m (now (table .entry)) (now (figures .entry)) e (ruled r) ⌝ }
+    ensures { λ r. ⌜ CarriesShortfall t m (now (table .entry)) (now (figures .entry)) e (ruled r) ⌝ }
 {
     judge::judge(table, t, m, figures, e)
 }

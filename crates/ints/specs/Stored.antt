@@ -42,5 +42,9 @@ back z h = toZ-ofZ (sfits-abs z (omega arith))
 pub small-back : (z : ℤ) → natAbs z ≤ 1099511627776 → natAbs (toZ w64 (ofZ w64 z)) ≤ 1099511627776
 small-back z h = subst⁻¹ (λ (x : ℤ). natAbs x ≤ 1099511627776) (back z h) h
 
+-- a result that is known by an equation and a bound
+pub kept : {z t : ℤ} → (z ≡ t) × (natAbs z ≤ 1099511627776) → toZ w64 (ofZ w64 z) ≡ t
+kept {z} p = back z (p .1) ∙ p .0
+
 pub sum-back : (a b : ℤ) → natAbs a ≤ 1099511627776 → natAbs b ≤ 1099511627776 → toZ w64 (ofZ w64 a) +ℤ toZ w64 (ofZ w64 b) ≡ a +ℤ b
 sum-back a b h g = ap₂ _+ℤ_ (back a h) (back b g)

@@ -11,16 +11,17 @@ use Rattle.rules.specs.Table.{Node}
 use Rattle.rules.specs.Rows.{goalRow, rowsOf}
 use Rattle.rules.specs.Judge as Judge
 use Rattle.rules.specs.Judge.Verdict.{outside, not-binary, broken, passed}
-use Rattle.rules.specs.Verdicts.{isBroken, orElse, firstOutside, firstNotBinary, firstBroken, verdict}
+use Rattle.rules.specs.Judge.{shortfall}
+use Rattle.rules.specs.Verdicts.{orElse, firstOutside, firstNotBinary, firstBroken, brokenAt, verdict}
 use Rattle.slotcheck.specs.declared.Search.{Search}
 use Rattle.slotcheck.specs.declared.Search.the-variants.{Clear, Broken}
-use Rattle.slotcheck.specs.Searches.{tested, first-broken, all-clear}
+use Rattle.slotcheck.specs.Searches.{tested, first-broken, shortfall-of, all-clear}
 use Rattle.slotcheck.specs.Searches as Searches
 use Rattle.limits.specs.Tests.{outsideAt, notBinaryAt}
 
 module _ (T M e : ℕ) (ns : List Node) (xs : List ℤ) where
   unfoldable pub rowsVerdict : Judge.Verdict
-  rowsVerdict = orElse (firstBroken T M e ns xs) broken (passed (length (rowsOf T M ns)))
+  rowsVerdict = orElse (firstBroken T M e ns xs) (brokenAt T M e ns xs) (passed (length (rowsOf T M ns)))
 
   unfoldable pub atomsVerdict : Judge.Verdict
   atomsVerdict = orElse (firstNotBinary T M e ns xs) not-binary rowsVerdict
@@ -29,18 +30,18 @@ module _ (T M e : ℕ) (ns : List Node) (xs : List ℤ) where
   unfolding verdict atomsVerdict rowsVerdict
   verdict-is = refl
 
-  pub broken-is : (s : Search) → s ≡ tested (isBroken e xs) (Clear 0) (rowsOf T M ns) → firstBroken T M e ns xs ≡ Searches.broken s
-  broken-is s p = sym (first-broken (isBroken e xs) (goalRow T M ns) (rowsOf T M ns)) ∙ ap Searches.broken (sym p)
+  pub broken-is : (s : Search) → s ≡ tested e (shortfall xs) (Clear 0) (rowsOf T M ns) → firstBroken T M e ns xs ≡ Searches.broken s
+  broken-is s p = sym (first-broken e (shortfall xs) (goalRow T M ns) (rowsOf T M ns)) ∙ ap Searches.broken (sym p)
 
-  pub broken-verdict : (i : ℕ) → Broken i ≡ tested (isBroken e xs) (Clear 0) (rowsOf T M ns) → broken i ≡ rowsVerdict
+  pub broken-verdict : (i : ℕ) (d : ℤ) → Broken i d ≡ tested e (shortfall xs) (Clear 0) (rowsOf T M ns) → broken i d ≡ rowsVerdict
   unfolding rowsVerdict
-  broken-verdict i p = rw (broken-is (Broken i) p)
+  broken-verdict i d p = rw (broken-is (Broken i d) p) (ap (broken i) (shortfall-of e (shortfall xs) (goalRow T M ns) (rowsOf T M ns) i d (sym p)))
 
-  pub clear-verdict : (n : ℕ) → Clear n ≡ tested (isBroken e xs) (Clear 0) (rowsOf T M ns) → passed n ≡ rowsVerdict
+  pub clear-verdict : (n : ℕ) → Clear n ≡ tested e (shortfall xs) (Clear 0) (rowsOf T M ns) → passed n ≡ rowsVerdict
   unfolding rowsVerdict
   clear-verdict n p =
       rw (broken-is (Clear n) p)
-      (ap passed (all-clear (isBroken e xs) (rowsOf T M ns) 0 n (sym p) ∙ zero-add (length (rowsOf T M ns))))
+      (ap passed (all-clear e (shortfall xs) (rowsOf T M ns) 0 n (sym p) ∙ zero-add (length (rowsOf T M ns))))
 
   pub atoms-found : (k v : ℕ) → k ≡ M * T → first (notBinaryAt e xs) k 0 ≡ some v → not-binary v ≡ atomsVerdict
   unfolding atomsVerdict

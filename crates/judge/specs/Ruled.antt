@@ -12,7 +12,7 @@ use Rattle.judge.specs.declared.Ruling.the-variants.{Refused, Judged}
 abbrev pub verdictOf : Verdict → Judge.Verdict
 verdictOf (Outside v) = outside v
 verdictOf (NotBinary v) = not-binary v
-verdictOf (Broken i) = broken i
+verdictOf (Broken i d) = broken i d
 verdictOf (Passed n) = passed n
 
 abbrev pub ruled : Ruling → Answer Judge.Verdict

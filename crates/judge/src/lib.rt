@@ -19,8 +19,8 @@ pub enum Verdict {
     Outside(usize),
     // the lowest atom variable that is neither zero nor one
     NotBinary(usize),
-    // the lowest broken row
-    Broken(usize),
+    // the lowest broken row, and its shortfall in millionths
+    Broken(usize, i64),
     // the row count
     Passed(usize),
 }
@@ -37,7 +37,7 @@ fn rows_verdict(table: &[u8], n: usize, t: usize, m: usize, figures: &[i32], e: 
 {
     let rows = search::test_all(table, n, t, m, figures, e);
     match rows {
-        Search::Broken(i) => Verdict::Broken(i),
+        Search::Broken(i, shortfall) => Verdict::Broken(i, shortfall),
         Search::Clear(i) => Verdict::Passed(i),
     }
 }

@@ -30,6 +30,15 @@ BrokenBy equal e b s = Apart e b s
 abbrev pub Broken : (e : ℕ) → List ℤ → Row → Type 0
 Broken e xs r = BrokenBy (r .relation) e (r .right *ℤ pos one) (sumOf xs (r .terms))
 
+-- Request N1: "for a ≥ row the right side less the sum, for an = row the distance between them. The tolerance is not taken off."
+abbrev pub shortfallBy : Relation → (right sum : ℤ) → ℤ
+shortfallBy at-least b s = b -ℤ s
+shortfallBy equal b s = pos (natAbs (s -ℤ b))
+
+-- "in millionths"
+abbrev pub shortfall : List ℤ → Row → ℤ
+shortfall xs r = shortfallBy (r .relation) (r .right *ℤ pos one) (sumOf xs (r .terms))
+
 -- the lowest number of which P holds; and none does
 pub record Lowest (P : ℕ → Type 0) (n : ℕ) : Type 0 where
   pub holds : P n
@@ -39,7 +48,12 @@ abbrev pub None : (ℕ → Type 0) → Type 0
 None P = (k : ℕ) → P k → ⊥
 
 pub data Verdict : Type 0 where
-  outside not-binary broken passed : ℕ → Verdict
+  outside not-binary passed : ℕ → Verdict
+  broken : (row : ℕ) (shortfall : ℤ) → Verdict
+
+-- row i of a table's rows
+abbrev pub rowAt : (T M : ℕ) → List Node → ℕ → Row
+rowAt T M ns i = getD (rowsOf T M ns) i (goalRow T M ns)
 
 module _ (T M e : ℕ) (ns : List Node) (xs : List ℤ) where
   abbrev pub OutsideAt : ℕ → Type 0
@@ -49,12 +63,12 @@ module _ (T M e : ℕ) (ns : List Node) (xs : List ℤ) where
   NotBinaryAt v = (v < M * T) × NotBinary e (valueAt xs v)
 
   abbrev pub BrokenAt : ℕ → Type 0
-  BrokenAt i = (i < length (rowsOf T M ns)) × Broken e xs (getD (rowsOf T M ns) i (goalRow T M ns))
+  BrokenAt i = (i < length (rowsOf T M ns)) × Broken e xs (rowAt T M ns i)
 
   -- "Its verdict is the first of: outside, with the lowest variable ..; not binary, with the lowest atom variable ..;
-  -- broken, with the lowest row number; passed, with the row count."
+  -- broken, with the lowest row number; passed, with the row count." Request N1: "The verdict broken then carries the shortfall".
   pub data Judged : Verdict → Type 0 where
     is-outside : {v : ℕ} → Lowest OutsideAt v → Judged (Verdict.outside v)
     is-not-binary : {v : ℕ} → None OutsideAt → Lowest NotBinaryAt v → Judged (Verdict.not-binary v)
-    is-broken : {i : ℕ} → None OutsideAt → None NotBinaryAt → Lowest BrokenAt i → Judged (Verdict.broken i)
+    is-broken : {i : ℕ} → None OutsideAt → None NotBinaryAt → Lowest BrokenAt i → Judged (Verdict.broken i (shortfall xs (rowAt T M ns i)))
     is-passed : None OutsideAt → None NotBinaryAt → None BrokenAt → Judged (Verdict.passed (length (rowsOf T M ns)))

@@ -60,8 +60,8 @@ starred =
     kinds (97 ∷ 48 ∷ 38 ∷ 97 ∷ 49 ∷ 124 ∷ 97 ∷ 48 ∷ []) (1 ∷ 1 ∷ 3 ∷ 1 ∷ 4 ∷ []) ∷
     kinds (97 ∷ 48 ∷ 85 ∷ 97 ∷ 49 ∷ 85 ∷ 97 ∷ 48 ∷ []) (1 ∷ 1 ∷ 1 ∷ 8 ∷ 8 ∷ []) ∷
     kinds (33 ∷ 97 ∷ 48 ∷ 85 ∷ 97 ∷ 49 ∷ []) (1 ∷ 2 ∷ 1 ∷ 8 ∷ []) ∷
-    -- "Judge, `a0`, T 1, M 1: 1000000, 999999 is broken at row 0 with e 0"
-    judged (97 ∷ 48 ∷ []) (pos 1000000 ∷ pos 999999 ∷ []) (pos 0) (Verdict.broken 0) ∷ []
+    -- "Judge, `a0`, T 1, M 1: 1000000, 999999 is broken at row 0 with e 0", by one millionth (request N1)
+    judged (97 ∷ 48 ∷ []) (pos 1000000 ∷ pos 999999 ∷ []) (pos 0) (Verdict.broken 0 (pos 1)) ∷ []
 
 pub starred-shown : Every Shown starred
 unfolding readOutcome reading parsed parse tokenAt signAt spaces digits value isNumeral evaluateOutcome tableChecked good recordGood nodeIn nodesIn all runGood truthBytes truth judgeOutcome verdict first

@@ -8,18 +8,18 @@ use Prim.Native.Nat.{ℕ, _+_, _*_, _<_}
 use native.Mathlib.Omega.{arith}
 use native.Mathlib.Decide.{decLt}
 use lib.Dec.{T as Is, ltb, ltb→lt, lt→ltb}
-use lib.ListN.{length, getD}
+use lib.ListN.{length}
 use lib.IntN.{ℤ, pos, negℤ, _-ℤ_, _*ℤ_, natAbs}
 use lib.Signed.{ltZ, _<ℤ_}
 use Rattle.lists.specs.Tests.{or-cases, or-left, or-right, and-left, and-right, and-both}
 use Rattle.lists.specs.First.{first, first-found, Found}
 use Rattle.rules.specs.Quantities.{one}
 use Rattle.rules.specs.Table.{Node}
-use Rattle.rules.specs.Rows.{Relation, Row, valueAt, sumOf, rowsOf, goalRow}
-use Rattle.rules.specs.Rows.Relation.{at-least, equal}
-use Rattle.rules.specs.Judge.{Apart, Outside, NotBinary, BrokenBy, Lowest, None, Verdict, OutsideAt, NotBinaryAt, BrokenAt, Judged}
+use Rattle.rules.specs.Rows.{Row, valueAt, sumOf, rowsOf}
+use Rattle.rules.specs.Judge.{Apart, Outside, NotBinary, Broken, shortfall, Lowest, None, Verdict, rowAt, OutsideAt, NotBinaryAt, BrokenAt, Judged}
 use Rattle.rules.specs.Judge.Verdict.{outside, not-binary, broken, passed}
 use Rattle.rules.specs.Judge.Judged.{is-outside, is-not-binary, is-broken, is-passed}
+use Rattle.rules.specs.Shortfalls.{broken-short}
 
 -- ---- the tests of one figure and of one row
 
@@ -32,12 +32,12 @@ isOutside e x = ltZ x (negℤ (pos e)) || ltZ (pos (one + e)) x
 abbrev pub isNotBinary : (e : ℕ) → ℤ → Bool
 isNotBinary e x = apart e (pos 0) x && apart e (pos one) x
 
-abbrev pub isBrokenBy : Relation → (e : ℕ) → (right sum : ℤ) → Bool
-isBrokenBy at-least e b s = ltZ s (b -ℤ pos e)
-isBrokenBy equal e b s = apart e b s
+-- a row is broken where its shortfall is above the tolerance
+abbrev pub isShort : (e : ℕ) → ℤ → Bool
+isShort e d = ltZ (pos e) d
 
 abbrev pub isBroken : (e : ℕ) → List ℤ → Row → Bool
-isBroken e xs r = isBrokenBy (r .relation) e (r .right *ℤ pos one) (sumOf xs (r .terms))
+isBroken e xs r = isShort e (shortfall xs r)
 
 below-iff : (a b : ℤ) → (a <ℤ b) ↔ Is (ltZ a b)
 below-iff a b = (λ h. h .lt, λ t. record { lt = t })
@@ -61,13 +61,14 @@ not-binary-iff e x =
       λ t. (apart-iff e (pos 0) x .1 (and-left a b t), apart-iff e (pos one) x .1 (and-right a b t)),
     )
 
-broken-by-iff : (o : Relation) (e : ℕ) (b s : ℤ) → BrokenBy o e b s ↔ Is (isBrokenBy o e b s)
-broken-by-iff at-least e b s = below-iff s (b -ℤ pos e)
-broken-by-iff equal e b s = apart-iff e b s
+broken-iff : (e : ℕ) (xs : List ℤ) (r : Row) → Broken e xs r ↔ Is (isBroken e xs r)
+broken-iff e xs r =
+    let iff = broken-short (r .relation) e (r .right *ℤ pos one) (sumOf xs (r .terms)) in
+    (λ h. iff .0 h .lt, λ t. iff .1 (below-iff (pos e) (shortfall xs r) .1 t))
 
 -- ---- the first of
 
-abbrev pub orElse : Option ℕ → (ℕ → Verdict) → Verdict → Verdict
+abbrev pub orElse : {A : Type 0} → Option ℕ → (ℕ → A) → A → A
 orElse none f v = v
 orElse (some k) f v = f k
 
@@ -79,10 +80,14 @@ module _ (T M e : ℕ) (ns : List Node) (xs : List ℤ) where
   firstNotBinary = first (λ v. isNotBinary e (valueAt xs v)) (M * T) 0
 
   abbrev pub firstBroken : Option ℕ
-  firstBroken = first (λ i. isBroken e xs (getD (rowsOf T M ns) i (goalRow T M ns))) (length (rowsOf T M ns)) 0
+  firstBroken = first (λ i. isBroken e xs (rowAt T M ns i)) (length (rowsOf T M ns)) 0
+
+  -- row i and its shortfall
+  abbrev pub brokenAt : ℕ → Verdict
+  brokenAt i = broken i (shortfall xs (rowAt T M ns i))
 
   unfoldable pub verdict : Verdict
-  verdict = orElse firstOutside outside (orElse firstNotBinary not-binary (orElse firstBroken broken (passed (length (rowsOf T M ns)))))
+  verdict = orElse firstOutside outside (orElse firstNotBinary not-binary (orElse firstBroken brokenAt (passed (length (rowsOf T M ns)))))
 
 -- ---- it is the verdict
 
@@ -131,21 +136,18 @@ module _ (T M e : ℕ) (ns : List Node) (xs : List ℤ) where
       (λ v. (λ h. (h .0, not-binary-iff e (valueAt xs v) .0 (h .1)), λ h. (h .0, not-binary-iff e (valueAt xs v) .1 (h .1))))
       (firstNotBinary T M e ns xs) (first-found (λ v. isNotBinary e (valueAt xs v)) (M * T) 0)
 
-  abbrev row : ℕ → Row
-  row i = getD (rowsOf T M ns) i (goalRow T M ns)
-
   broken-found : Search P₃ (firstBroken T M e ns xs)
   broken-found =
-      searched P₃ (λ i. isBroken e xs (row i)) (length (rowsOf T M ns))
-      (λ i. let iff = broken-by-iff (row i .relation) e (row i .right *ℤ pos one) (sumOf xs (row i .terms)) in (λ h. (h .0, iff .0 (h .1)), λ h. (h .0, iff .1 (h .1))))
-      (firstBroken T M e ns xs) (first-found (λ i. isBroken e xs (row i)) (length (rowsOf T M ns)) 0)
+      searched P₃ (λ i. isBroken e xs (rowAt T M ns i)) (length (rowsOf T M ns))
+      (λ i. let iff = broken-iff e xs (rowAt T M ns i) in (λ h. (h .0, iff .0 (h .1)), λ h. (h .0, iff .1 (h .1))))
+      (firstBroken T M e ns xs) (first-found (λ i. isBroken e xs (rowAt T M ns i)) (length (rowsOf T M ns)) 0)
 
   pub verdict-judged : Judged T M e ns xs (verdict T M e ns xs)
   unfolding verdict
   verdict-judged = go (firstOutside T M e ns xs) (firstNotBinary T M e ns xs) (firstBroken T M e ns xs) outside-found not-binary-found broken-found
     where
       go : (a b c : Option ℕ) → Search P₁ a → Search P₂ b → Search P₃ c →
-          Judged T M e ns xs (orElse a outside (orElse b not-binary (orElse c broken (passed (length (rowsOf T M ns))))))
+          Judged T M e ns xs (orElse a outside (orElse b not-binary (orElse c (brokenAt T M e ns xs) (passed (length (rowsOf T M ns))))))
       go (some v) b c p q r = is-outside p
       go none (some v) c p q r = is-not-binary p q
       go none none (some i) p q r = is-broken p q r

@@ -1,11 +1,13 @@
-// Whether an answer is the one that a line of known's data says: a letter and a number.
+// Whether an answer is the one that a line of known's data says: a letter and a number, and for a broken row its shortfall.
 use answers::Answer;
+use decimals::Number;
 use judge::Ruling;
 use judge::Verdict;
 ghost use mathlib.Core.Path.{_≡_};
 ghost use Rattle.answers.specs.Told.{told};
 ghost use Rattle.judge.specs.Ruled.{verdictOf, ruled};
-ghost use Rattle.said.specs.Said.{answerIs, verdictIs, rulingIs, tableSize};
+ghost use Rattle.decimals.specs.Decimal.{decimalOf};
+ghost use Rattle.said.specs.Said.{answerIs, isWhole, brokenIs, verdictIs, rulingIs, tableSize};
 
 // Whether the answer is the one that is said. A result has the letter given.
 pub fn is_told(answer: Answer, said: &[u8], letter: u8) -> bool
@@ -17,13 +19,37 @@ pub fn is_told(answer: Answer, said: &[u8], letter: u8) -> bool
     }
 }
 
+// Whether the text is the number n.
+fn is_number(text: &[u8], n: i64) -> bool
+    ensures { λ r. ⌜ r ≡ isWhole (decimalOf (now (text .entry))) n ⌝ }
+{
+    if n < 0 {
+        return false;
+    }
+    match decimals::decimal(text) {
+        Number::Is(m) => m == n as usize,
+        Number::Bad => false,
+    }
+}
+
+// Whether k and the row, a comma and the shortfall are said.
+fn is_broken(row: usize, shortfall: i64, said: &[u8]) -> bool
+    ensures { λ r. ⌜ r ≡ brokenIs (now (said .entry)) row shortfall ⌝ }
+{
+    if decimals::is_answer(cases::part(said, 0, b','), b'k', row) {
+        is_number(cases::part(said, 1, b','), shortfall)
+    } else {
+        false
+    }
+}
+
 fn is_verdict(verdict: Verdict, said: &[u8]) -> bool
     ensures { λ r. ⌜ r ≡ verdictIs (now (said .entry)) (verdictOf verdict) ⌝ }
 {
     match verdict {
         Verdict::Outside(v) => decimals::is_answer(said, b'o', v),
         Verdict::NotBinary(v) => decimals::is_answer(said, b'b', v),
-        Verdict::Broken(row) => decimals::is_answer(said, b'k', row),
+        Verdict::Broken(row, shortfall) => is_broken(row, shortfall, said),
         Verdict::Passed(n) => decimals::is_answer(said, b'p', n),
     }
 }

@@ -5,7 +5,7 @@ ghost use mathlib.Core.Path.{_≡_};
 ghost use Prim.Native.Nat.{_+_, _*_, _≤_};
 ghost use Rattle.rules.specs.Rows.{rowsOf};
 ghost use Rattle.rules.specs.TableTest.{recordCount, nodesIn};
-ghost use Rattle.rules.specs.Verdicts.{isBroken};
+ghost use Rattle.rules.specs.Judge.{shortfall};
 ghost use Rattle.table.specs.Checks.{Ready};
 ghost use Rattle.row.specs.NodeRows.{nodeRows, rowsTo};
 ghost use Rattle.slotcheck.specs.Searches.{tested, reached, over};
@@ -15,7 +15,7 @@ fn is_over(state: Search) -> bool
     ensures { λ r. ⌜ r ≡ over state ⌝ }
 {
     match state {
-        Search::Broken(_) => true,
+        Search::Broken(_, _) => true,
         Search::Clear(_) => false,
     }
 }
@@ -32,7 +32,7 @@ fn test_node(
     e: u16,
 ) -> Search
     requires { ⌜ (t ≤ 64) × (big ≤ 25600) × (p ≤ 25600) × (q ≤ 25600) × (reached state ≤ 800000) ⌝ }
-    ensures { λ r. ⌜ (r ≡ tested (isBroken e (now (figures .entry))) state (nodeRows kind t big p q)) × (reached r ≤ reached state + 256) ⌝ }
+    ensures { λ r. ⌜ (r ≡ tested e (shortfall (now (figures .entry))) state (nodeRows kind t big p q)) × (reached r ≤ reached state + 256) ⌝ }
 {
     let mut done = state;
     let mut s: u16 = 0;
@@ -49,7 +49,7 @@ fn test_node(
 // Tests the rows of the first n nodes.
 fn test_nodes(table: &[u8], n: usize, t: usize, m: usize, figures: &[i32], e: u16) -> Search
     requires { ⌜ (t ≤ 64) × (m ≤ 16) × (n ≤ 128) × (n ≤ recordCount (now table)) ⌝ }
-    ensures { λ r. ⌜ (r ≡ tested (isBroken e (now (figures .entry))) (Search.Clear 0) (rowsTo t m (nodesIn (now (table .entry))) n)) × (reached r ≤ 256 * n) ⌝ }
+    ensures { λ r. ⌜ (r ≡ tested e (shortfall (now (figures .entry))) (Search.Clear 0) (rowsTo t m (nodesIn (now (table .entry))) n)) × (reached r ≤ 256 * n) ⌝ }
 {
     let mut done = Search::Clear(0);
     let mut i: usize = 0;
@@ -71,10 +71,10 @@ fn test_nodes(table: &[u8], n: usize, t: usize, m: usize, figures: &[i32], e: u1
 // Tests all rows of a checked table of n nodes.
 pub fn test_all(table: &[u8], n: usize, t: usize, m: usize, figures: &[i32], e: u16) -> Search
     requires { ⌜ Ready t m (now table) × (n ≡ recordCount (now table)) ⌝ }
-    ensures { λ r. ⌜ r ≡ tested (isBroken e (now (figures .entry))) (Search.Clear 0) (rowsOf t m (nodesIn (now (table .entry)))) ⌝ }
+    ensures { λ r. ⌜ r ≡ tested e (shortfall (now (figures .entry))) (Search.Clear 0) (rowsOf t m (nodesIn (now (table .entry)))) ⌝ }
 {
     let slacks = test_nodes(table, n, t, m, figures, e);
     let goal = row::goal(row::slack(t, m, n - 1, 1));
-    let all = slotcheck::step(slacks, sums::is_broken(goal, figures, e));
+    let all = slotcheck::step(slacks, sums::shortfall(goal, figures), e);
     all
 }

@@ -1,5 +1,6 @@
 -- What the C structs say.
 use Prim.Native.Nat.{ℕ, _<_}
+use lib.IntN.{ℤ, pos}
 use Rattle.rules.specs.Demands.{Answer}
 use Rattle.rules.specs.Demands.Answer.{refused, answered}
 use Rattle.rules.specs.Judge.{Verdict}
@@ -21,18 +22,25 @@ Fits (answered n) = n < 4294967296
 abbrev pub verdictNumber : Verdict → ℕ
 verdictNumber (outside v) = 0
 verdictNumber (not-binary v) = 1
-verdictNumber (broken i) = 2
+verdictNumber (broken i d) = 2
 verdictNumber (passed n) = 3
 
 abbrev pub verdictValue : Verdict → ℕ
 verdictValue (outside v) = v
 verdictValue (not-binary v) = v
-verdictValue (broken i) = i
+verdictValue (broken i d) = i
 verdictValue (passed n) = n
 
+-- the shortfall of a broken row, and 0 for other verdicts
+abbrev pub verdictShortfall : Verdict → ℤ
+verdictShortfall (outside v) = pos 0
+verdictShortfall (not-binary v) = pos 0
+verdictShortfall (broken i d) = d
+verdictShortfall (passed n) = pos 0
+
 abbrev pub verdictInC : Answer Verdict → SepiaVerdict
-verdictInC (refused k) = record { refusal = k; verdict = 0; value = 0 }
-verdictInC (answered v) = record { refusal = 0; verdict = verdictNumber v; value = verdictValue v }
+verdictInC (refused k) = record { refusal = k; verdict = 0; value = 0; shortfall = pos 0 }
+verdictInC (answered v) = record { refusal = 0; verdict = verdictNumber v; value = verdictValue v; shortfall = verdictShortfall v }
 
 abbrev pub VerdictFits : Answer Verdict → Type 0
 VerdictFits (refused k) = Unit {0}

@@ -4,7 +4,7 @@ ghost use lib.ListN.{length};
 ghost use Rattle.rules.specs.Outcome.{result, buffer, readOutcome, evaluateOutcome, rowsOutcome, judgeOutcome};
 ghost use Rattle.answers.specs.Told.{told};
 ghost use Rattle.judge.specs.Ruled.{ruled, verdictOf};
-ghost use Rattle.sepia.specs.Boundary.{inC, Fits, verdictNumber, verdictValue, verdictInC, VerdictFits};
+ghost use Rattle.sepia.specs.Boundary.{inC, Fits, verdictNumber, verdictValue, verdictShortfall, verdictInC, VerdictFits};
 use answers::Answer;
 use judge::Ruling;
 use judge::Verdict;
@@ -65,12 +65,13 @@ pub extern "C" fn sepia_rows(table: &[u8], t: usize, m: usize, out: &mut [u8]) -
     plain(rows::write_rows(table, t, m, out))
 }
 
-// A refusal's number; or 0, the verdict's number and its value.
+// A refusal's number; or 0, the verdict's number, its value and its shortfall.
 #[repr(C)]
 pub struct SepiaVerdict {
     pub refusal: u32,
     pub verdict: u32,
     pub value: u32,
+    pub shortfall: i64,
 }
 
 fn verdict_number(verdict: Verdict) -> u32
@@ -79,7 +80,7 @@ fn verdict_number(verdict: Verdict) -> u32
     match verdict {
         Verdict::Outside(_) => 0,
         Verdict::NotBinary(_) => 1,
-        Verdict::Broken(_) => 2,
+        Verdict::Broken(_, _) => 2,
         Verdict::Passed(_) => 3,
     }
 }
@@ -90,8 +91,19 @@ fn verdict_value(verdict: Verdict) -> usize
     match verdict {
         Verdict::Outside(v) => v,
         Verdict::NotBinary(v) => v,
-        Verdict::Broken(i) => i,
+        Verdict::Broken(i, _) => i,
         Verdict::Passed(n) => n,
+    }
+}
+
+fn verdict_shortfall(verdict: Verdict) -> i64
+    ensures { λ r. ⌜ r ≡ verdictShortfall (verdictOf verdict) ⌝ }
+{
+    match verdict {
+        Verdict::Outside(_) => 0,
+        Verdict::NotBinary(_) => 0,
+        Verdict::Broken(_, shortfall) => shortfall,
+        Verdict::Passed(_) => 0,
     }
 }
 
@@ -104,11 +116,13 @@ fn plain_verdict(ruling: Ruling) -> SepiaVerdict
             refusal: answers::number(r),
             verdict: 0,
             value: 0,
+            shortfall: 0,
         },
         Ruling::Judged(v) => SepiaVerdict {
             refusal: 0,
             verdict: verdict_number(v),
             value: verdict_value(v) as u32,
+            shortfall: verdict_shortfall(v),
         },
     }
 }

@@ -2,27 +2,29 @@
 use table::Kind;
 ghost use mathlib.Core.Path.{_≡_};
 ghost use Prim.Native.Nat.{_≤_, _<_};
+ghost use lib.IntN.{natAbs};
 ghost use Rattle.rules.specs.Rows.{sameRows, notRows, andRows, orRows, impliesRows, untilRows};
-ghost use Rattle.rules.specs.Verdicts.{isBroken};
+ghost use Rattle.rules.specs.Judge.{shortfall};
 ghost use Rattle.row.specs.Kinds.{kindRows};
 ghost use Rattle.slotcheck.specs.Searches.{Step, Tested, reached};
 
-// A search for a broken row: so many rows are tested and hold, or the first broken row.
+// A search for a broken row: so many rows are tested and hold, or the first broken row and its shortfall.
 pub enum Search {
     Clear(usize),
-    Broken(usize),
+    Broken(usize, i64),
 }
 
-// One more row is tested, if none was broken.
-pub fn step(state: Search, broken: bool) -> Search
-    requires { ⌜ reached state ≤ 1000000 ⌝ }
-    ensures { λ r. ⌜ Step broken state r ⌝ }
+// One more row, of this shortfall, is tested, if none was broken.
+pub fn step(state: Search, shortfall: i64, e: u16) -> Search
+    requires { ⌜ (reached state ≤ 1000000) × (natAbs shortfall ≤ 1099511627776) ⌝ }
+    ensures { λ r. ⌜ Step e shortfall state r ⌝ }
 {
     match state {
-        Search::Broken(i) => Search::Broken(i),
+        Search::Broken(i, first) => Search::Broken(i, first),
         Search::Clear(i) => {
-            if broken {
-                Search::Broken(i)
+            let over = shortfall - (e as i64);
+            if 0 < over {
+                Search::Broken(i, shortfall)
             } else {
                 Search::Clear(i + 1)
             }
@@ -33,75 +35,75 @@ pub fn step(state: Search, broken: bool) -> Search
 // P − p = 0
 fn test_same(state: Search, big: u16, p: u16, figures: &[i32], e: u16) -> Search
     requires { ⌜ reached state ≤ 900000 ⌝ }
-    ensures { λ r. ⌜ Tested (isBroken e (now (figures .entry))) state (sameRows big p) r ⌝ }
+    ensures { λ r. ⌜ Tested e (shortfall (now (figures .entry))) state (sameRows big p) r ⌝ }
 {
     let x = sums::figure_of(figures, big);
     let y = sums::figure_of(figures, p);
-    step(state, sums::pair_off(1, x, -1, y, 0, e))
+    step(state, sums::pair_off(1, x, -1, y, 0), e)
 }
 
 // P + p = 1
 fn test_not(state: Search, big: u16, p: u16, figures: &[i32], e: u16) -> Search
     requires { ⌜ reached state ≤ 900000 ⌝ }
-    ensures { λ r. ⌜ Tested (isBroken e (now (figures .entry))) state (notRows big p) r ⌝ }
+    ensures { λ r. ⌜ Tested e (shortfall (now (figures .entry))) state (notRows big p) r ⌝ }
 {
     let x = sums::figure_of(figures, big);
     let y = sums::figure_of(figures, p);
-    step(state, sums::pair_off(1, x, 1, y, 1, e))
+    step(state, sums::pair_off(1, x, 1, y, 1), e)
 }
 
 // p − P ≥ 0; q − P ≥ 0; P − p − q ≥ −1
 fn test_and(state: Search, big: u16, p: u16, q: u16, figures: &[i32], e: u16) -> Search
     requires { ⌜ reached state ≤ 900000 ⌝ }
-    ensures { λ r. ⌜ Tested (isBroken e (now (figures .entry))) state (andRows big p q) r ⌝ }
+    ensures { λ r. ⌜ Tested e (shortfall (now (figures .entry))) state (andRows big p q) r ⌝ }
 {
     let x = sums::figure_of(figures, big);
     let y = sums::figure_of(figures, p);
     let z = sums::figure_of(figures, q);
-    let first = step(state, sums::pair_short(1, y, -1, x, 0, e));
-    let second = step(first, sums::pair_short(1, z, -1, x, 0, e));
-    step(second, sums::triple_short(1, x, -1, y, -1, z, -1, e))
+    let first = step(state, sums::pair_short(1, y, -1, x, 0), e);
+    let second = step(first, sums::pair_short(1, z, -1, x, 0), e);
+    step(second, sums::triple_short(1, x, -1, y, -1, z, -1), e)
 }
 
 // P − p ≥ 0; P − q ≥ 0; p + q − P ≥ 0
 fn test_or(state: Search, big: u16, p: u16, q: u16, figures: &[i32], e: u16) -> Search
     requires { ⌜ reached state ≤ 900000 ⌝ }
-    ensures { λ r. ⌜ Tested (isBroken e (now (figures .entry))) state (orRows big p q) r ⌝ }
+    ensures { λ r. ⌜ Tested e (shortfall (now (figures .entry))) state (orRows big p q) r ⌝ }
 {
     let x = sums::figure_of(figures, big);
     let y = sums::figure_of(figures, p);
     let z = sums::figure_of(figures, q);
-    let first = step(state, sums::pair_short(1, x, -1, y, 0, e));
-    let second = step(first, sums::pair_short(1, x, -1, z, 0, e));
-    step(second, sums::triple_short(1, y, 1, z, -1, x, 0, e))
+    let first = step(state, sums::pair_short(1, x, -1, y, 0), e);
+    let second = step(first, sums::pair_short(1, x, -1, z, 0), e);
+    step(second, sums::triple_short(1, y, 1, z, -1, x, 0), e)
 }
 
 // P + p ≥ 1; P − q ≥ 0; q − p − P ≥ −1
 fn test_implies(state: Search, big: u16, p: u16, q: u16, figures: &[i32], e: u16) -> Search
     requires { ⌜ reached state ≤ 900000 ⌝ }
-    ensures { λ r. ⌜ Tested (isBroken e (now (figures .entry))) state (impliesRows big p q) r ⌝ }
+    ensures { λ r. ⌜ Tested e (shortfall (now (figures .entry))) state (impliesRows big p q) r ⌝ }
 {
     let x = sums::figure_of(figures, big);
     let y = sums::figure_of(figures, p);
     let z = sums::figure_of(figures, q);
-    let first = step(state, sums::pair_short(1, x, 1, y, 1, e));
-    let second = step(first, sums::pair_short(1, x, -1, z, 0, e));
-    step(second, sums::triple_short(1, z, -1, y, -1, x, -1, e))
+    let first = step(state, sums::pair_short(1, x, 1, y, 1), e);
+    let second = step(first, sums::pair_short(1, x, -1, z, 0), e);
+    step(second, sums::triple_short(1, z, -1, y, -1, x, -1), e)
 }
 
 // P − q ≥ 0; p + q − P ≥ 0; q + P' − P ≥ 0; P − p − P' ≥ −1
 fn test_until(state: Search, big: u16, p: u16, q: u16, next: u16, figures: &[i32], e: u16) -> Search
     requires { ⌜ reached state ≤ 900000 ⌝ }
-    ensures { λ r. ⌜ Tested (isBroken e (now (figures .entry))) state (untilRows big p q next) r ⌝ }
+    ensures { λ r. ⌜ Tested e (shortfall (now (figures .entry))) state (untilRows big p q next) r ⌝ }
 {
     let x = sums::figure_of(figures, big);
     let y = sums::figure_of(figures, p);
     let z = sums::figure_of(figures, q);
     let w = sums::figure_of(figures, next);
-    let first = step(state, sums::pair_short(1, x, -1, z, 0, e));
-    let second = step(first, sums::triple_short(1, y, 1, z, -1, x, 0, e));
-    let third = step(second, sums::triple_short(1, z, 1, w, -1, x, 0, e));
-    step(third, sums::triple_short(1, x, -1, y, -1, w, -1, e))
+    let first = step(state, sums::pair_short(1, x, -1, z, 0), e);
+    let second = step(first, sums::triple_short(1, y, 1, z, -1, x, 0), e);
+    let third = step(second, sums::triple_short(1, z, 1, w, -1, x, 0), e);
+    step(third, sums::triple_short(1, x, -1, y, -1, w, -1), e)
 }
 
 // Tests the rows of a node at a slot. `big`, `p` and `q` are the variables of the node and its parts there,
@@ -117,7 +119,7 @@ pub fn test_slot(
     e: u16,
 ) -> Search
     requires { ⌜ (big < 65535) × (reached state ≤ 900000) ⌝ }
-    ensures { λ r. ⌜ Tested (isBroken e (now (figures .entry))) state (kindRows kind inner big p q) r ⌝ }
+    ensures { λ r. ⌜ Tested e (shortfall (now (figures .entry))) state (kindRows kind inner big p q) r ⌝ }
 {
     match kind {
         Kind::Atom => test_same(state, big, p, figures, e),

@@ -1,4 +1,4 @@
--- Laws of the tests on figures and sums.
+-- Laws of the tests on figures, of sums and of shortfalls.
 use mathlib.Core.Path.{_≡_, refl, sym, ap₂, _∙_}
 use mathlib.Core.Bool.{Bool, true, false}
 use mathlib.Core.List.{List}
@@ -9,7 +9,8 @@ use lib.IntN.{ℤ, pos, negsuc, natAbs, _+ℤ_, _-ℤ_, _*ℤ_, +ℤ-idl, +ℤ-i
 use lib.Signed.{ltZ}
 use Rattle.rules.specs.Quantities.{one}
 use Rattle.rules.specs.Rows.{valueAt, sumOf}
-use Rattle.rules.specs.Verdicts.{apart, isBroken}
+use Rattle.rules.specs.Rows.Relation.{at-least, equal}
+use Rattle.rules.specs.Judge.{shortfallBy, shortfall}
 use Rattle.millionths.specs.Unit.{ofTruth}
 use Rattle.row.specs.declared.Relation.the-variants.{AtLeast, Equal}
 use Rattle.row.specs.declared.Term.{Term}
@@ -27,11 +28,21 @@ pub size-above : (d : ℤ) → ltZ d (pos 0) ≡ false → d ≡ pos (natAbs d)
 size-above (pos n) e = refl
 size-above (negsuc n) e = let z : _≡_ {A = ℕ} 0 1 = cc in absurd (omega arith)
 
+-- sizes of numbers of which a difference is taken
+pub stored-small : {n : ℕ} → n ≤ 1099511627776 → n ≤ 2199023255552
+stored-small h = omega arith
+
+pub sum-small : {n : ℕ} → n ≤ 824633720832 → n ≤ 2199023255552
+sum-small h = omega arith
+
+pub right-small : {n : ℕ} → n ≤ 128000000 → n ≤ 2199023255552
+right-small h = omega arith
+
 pub truth-small : (b : Bool) → natAbs (ofTruth b .value) ≤ 1000000
 truth-small true = omega arith
 truth-small false = omega arith
 
--- ---- the sums of two and three terms, and the tests of rows that have them, over the figures of the variables
+-- ---- the sums of two and three terms over the figures of the variables
 
 abbrev pub pairOf : (j x k y : ℤ) → ℤ
 pairOf j x k y = j *ℤ x +ℤ (k *ℤ y +ℤ pos 0)
@@ -46,14 +57,13 @@ pub triple-same : {j j′ x x′ k k′ y y′ l l′ z z′ : ℤ} → j ≡ j�
     tripleOf j x k y l z ≡ tripleOf j′ x′ k′ y′ l′ z′
 triple-same a b c d e f = cc
 
-abbrev pub pairShort : (j x k y right : ℤ) (e : ℕ) → Bool
-pairShort j x k y right e = ltZ (pairOf j x k y) (right *ℤ pos one -ℤ pos e)
+-- ---- what a sum falls short of a right side by, and how far it is from it
 
-abbrev pub pairOff : (j x k y right : ℤ) (e : ℕ) → Bool
-pairOff j x k y right e = apart e (right *ℤ pos one) (pairOf j x k y)
+abbrev pub shortOf : (right sum : ℤ) → ℤ
+shortOf right s = shortfallBy at-least (right *ℤ pos one) s
 
-abbrev pub tripleShort : (j x k y l z right : ℤ) (e : ℕ) → Bool
-tripleShort j x k y l z right e = ltZ (tripleOf j x k y l z) (right *ℤ pos one -ℤ pos e)
+abbrev pub offOf : (right sum : ℤ) → ℤ
+offOf right s = shortfallBy equal (right *ℤ pos one) s
 
 -- ---- a row's sum, term by term
 
@@ -75,9 +85,9 @@ module _ (xs : List ℤ) (terms : Terms) where
 
 -- ---- a row against its sum
 
-module _ (e : ℕ) (xs : List ℤ) (row : Row) (s b : ℤ) (p : s ≡ sumOf xs (termsOf (row .terms))) (q : b ≡ row .right *ℤ pos one) where
-  pub short-broken : row .relation ≡ AtLeast → ltZ s (b -ℤ pos e) ≡ isBroken e xs (rowOf row)
-  short-broken t = rw (p, q, t)
+module _ (xs : List ℤ) (row : Row) {s b : ℤ} (p : s ≡ sumOf xs (termsOf (row .terms))) (q : b ≡ row .right) where
+  pub short-row : row .relation ≡ AtLeast → shortOf b s ≡ shortfall xs (rowOf row)
+  short-row t = rw (p, q, t)
 
-  pub apart-broken : row .relation ≡ Equal → apart e b s ≡ isBroken e xs (rowOf row)
-  apart-broken t = rw (p, q, t)
+  pub off-row : row .relation ≡ Equal → offOf b s ≡ shortfall xs (rowOf row)
+  off-row t = rw (p, q, t)

@@ -1,4 +1,4 @@
-// The tests of the judge: of one figure, and of a row's sum.
+// The tests of the judge on one figure, the sum of a row, and what it falls short by.
 use millionths::Millionths;
 use row::Relation;
 use row::Row;
@@ -7,11 +7,11 @@ use row::Terms;
 ghost use mathlib.Core.Path.{_≡_};
 ghost use Prim.Native.Nat.{_+_, _≤_};
 ghost use lib.IntN.{ℤ, pos, natAbs, _-ℤ_, _*ℤ_};
-ghost use lib.Signed.{ltZ};
 ghost use Rattle.rules.specs.Quantities as Quantities;
 ghost use Rattle.rules.specs.Rows.{valueAt, sumOf};
-ghost use Rattle.rules.specs.Verdicts.{apart, isOutside, isNotBinary, isBroken};
-ghost use Rattle.sums.specs.Laws.{pairShort, pairOff, tripleShort, pairOf, tripleOf};
+ghost use Rattle.rules.specs.Judge as Judge;
+ghost use Rattle.rules.specs.Verdicts.{apart, isOutside, isNotBinary};
+ghost use Rattle.sums.specs.Laws.{shortOf, offOf, pairOf, tripleOf};
 ghost use Rattle.millionths.specs.Unit.{ofTruth};
 ghost use Rattle.row.specs.Meaning.{termsOf, rowOf};
 
@@ -29,12 +29,20 @@ pub fn is_outside(figure: i32, e: u16) -> bool
     }
 }
 
+// a, less b.
+fn less(a: i64, b: i64) -> i64
+    requires { ⌜ (natAbs a ≤ 2199023255552) × (natAbs b ≤ 2199023255552) ⌝ }
+    ensures { λ r. ⌜ r ≡ a -ℤ b ⌝ }
+{
+    a - b
+}
+
 // A number without its sign.
 fn size(d: i64) -> i64
     requires { ⌜ natAbs d ≤ 2199023255552 ⌝ }
     ensures { λ r. ⌜ r ≡ pos (natAbs d) ⌝ }
 {
-    if d < 0 { 0 - d } else { d }
+    if d < 0 { less(0, d) } else { d }
 }
 
 // More than e from b.
@@ -42,21 +50,7 @@ fn is_apart(e: u16, b: i64, x: i64) -> bool
     requires { ⌜ (natAbs b ≤ 1099511627776) × (natAbs x ≤ 1099511627776) ⌝ }
     ensures { λ r. ⌜ r ≡ apart e b x ⌝ }
 {
-    (e as i64) < size(x - b)
-}
-
-// b, less e.
-fn lowered(b: i64, e: u16) -> i64
-    requires { ⌜ natAbs b ≤ 128000000 ⌝ }
-    ensures { λ r. ⌜ (r ≡ b -ℤ pos e) × (natAbs r ≤ 1099511627776) ⌝ }
-{
-    b - (e as i64)
-}
-
-fn is_below(x: i64, b: i64) -> bool
-    ensures { λ r. ⌜ r ≡ ltZ x b ⌝ }
-{
-    x < b
+    (e as i64) < size(less(x, b))
 }
 
 // The figure of a truth.
@@ -110,38 +104,54 @@ fn scaled(right: i8) -> i64
 }
 
 // The sum of two terms.
-fn pair(j: i8, x: i32, k: i8, y: i32) -> i64
+pub fn pair(j: i8, x: i32, k: i8, y: i32) -> i64
     ensures { λ r. ⌜ (r ≡ pairOf j x k y) × (natAbs r ≤ 824633720832) ⌝ }
 {
     product(j, x) + product(k, y)
 }
 
 // The sum of three terms.
-fn triple(j: i8, x: i32, k: i8, y: i32, l: i8, z: i32) -> i64
+pub fn triple(j: i8, x: i32, k: i8, y: i32, l: i8, z: i32) -> i64
     ensures { λ r. ⌜ (r ≡ tripleOf j x k y l z) × (natAbs r ≤ 824633720832) ⌝ }
 {
     product(j, x) + (product(k, y) + product(l, z))
 }
 
-// Whether figures break jx + ky ≥ right.
-pub fn pair_short(j: i8, x: i32, k: i8, y: i32, right: i8, e: u16) -> bool
-    ensures { λ r. ⌜ r ≡ pairShort j x k y right e ⌝ }
+// What a sum falls short of the right side by.
+fn short(right: i8, sum: i64) -> i64
+    requires { ⌜ natAbs sum ≤ 824633720832 ⌝ }
+    ensures { λ r. ⌜ (r ≡ shortOf right sum) × (natAbs r ≤ 1099511627776) ⌝ }
 {
-    is_below(pair(j, x, k, y), lowered(scaled(right), e))
+    less(scaled(right), sum)
 }
 
-// Whether figures break jx + ky = right.
-pub fn pair_off(j: i8, x: i32, k: i8, y: i32, right: i8, e: u16) -> bool
-    ensures { λ r. ⌜ r ≡ pairOff j x k y right e ⌝ }
+// How far a sum is from the right side.
+fn off(right: i8, sum: i64) -> i64
+    requires { ⌜ natAbs sum ≤ 824633720832 ⌝ }
+    ensures { λ r. ⌜ (r ≡ offOf right sum) × (natAbs r ≤ 1099511627776) ⌝ }
 {
-    is_apart(e, scaled(right), pair(j, x, k, y))
+    size(less(sum, scaled(right)))
 }
 
-// Whether figures break jx + ky + lz ≥ right.
-pub fn triple_short(j: i8, x: i32, k: i8, y: i32, l: i8, z: i32, right: i8, e: u16) -> bool
-    ensures { λ r. ⌜ r ≡ tripleShort j x k y l z right e ⌝ }
+// What jx + ky falls short of the right side by.
+pub fn pair_short(j: i8, x: i32, k: i8, y: i32, right: i8) -> i64
+    ensures { λ r. ⌜ (r ≡ shortOf right (pairOf j x k y)) × (natAbs r ≤ 1099511627776) ⌝ }
 {
-    is_below(triple(j, x, k, y, l, z), lowered(scaled(right), e))
+    short(right, pair(j, x, k, y))
+}
+
+// How far jx + ky is from the right side.
+pub fn pair_off(j: i8, x: i32, k: i8, y: i32, right: i8) -> i64
+    ensures { λ r. ⌜ (r ≡ offOf right (pairOf j x k y)) × (natAbs r ≤ 1099511627776) ⌝ }
+{
+    off(right, pair(j, x, k, y))
+}
+
+// What jx + ky + lz falls short of the right side by.
+pub fn triple_short(j: i8, x: i32, k: i8, y: i32, l: i8, z: i32, right: i8) -> i64
+    ensures { λ r. ⌜ (r ≡ shortOf right (tripleOf j x k y l z)) × (natAbs r ≤ 1099511627776) ⌝ }
+{
+    short(right, triple(j, x, k, y, l, z))
 }
 
 fn term(figures: &[i32], t: Term) -> i64
@@ -151,7 +161,7 @@ fn term(figures: &[i32], t: Term) -> i64
 }
 
 // The sum of a row's terms over the figures.
-fn row_sum(figures: &[i32], terms: Terms) -> i64
+pub fn row_sum(figures: &[i32], terms: Terms) -> i64
     ensures { λ r. ⌜ (r ≡ sumOf (now (figures .entry)) (termsOf terms)) × (natAbs r ≤ 824633720832) ⌝ }
 {
     match terms {
@@ -161,17 +171,16 @@ fn row_sum(figures: &[i32], terms: Terms) -> i64
     }
 }
 
-// Whether the figures break a row.
-pub fn is_broken(row: Row, figures: &[i32], e: u16) -> bool
-    ensures { λ r. ⌜ r ≡ isBroken e (now (figures .entry)) (rowOf row) ⌝ }
+// What the sum of a row falls short of its right side by or, for =, how far it is from it.
+pub fn shortfall(row: Row, figures: &[i32]) -> i64
+    ensures { λ r. ⌜ (r ≡ Judge.shortfall (now (figures .entry)) (rowOf row)) × (natAbs r ≤ 1099511627776) ⌝ }
 {
     let relation = row.relation;
-    let right = scaled(row.right);
-    let least = lowered(right, e);
+    let right = row.right;
     let terms = row.terms;
     let sum = row_sum(figures, terms);
     match relation {
-        Relation::AtLeast => is_below(sum, least),
-        Relation::Equal => is_apart(e, right, sum),
+        Relation::AtLeast => short(right, sum),
+        Relation::Equal => off(right, sum),
     }
 }

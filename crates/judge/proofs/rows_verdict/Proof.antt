@@ -1,6 +1,9 @@
 -- `judge::rows_verdict` meets its contract. A broken row is found, or none. Assumes nothing.
-use mathlib.Core.Path.{sym, _∙_}
+use mathlib.Core.Path.{sym, ap, _∙_}
 use borrow.Author.Needs.{needs}
+use mir.Syntax.{w64}
+use mir.Facts.{toZ-ofZ}
+use Rattle.rules.specs.Judge.Verdict.{broken}
 use Rattle.judge.specs.Parts.{broken-verdict, clear-verdict}
 use Rattle.judge.proofs.rows_verdict.Statement.{statement}
 use Rattle.judge.proofs.rows_verdict.Tie as tie
@@ -15,7 +18,9 @@ enum-known-rows-2 : tie.Need-enum-known-rows-2
 enum-known-rows-2 c = search needs
 
 returns : tie.Need-returns
-returns c = broken-verdict _ _ _ _ _ _ (sym (c .before .rows .given .1) ∙ c .before .before .before .test-all .ensures)
+returns c =
+    let found = c .before .rows .given in
+    ap (broken (found .0 .0)) (toZ-ofZ {w = w64} {z = found .0 .1 .0} (search needs)) ∙ broken-verdict _ _ _ _ _ _ _ (sym (found .1) ∙ c .before .before .before .test-all .ensures)
 
 returns-2 : tie.Need-returns-2
 returns-2 c = clear-verdict _ _ _ _ _ _ (sym (c .before .rows2 .given .1) ∙ c .before .before .before .test-all .ensures)

@@ -4,7 +4,7 @@ use Prim.Native.Nat.{ℕ, _+_, _-_, _*_, _≤_}
 use native.Mathlib.Omega.{arith}
 use borrow.Author.Needs.{needs}
 use Rattle.lists.specs.Flat.{flat}
-use Rattle.rules.specs.Verdicts.{isBroken}
+use Rattle.rules.specs.Judge.{shortfall}
 use Rattle.slotcheck.specs.declared.Search.{Search}
 use Rattle.slotcheck.specs.Searches.{tested, tested-start, tested-more, reached, over-rest}
 use Rattle.row.specs.Kinds.{rowsOn}
@@ -13,13 +13,13 @@ use Rattle.search.proofs.test_node.Statement.{statement}
 use Rattle.search.proofs.test_node.Tie as tie
 
 abbrev Inv-loop : tie.InvT-loop
-Inv-loop kind t big p q figures e done₀ s₀ done s = (s ≤ t) × (done ≡ tested (isBroken e figures) done₀ (flat (rowsOn kind t big p q) s)) × (reached done ≤ reached done₀ + 4 * s)
+Inv-loop kind t big p q figures e done₀ s₀ done s = (s ≤ t) × (done ≡ tested e (shortfall figures) done₀ (flat (rowsOn kind t big p q) s)) × (reached done ≤ reached done₀ + 4 * s)
 
 abbrev μ-loop : tie.MeasureT-loop
 μ-loop kind t big p q figures e done₀ s₀ done s = t - s
 
 loop-holds : tie.Need-loop-holds Inv-loop μ-loop
-loop-holds c = (omega arith, sym (tested-start _ _ _), omega arith)
+loop-holds c = (omega arith, sym (tested-start _ _ _ _), omega arith)
 
 add-test-slot : tie.Need-add-test-slot Inv-loop μ-loop
 add-test-slot c = search needs
@@ -40,13 +40,13 @@ test-slot-requires c κs = omega arith
 more : (c : tie.After-test-slot Inv-loop μ-loop) →
     let l = c .before .before in
     let a = l .before .args in
-    c .test-slot .result ≡ tested (isBroken (a .e) (a .figures .now)) (a .state) (flat (rowsOn (a .kind) (a .t) (a .big) (a .p) (a .q)) (l .loop .s + 1))
+    c .test-slot .result ≡ tested (a .e) (shortfall (a .figures .now)) (a .state) (flat (rowsOn (a .kind) (a .t) (a .big) (a .p) (a .q)) (l .loop .s + 1))
 more c =
     let l = c .before .before in
     let a = l .before .args in
-    let f = isBroken (a .e) (a .figures .now) in
-    c .test-slot .ensures .is ∙ ap (λ (x : Search). tested f x (rowsOn (a .kind) (a .t) (a .big) (a .p) (a .q) (l .loop .s))) (l .loop .inv .1)
-    ∙ sym (tested-more f (a .state) (rowsOn (a .kind) (a .t) (a .big) (a .p) (a .q)) (l .loop .s))
+    let f = shortfall (a .figures .now) in
+    c .test-slot .ensures .is ∙ ap (λ (x : Search). tested (a .e) f x (rowsOn (a .kind) (a .t) (a .big) (a .p) (a .q) (l .loop .s))) (l .loop .inv .1)
+    ∙ sym (tested-more (a .e) f (a .state) (rowsOn (a .kind) (a .t) (a .big) (a .p) (a .q)) (l .loop .s))
 
 is-over-requires : tie.Need-is-over-requires Inv-loop μ-loop
 is-over-requires c κs = search needs
@@ -57,7 +57,7 @@ returns c =
     let k = c .before .before in
     let l = k .before .before in
     let a = l .before .args in
-    (over-rest (isBroken (a .e) (a .figures .now)) (a .state) (rowsOn (a .kind) (a .t) (a .big) (a .p) (a .q)) (l .loop .s + 1) (a .t) (omega arith) (more k) (sym (c .before .is-over .ensures) ∙ c .if1 .taken), omega (arith, k .test-slot .ensures .by-four))
+    (over-rest (a .e) (shortfall (a .figures .now)) (a .state) (rowsOn (a .kind) (a .t) (a .big) (a .p) (a .q)) (l .loop .s + 1) (a .t) (omega arith) (more k) (sym (c .before .is-over .ensures) ∙ c .if1 .taken), omega (arith, k .test-slot .ensures .by-four))
 
 add-s : tie.Need-add-s Inv-loop μ-loop
 add-s c = search needs
@@ -73,7 +73,7 @@ unfolding nodeRows
 returns-2 c =
     let a = c .before .before .args in
     let e : c .before .loop .s ≡ a .t = omega arith in
-    (c .before .loop .inv .1 ∙ ap (λ (k : ℕ). tested (isBroken (a .e) (a .figures .now)) (a .state) (flat (rowsOn (a .kind) (a .t) (a .big) (a .p) (a .q)) k)) e, omega arith)
+    (c .before .loop .inv .1 ∙ ap (λ (k : ℕ). tested (a .e) (shortfall (a .figures .now)) (a .state) (flat (rowsOn (a .kind) (a .t) (a .big) (a .p) (a .q)) k)) e, omega arith)
 
 pub test-node-spec : {M : Type 1} → statement M
 test-node-spec =

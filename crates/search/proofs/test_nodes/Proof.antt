@@ -5,7 +5,7 @@ use native.Mathlib.Omega.{arith}
 use borrow.Author.Needs.{needs}
 use Rattle.lists.specs.Flat.{flat}
 use Rattle.rules.specs.TableTest.{nodesIn}
-use Rattle.rules.specs.Verdicts.{isBroken}
+use Rattle.rules.specs.Judge.{shortfall}
 use Rattle.slotcheck.specs.declared.Search.{Search}
 use Rattle.slotcheck.specs.declared.Search.the-variants.{Clear}
 use Rattle.slotcheck.specs.Searches.{tested, tested-start, tested-more, reached, reached-start, over-rest}
@@ -14,13 +14,13 @@ use Rattle.search.proofs.test_nodes.Statement.{statement}
 use Rattle.search.proofs.test_nodes.Tie as tie
 
 abbrev Inv-loop : tie.InvT-loop
-Inv-loop table n t m figures e done₀ i₀ done i = (i ≤ n) × (done ≡ tested (isBroken e figures) (Clear 0) (flat (partRows t m (nodesIn table)) i)) × (reached done ≤ 256 * i)
+Inv-loop table n t m figures e done₀ i₀ done i = (i ≤ n) × (done ≡ tested e (shortfall figures) (Clear 0) (flat (partRows t m (nodesIn table)) i)) × (reached done ≤ 256 * i)
 
 abbrev μ-loop : tie.MeasureT-loop
 μ-loop table n t m figures e done₀ i₀ done i = n - i
 
 loop-holds : tie.Need-loop-holds Inv-loop μ-loop
-loop-holds c = (omega arith, sym (tested-start _ _ _), omega (arith, reached-start))
+loop-holds c = (omega arith, sym (tested-start _ _ _ _), omega (arith, reached-start))
 
 node-at-requires : tie.Need-node-at-requires Inv-loop μ-loop
 node-at-requires c κs = search needs
@@ -64,14 +64,14 @@ test-node-requires c κs = omega arith
 more : (c : tie.After-test-node Inv-loop μ-loop) →
     let l = c .before .before .before .before .before .before .before .before in
     let a = l .before .before .args in
-    c .test-node .result ≡ tested (isBroken (a .e) (a .figures .now)) (Clear 0) (flat (partRows (a .t) (a .m) (nodesIn (a .table .now))) (l .loop .i + 1))
+    c .test-node .result ≡ tested (a .e) (shortfall (a .figures .now)) (Clear 0) (flat (partRows (a .t) (a .m) (nodesIn (a .table .now))) (l .loop .i + 1))
 more c =
     let l = c .before .before .before .before .before .before .before .before in
     let a = l .before .before .args in
-    let f = isBroken (a .e) (a .figures .now) in
+    let f = shortfall (a .figures .now) in
     let g = partRows (a .t) (a .m) (nodesIn (a .table .now)) in
-    c .test-node .ensures .0 ∙ ap (tested f (l .loop .done)) (part (c .before)) ∙ ap (λ (x : Search). tested f x (g (l .loop .i))) (l .loop .inv .1)
-    ∙ sym (tested-more f (Clear 0) g (l .loop .i))
+    c .test-node .ensures .0 ∙ ap (tested (a .e) f (l .loop .done)) (part (c .before)) ∙ ap (λ (x : Search). tested (a .e) f x (g (l .loop .i))) (l .loop .inv .1)
+    ∙ sym (tested-more (a .e) f (Clear 0) g (l .loop .i))
 
 is-over-requires : tie.Need-is-over-requires Inv-loop μ-loop
 is-over-requires c κs = search needs
@@ -84,7 +84,7 @@ returns c =
     let l = turn .before in
     let a = l .before .before .args in
     let test = turn .loop-test in
-    (over-rest (isBroken (a .e) (a .figures .now)) (Clear 0) (partRows (a .t) (a .m) (nodesIn (a .table .now))) (l .loop .i + 1) (a .n) (omega (arith, test)) (more k) (sym (c .before .is-over .ensures) ∙ c .if1 .taken), omega (arith, test, k .test-node .ensures .1))
+    (over-rest (a .e) (shortfall (a .figures .now)) (Clear 0) (partRows (a .t) (a .m) (nodesIn (a .table .now))) (l .loop .i + 1) (a .n) (omega (arith, test)) (more k) (sym (c .before .is-over .ensures) ∙ c .if1 .taken), omega (arith, test, k .test-node .ensures .1))
 
 add-i : tie.Need-add-i Inv-loop μ-loop
 add-i c = search needs
@@ -105,7 +105,7 @@ returns-2 c =
     let l = c .before in
     let a = l .before .before .args in
     let e : l .loop .i ≡ a .n = omega arith in
-    (l .loop .inv .1 ∙ ap (λ (k : ℕ). tested (isBroken (a .e) (a .figures .now)) (Clear 0) (flat (partRows (a .t) (a .m) (nodesIn (a .table .now))) k)) e, omega arith)
+    (l .loop .inv .1 ∙ ap (λ (k : ℕ). tested (a .e) (shortfall (a .figures .now)) (Clear 0) (flat (partRows (a .t) (a .m) (nodesIn (a .table .now))) k)) e, omega arith)
 
 pub test-nodes-spec : {M : Type 1} → statement M
 test-nodes-spec =

@@ -1,7 +1,10 @@
 -- `sepia::plain_verdict` meets its contract.
-use mathlib.Core.Path.{sym, ap, ap₂, subst, _∙_}
+use mathlib.Core.Path.{_≡_, refl, sym, ap, subst, _∙_}
 use Prim.Native.Nat.{ℕ}
 use native.Mathlib.Omega.{arith}
+use lib.IntN.{ℤ, pos}
+use mir.Syntax.{w64}
+use mir.Facts.{toZ-ofZ}
 use Rattle.judge.specs.Ruled.{ruled}
 use Rattle.judge.specs.declared.Ruling.{Ruling}
 use Rattle.sepia.specs.declared.SepiaVerdict.{SepiaVerdict}
@@ -9,6 +12,10 @@ use Rattle.sepia.specs.Boundary.{verdictInC, VerdictFits}
 use borrow.Author.Needs.{needs}
 use Rattle.sepia.proofs.plain_verdict.Statement.{statement}
 use Rattle.sepia.proofs.plain_verdict.Tie as tie
+
+same : {k k′ v v′ : ℕ} {d d′ : ℤ} → k ≡ k′ → v ≡ v′ → d ≡ d′ →
+    _≡_ {A = SepiaVerdict} (record { refusal = 0; verdict = k; value = v; shortfall = d }) (record { refusal = 0; verdict = k′; value = v′; shortfall = d′ })
+same e f g = rw (e, f, g) refl
 
 enum-known-ruling : tie.Need-enum-known-ruling
 enum-known-ruling c = search needs
@@ -30,15 +37,20 @@ cast-t8 c =
     let h = subst (λ (x : Ruling). VerdictFits (ruled x)) (c .before .before .before .ruling2 .given .1) (c .before .before .before .before .before .pre) in
     record { fits = omega (arith, h, c .verdict-value .ensures) }
 
+verdict-shortfall-requires : tie.Need-verdict-shortfall-requires
+verdict-shortfall-requires c κs = search needs
+
 returns : tie.Need-returns
 returns c =
-    ap (λ (k : ℕ). let r : SepiaVerdict = record { refusal = k; verdict = 0; value = 0 } in r) (c .number .ensures)
+    ap (λ (k : ℕ). let r : SepiaVerdict = record { refusal = k; verdict = 0; value = 0; shortfall = pos 0 } in r) (c .number .ensures)
     ∙ ap (λ (x : Ruling). verdictInC (ruled x)) (sym (c .before .before .ruling .given .1))
 
 returns-2 : tie.Need-returns-2
 returns-2 c =
-    ap₂ (λ (k v : ℕ). let r : SepiaVerdict = record { refusal = 0; verdict = k; value = v } in r) (c .before .verdict-number .ensures) (c .verdict-value .ensures)
-    ∙ ap (λ (x : Ruling). verdictInC (ruled x)) (sym (c .before .before .before .ruling2 .given .1))
+    let value = c .before in
+    let number = value .before in
+    same (number .verdict-number .ensures) (value .verdict-value .ensures) (toZ-ofZ {w = w64} {z = c .verdict-shortfall .result} (search needs) ∙ c .verdict-shortfall .ensures)
+    ∙ ap (λ (x : Ruling). verdictInC (ruled x)) (sym (number .before .before .ruling2 .given .1))
 
 pub plain-verdict-spec : {M : Type 1} → statement M
 plain-verdict-spec =
@@ -50,5 +62,6 @@ plain-verdict-spec =
     verdict-number-requires
     verdict-value-requires
     cast-t8
+    verdict-shortfall-requires
     returns
     returns-2)

@@ -1,0 +1,32 @@
+-- Request N1: what the verdict broken carries, and that which verdict is given does not alter. Stated of any ruling that meets the judge's contract.
+use mathlib.Core.Path.{_≡_}
+use mathlib.Core.Logic.{_↔_}
+use mathlib.Core.List.{List}
+use Prim.Native.Nat.{ℕ, _<_}
+use lib.ListN.{length}
+use lib.IntN.{ℤ, pos}
+use lib.Signed.{_<ℤ_}
+use Rattle.rules.specs.Table.{Node, Good}
+use Rattle.rules.specs.Rows.{rowsOf}
+use Rattle.rules.specs.Judge.{None, Verdict, shortfall, rowAt}
+use Rattle.rules.specs.Refusals.{JudgeRefused}
+use Rattle.rules.specs.Demands.{Answer}
+use Rattle.rules.specs.Demands.Answer.{answered}
+use Rattle.rules.specs.Before.{withoutShortfall}
+use Rattle.rules.specs.Before as Before
+
+-- "Which verdict is given does not alter": without the shortfall, the ruling is the judge's of before, on all input ..
+abbrev pub SameVerdict : (t m : ℕ) (table : List ℕ) (figures : List ℤ) (tolerance : ℤ) (ruling : Answer Verdict) → Type 0
+SameVerdict t m table figures tolerance ruling = withoutShortfall ruling ≡ Before.judgeOutcome t m table figures tolerance
+
+-- .. and it is the verdict that document 01 gives
+abbrev pub JudgedAsBefore : (t m : ℕ) (table : List ℕ) (figures : List ℤ) (tolerance : ℤ) (ruling : Answer Verdict) → Type 0
+JudgedAsBefore t m table figures tolerance ruling =
+    (u : Before.Verdict) → (withoutShortfall ruling ≡ answered u) ↔
+    (None (JudgeRefused t m table figures tolerance) × ((ns : List Node) × (e : ℕ) × Good m table ns × (tolerance ≡ pos e) × Before.Judged t m e ns figures u))
+
+-- "The verdict broken then carries the shortfall in millionths", that of the row it names, the goal row included: more than the tolerance, and so more than 0
+abbrev pub CarriesShortfall : (t m : ℕ) (table : List ℕ) (figures : List ℤ) (tolerance : ℤ) (ruling : Answer Verdict) → Type 0
+CarriesShortfall t m table figures tolerance ruling =
+    (i : ℕ) (d : ℤ) → ruling ≡ answered (Verdict.broken i d) →
+    (ns : List Node) × (e : ℕ) × Good m table ns × (tolerance ≡ pos e) × (i < length (rowsOf t m ns)) × (d ≡ shortfall figures (rowAt t m ns i)) × (pos e <ℤ d) × (pos 0 <ℤ d)
