@@ -9,16 +9,16 @@ use lib.ListN.{length}
 use lib.IntN.{ℤ, pos, negsuc}
 use lib.Signed.{_<ℤ_}
 use Rattle.rules.specs.Table.{Node, Good}
-use Rattle.rules.specs.Rows.{Row, sumOf, rowsOf}
-use Rattle.rules.specs.Quantities.{one}
+use Rattle.rules.specs.Rows.{rowsOf}
 use Rattle.rules.specs.Judge.{None, Verdict, Judged, shortfall, rowAt}
 use Rattle.rules.specs.Judge.Judged.{is-outside, is-not-binary, is-broken, is-passed}
 use Rattle.rules.specs.Refusals.{JudgeRefused}
 use Rattle.rules.specs.Demands.{Answer}
 use Rattle.rules.specs.Demands.Answer.{refused, answered}
 use Rattle.rules.specs.Shortfalls.{broken-short}
-use Rattle.rules.specs.Before.{dropped, withoutShortfall, judged-before, judged-now, same-outcome}
+use Rattle.rules.specs.Before.{dropped, withoutShortfall}
 use Rattle.rules.specs.Before as Before
+use Rattle.rules.specs.Unaltered.{judged-before, judged-now, same-outcome}
 use Rattle.rules.specs.Outcome.{judgeOutcome}
 use Rattle.rules.specs.Theorems.{judge-exact}
 use Rattle.demands.specs.Shortfall.{SameVerdict, JudgedAsBefore, CarriesShortfall}

@@ -1,6 +1,5 @@
 // The rows of a node at a slot, tested one after the other.
 use table::Kind;
-ghost use mathlib.Core.Path.{_≡_};
 ghost use Prim.Native.Nat.{_≤_, _<_};
 ghost use lib.IntN.{natAbs};
 ghost use Rattle.rules.specs.Rows.{sameRows, notRows, andRows, orRows, impliesRows, untilRows};

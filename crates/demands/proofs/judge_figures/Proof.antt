@@ -1,6 +1,5 @@
 -- `demands::judge_figures` meets its contract: demands 1 and 2 and what a passed verdict means, from the contract of `judge::judge`.
 use mathlib.Core.Path.{ap, _∙_}
-use lib.IntN.{ℤ}
 use mir.Facts.{toZ-ofZ}
 use Rattle.rules.specs.Outcome.{judgeOutcome}
 use Rattle.judge.specs.Ruled.{ruled}

@@ -1,13 +1,13 @@
 -- `said::is_broken` meets its contract. Assumes nothing.
 use mathlib.Core.Path.{_≡_, sym, ap, ap₂, _∙_}
-use mathlib.Core.Bool.{Bool, true, _&&_}
+use mathlib.Core.Bool.{Bool, _&&_}
 use mathlib.Core.List.{List}
 use Prim.Native.Nat.{ℕ}
 use borrow.Author.Needs.{needs}
 use mir.Facts.{toZ-ofZ}
 use Rattle.cases.specs.Parts.{partOf}
 use Rattle.decimals.specs.Decimal.{decimalOf, isAnswer}
-use Rattle.said.specs.Said.{isWhole, brokenIs}
+use Rattle.said.specs.Said.{isWhole}
 use Rattle.said.proofs.is_broken.Statement.{statement}
 use Rattle.said.proofs.is_broken.Tie as tie
 

@@ -9,7 +9,7 @@ use lib.Dec.{T, eqb}
 use lib.IntN.{ℤ, pos, negsuc, natAbs}
 use lib.Signed.{ltZ, nonNeg}
 use mir.Syntax.{w64}
-use mir.Val.{Fits, toZ, ofZ}
+use mir.Val.{Fits}
 use mir.Facts.{toZ-ofZ}
 use Rattle.ints.specs.Stored.{abs-sfits}
 use Rattle.judge.specs.Checks.{not-below}

@@ -1,7 +1,6 @@
 -- `sepia::verdict_shortfall` meets its contract. By the verdict.
 use mathlib.Core.Path.{_≡_, sym, ap, _∙_}
 use borrow.Author.Needs.{needs}
-use lib.IntN.{ℤ}
 use mir.Syntax.{w64}
 use mir.Facts.{toZ-ofZ}
 use Rattle.judge.specs.Ruled.{verdictOf}

@@ -1,9 +1,7 @@
 -- `sums::shortfall` meets its contract. By cases on the relation. Assumes nothing.
-use mathlib.Core.Path.{_≡_, _∙_, subst⁻¹}
-use Prim.Native.Nat.{_≤_}
+use mathlib.Core.Path.{_≡_, _∙_}
 use native.Mathlib.Omega.{arith}
 use borrow.Author.Needs.{needs}
-use lib.IntN.{ℤ, natAbs}
 use mir.Syntax.{w8, w64}
 use mir.Val.{toZ, ofZ}
 use mir.Facts.{toZ-ofZ}
