@@ -33,9 +33,9 @@ module _ (T M e : ℕ) (ns : List Node) (xs : List ℤ) where
   pub broken-is : (s : Search) → s ≡ tested e (shortfall xs) (Clear 0) (rowsOf T M ns) → firstBroken T M e ns xs ≡ Searches.broken s
   broken-is s p = sym (first-broken e (shortfall xs) (goalRow T M ns) (rowsOf T M ns)) ∙ ap Searches.broken (sym p)
 
-  pub broken-verdict : (i : ℕ) (d : ℤ) → Broken i d ≡ tested e (shortfall xs) (Clear 0) (rowsOf T M ns) → broken i d ≡ rowsVerdict
+  pub broken-verdict : (i : ℕ) (d : ℤ) → Broken d i ≡ tested e (shortfall xs) (Clear 0) (rowsOf T M ns) → broken i d ≡ rowsVerdict
   unfolding rowsVerdict
-  broken-verdict i d p = rw (broken-is (Broken i d) p) (ap (broken i) (shortfall-of e (shortfall xs) (goalRow T M ns) (rowsOf T M ns) i d (sym p)))
+  broken-verdict i d p = rw (broken-is (Broken d i) p) (ap (broken i) (shortfall-of e (shortfall xs) (goalRow T M ns) (rowsOf T M ns) i d (sym p)))
 
   pub clear-verdict : (n : ℕ) → Clear n ≡ tested e (shortfall xs) (Clear 0) (rowsOf T M ns) → passed n ≡ rowsVerdict
   unfolding rowsVerdict

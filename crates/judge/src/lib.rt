@@ -37,7 +37,7 @@ fn rows_verdict(table: &[u8], n: usize, t: usize, m: usize, figures: &[i32], e: 
 {
     let rows = search::test_all(table, n, t, m, figures, e);
     match rows {
-        Search::Broken(i, shortfall) => Verdict::Broken(i, shortfall),
+        Search::Broken(shortfall, i) => Verdict::Broken(i, shortfall),
         Search::Clear(i) => Verdict::Passed(i),
     }
 }

@@ -20,8 +20,8 @@ use Rattle.slotcheck.specs.declared.Search.the-variants.{Clear, Broken}
 
 -- one more row, of shortfall d, is tested, if none was broken
 abbrev pub stepped : (e : ℕ) (d : ℤ) → Search → Search
-stepped e d (Clear i) = cond (isShort e d) (Broken i d) (Clear (i + 1))
-stepped e d (Broken i x) = Broken i x
+stepped e d (Clear i) = cond (isShort e d) (Broken d i) (Clear (i + 1))
+stepped e d (Broken x i) = Broken x i
 
 -- f is the shortfall of a row
 module _ (e : ℕ) (f : Row → ℤ) where
@@ -56,11 +56,11 @@ module _ (e : ℕ) (f : Row → ℤ) where
 
 abbrev pub broken : Search → Option ℕ
 broken (Clear i) = none
-broken (Broken i x) = some i
+broken (Broken x i) = some i
 
 unfoldable pub reached : Search → ℕ
 reached (Clear i) = i
-reached (Broken i x) = i
+reached (Broken x i) = i
 
 -- one more row, as the call that tests it ensures
 pub record Step (e : ℕ) (d : ℤ) (s x : Search) : Type 0 where
@@ -69,11 +69,11 @@ pub record Step (e : ℕ) (d : ℤ) (s x : Search) : Type 0 where
 
 module _ (e : ℕ) (d : ℤ) (s : Search) (i : ℕ) where
   -- x is the shortfall as it is stored
-  pub already-broken : {y x : ℤ} → s ≡ Broken i y → x ≡ y → Step e d s (Broken i x)
+  pub already-broken : {y x : ℤ} → s ≡ Broken y i → x ≡ y → Step e d s (Broken x i)
   unfolding reached
   already-broken p q = record { is = rw (q, p) refl; by-one = rw p (omega arith) }
 
-  pub now-broken : {x : ℤ} → s ≡ Clear i → isShort e d ≡ true → x ≡ d → Step e d s (Broken i x)
+  pub now-broken : {x : ℤ} → s ≡ Clear i → isShort e d ≡ true → x ≡ d → Step e d s (Broken x i)
   unfolding reached
   now-broken p t q = record { is = rw (q, p, t) refl; by-one = rw p (omega arith) }
 
@@ -119,7 +119,7 @@ module _ (e : ℕ) (f : Row → ℤ) where
         by-four = omega (arith, p .by-one, q .by-one, r .by-one, o .by-one);
       }
 
-  stuck : (i : ℕ) (x : ℤ) (rs : List Row) → tested e f (Broken i x) rs ≡ Broken i x
+  stuck : (i : ℕ) (x : ℤ) (rs : List Row) → tested e f (Broken x i) rs ≡ Broken x i
   unfolding tested
   stuck i x [] = refl
   stuck i x (r ∷ rs) = stuck i x rs
@@ -128,10 +128,10 @@ module _ (e : ℕ) (f : Row → ℤ) where
 
 abbrev pub over : Search → Bool
 over (Clear i) = false
-over (Broken i x) = true
+over (Broken x i) = true
 
 stays : (e : ℕ) (f : Row → ℤ) (x : Search) (rs : List Row) → over x ≡ true → tested e f x rs ≡ x
-stays e f (Broken i x) rs o = stuck e f i x rs
+stays e f (Broken x i) rs o = stuck e f i x rs
 stays e f (Clear i) rs o = let z : _≡_ {A = ℕ} 0 1 = cc in absurd (omega arith)
 
 module _ (e : ℕ) (f : Row → ℤ) (s : Search) (g : ℕ → List Row) where
@@ -157,7 +157,7 @@ module _ (e : ℕ) (f : Row → ℤ) (d : Row) where
   -- the shortfall is that of the row
   abbrev Carries : List Row → Search → Type 0
   Carries l (Clear i) = Unit {0}
-  Carries l (Broken i x) = x ≡ f (getD l i d)
+  Carries l (Broken x i) = x ≡ f (getD l i d)
 
   -- the rows rs stand after p in l, and the search is at the first of them
   seam : (r : Row) (rs p l : List Row) → p ++ (r ∷ rs) ≡ l → getD l (length p) d ≡ r
@@ -173,7 +173,7 @@ module _ (e : ℕ) (f : Row → ℤ) (d : Row) where
     where
       go : (b : Bool) → isShort e (f r) ≡ b → getD l (length p) d ≡ r → length (p ++ (r ∷ [])) ≡ suc (length p) →
           broken (tested e f (Clear (length (p ++ (r ∷ [])))) rs) ≡ first (Breaks l) (length rs) (length (p ++ (r ∷ []))) →
-          broken (tested e f (cond (isShort e (f r)) (Broken (length p) (f r)) (Clear (length p + 1))) rs) ≡ cond (Breaks l (length p)) (some (length p)) (first (Breaks l) (length rs) (suc (length p)))
+          broken (tested e f (cond (isShort e (f r)) (Broken (f r) (length p)) (Clear (length p + 1))) rs) ≡ cond (Breaks l (length p)) (some (length p)) (first (Breaks l) (length rs) (suc (length p)))
       go true t here size rest = rw (here, t) (ap broken (stuck e f (length p) (f r) rs))
       go false t here size rest = rw (here, t, add-one (length p), ← size) rest
 
@@ -184,14 +184,14 @@ module _ (e : ℕ) (f : Row → ℤ) (d : Row) where
     where
       go : (b : Bool) → isShort e (f r) ≡ b → getD l (length p) d ≡ r → length (p ++ (r ∷ [])) ≡ suc (length p) →
           Carries l (tested e f (Clear (length (p ++ (r ∷ [])))) rs) →
-          Carries l (tested e f (cond (isShort e (f r)) (Broken (length p) (f r)) (Clear (length p + 1))) rs)
+          Carries l (tested e f (cond (isShort e (f r)) (Broken (f r) (length p)) (Clear (length p + 1))) rs)
       go true t here size rest = rw (t, stuck e f (length p) (f r) rs, here) refl
       go false t here size rest = rw (t, add-one (length p), ← size) rest
 
   pub first-broken : (l : List Row) → broken (tested e f (Clear 0) l) ≡ first (Breaks l) (length l) 0
   first-broken l = from l [] l refl
 
-  pub shortfall-of : (l : List Row) (i : ℕ) (x : ℤ) → tested e f (Clear 0) l ≡ Broken i x → x ≡ f (getD l i d)
+  pub shortfall-of : (l : List Row) (i : ℕ) (x : ℤ) → tested e f (Clear 0) l ≡ Broken x i → x ≡ f (getD l i d)
   shortfall-of l i x p = rw p at (carried l [] l refl)
 
 -- a search that finds none has counted the rows
@@ -200,12 +200,12 @@ unfolding tested
 all-clear e f [] i n p = let z : i ≡ n = cc in omega arith
 all-clear e f (r ∷ rs) i n p = go (isShort e (f r)) refl (all-clear e f rs (i + 1) n)
   where
-    step : (b : Bool) → isShort e (f r) ≡ b → tested e f (cond b (Broken i (f r)) (Clear (i + 1))) rs ≡ Clear n
-    step b t = sym (ap (λ (b : Bool). tested e f (cond b (Broken i (f r)) (Clear (i + 1))) rs) t) ∙ p
+    step : (b : Bool) → isShort e (f r) ≡ b → tested e f (cond b (Broken (f r) i) (Clear (i + 1))) rs ≡ Clear n
+    step b t = sym (ap (λ (b : Bool). tested e f (cond b (Broken (f r) i) (Clear (i + 1))) rs) t) ∙ p
 
     go : (b : Bool) → isShort e (f r) ≡ b → (tested e f (Clear (i + 1)) rs ≡ Clear n → n ≡ i + 1 + length rs) → n ≡ i + suc (length rs)
     go true t rest =
-        let z : Broken i (f r) ≡ Clear n = sym (stuck e f i (f r) rs) ∙ step true t in
+        let z : Broken (f r) i ≡ Clear n = sym (stuck e f i (f r) rs) ∙ step true t in
         let y : _≡_ {A = ℕ} 0 1 = cc in
         absurd (omega arith)
     go false t rest = let z = rest (step false t) in omega arith

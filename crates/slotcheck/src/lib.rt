@@ -7,10 +7,12 @@ ghost use Rattle.rules.specs.Judge.{shortfall};
 ghost use Rattle.row.specs.Kinds.{kindRows};
 ghost use Rattle.slotcheck.specs.Searches.{Step, Tested, reached};
 
-// A search for a broken row: so many rows are tested and hold, or the first broken row and its shortfall.
+// A search for a broken row.
 pub enum Search {
+    // so many rows are tested and hold
     Clear(usize),
-    Broken(usize, i64),
+    // the shortfall of the first broken row, and its number
+    Broken(i64, usize),
 }
 
 // One more row, of this shortfall, is tested, if none was broken.
@@ -19,11 +21,11 @@ pub fn step(state: Search, shortfall: i64, e: u16) -> Search
     ensures { λ r. ⌜ Step e shortfall state r ⌝ }
 {
     match state {
-        Search::Broken(i, first) => Search::Broken(i, first),
+        Search::Broken(first, i) => Search::Broken(first, i),
         Search::Clear(i) => {
             let over = shortfall - (e as i64);
             if 0 < over {
-                Search::Broken(i, shortfall)
+                Search::Broken(shortfall, i)
             } else {
                 Search::Clear(i + 1)
             }

@@ -47,7 +47,7 @@ add-t12 : tie.Need-add-t12
 add-t12 c = omega (arith, reached-clear _ _ (c .before .before .state2 .given .1))
 
 returns : tie.Need-returns
-returns c = already-broken _ _ _ _ (c .before .state .given .1) (toZ-ofZ {w = w64} {z = c .before .state .given .0 .1 .0} (search needs))
+returns c = already-broken _ _ _ _ (c .before .state .given .1) (toZ-ofZ {w = w64} {z = c .before .state .given .0 .0} (search needs))
 
 returns-2 : tie.Need-returns-2
 returns-2 c = now-broken _ _ _ _ (c .before .before .state2 .given .1) (sym (test-is (c .before)) ∙ c .if1 .taken) (toZ-ofZ (c .before .before .before .before .fits .shortfall))
