@@ -6,11 +6,12 @@ use Prim.Native.Nat.{ℕ, _<_}
 use native.Mathlib.Omega.{arith}
 use lib.Dec.{lt→ltb, ltb→lt}
 use lib.ListN.{length}
-use lib.IntN.{ℤ, pos, negsuc}
+use lib.IntN.{ℤ, pos, negsuc, _*ℤ_}
 use lib.Signed.{_<ℤ_}
 use Rattle.rules.specs.Table.{Node, Good}
-use Rattle.rules.specs.Rows.{rowsOf}
-use Rattle.rules.specs.Judge.{None, Verdict, Judged, shortfall, rowAt}
+use Rattle.rules.specs.Quantities.{one}
+use Rattle.rules.specs.Rows.{Row, sumOf, rowsOf}
+use Rattle.rules.specs.Judge.{Broken, shortfall, None, Verdict, rowAt, Judged}
 use Rattle.rules.specs.Judge.Judged.{is-outside, is-not-binary, is-broken, is-passed}
 use Rattle.rules.specs.Refusals.{JudgeRefused}
 use Rattle.rules.specs.Demands.{Answer}
@@ -21,12 +22,18 @@ use Rattle.rules.specs.Before as Before
 use Rattle.rules.specs.Unaltered.{judged-before, judged-now, same-outcome}
 use Rattle.rules.specs.Outcome.{judgeOutcome}
 use Rattle.rules.specs.Theorems.{judge-exact}
-use Rattle.demands.specs.Shortfall.{SameVerdict, JudgedAsBefore, CarriesShortfall}
+use Rattle.demands.specs.Shortfall.{BrokenIsShort, SameVerdict, JudgedAsBefore, CarriesShortfall}
 
 -- more than a tolerance is more than 0
 above-zero : (e : ℕ) (d : ℤ) → pos e <ℤ d → pos 0 <ℤ d
 above-zero e (pos n) h = record { lt = lt→ltb 0 n (let l = ltb→lt e n (h .lt) in omega arith) }
 above-zero e (negsuc n) h = absurd (h .lt)
+
+broken-above : (e : ℕ) (xs : List ℤ) (r : Row) → Broken e xs r ↔ (pos e <ℤ shortfall xs r)
+broken-above e xs r = broken-short (r .relation) e (r .right *ℤ pos one) (sumOf xs (r .terms))
+
+pub broken-is-short : BrokenIsShort
+broken-is-short e xs r = (broken-above e xs r, λ h. above-zero e (shortfall xs r) (broken-above e xs r .0 h))
 
 module _ {T M e : ℕ} {ns : List Node} {xs : List ℤ} where
   -- the row that broken names, and its shortfall
@@ -38,7 +45,7 @@ module _ {T M e : ℕ} {ns : List Node} {xs : List ℤ} where
       let r = rowAt T M ns j in
       let g : j ≡ i = cc in
       let k : shortfall xs r ≡ d = cc in
-      let above = broken-short (r .relation) e _ _ .0 (h .holds .1) in
+      let above = broken-above e xs r .0 (h .holds .1) in
       (rw g at (h .holds .0), sym k ∙ ap (λ (n : ℕ). shortfall xs (rowAt T M ns n)) g, rw k at above)
 
 module _ (t m : ℕ) (table : List ℕ) (figures : List ℤ) (tolerance : ℤ) (ruling : Answer Verdict) (told : ruling ≡ judgeOutcome t m table figures tolerance) where

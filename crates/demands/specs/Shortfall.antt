@@ -1,4 +1,4 @@
--- Request N1: what the verdict broken carries, and that which verdict is given does not alter. Stated of any ruling that meets the judge's contract.
+-- Request N1: what the verdict broken carries, and that which verdict is given does not alter.
 use mathlib.Core.Path.{_≡_}
 use mathlib.Core.Logic.{_↔_}
 use mathlib.Core.List.{List}
@@ -7,13 +7,21 @@ use lib.ListN.{length}
 use lib.IntN.{ℤ, pos}
 use lib.Signed.{_<ℤ_}
 use Rattle.rules.specs.Table.{Node, Good}
-use Rattle.rules.specs.Rows.{rowsOf}
-use Rattle.rules.specs.Judge.{None, Verdict, shortfall, rowAt}
+use Rattle.rules.specs.Rows.{Row, rowsOf}
+use Rattle.rules.specs.Judge.{Broken, shortfall, None, Verdict, rowAt}
 use Rattle.rules.specs.Refusals.{JudgeRefused}
 use Rattle.rules.specs.Demands.{Answer}
 use Rattle.rules.specs.Demands.Answer.{answered}
 use Rattle.rules.specs.Before.{withoutShortfall}
 use Rattle.rules.specs.Before as Before
+
+-- a row is broken exactly where its shortfall is above the tolerance, and it is then above 0, the goal row's too
+abbrev pub BrokenIsShort : Type 0
+BrokenIsShort =
+    (e : ℕ) (figures : List ℤ) (row : Row) →
+    (Broken e figures row ↔ (pos e <ℤ shortfall figures row)) × (Broken e figures row → pos 0 <ℤ shortfall figures row)
+
+-- ---- of a ruling that meets the judge's contract
 
 -- "Which verdict is given does not alter": without the shortfall, the ruling is the judge's of before, on all input ..
 abbrev pub SameVerdict : (t m : ℕ) (table : List ℕ) (figures : List ℤ) (tolerance : ℤ) (ruling : Answer Verdict) → Type 0
@@ -25,7 +33,7 @@ JudgedAsBefore t m table figures tolerance ruling =
     (u : Before.Verdict) → (withoutShortfall ruling ≡ answered u) ↔
     (None (JudgeRefused t m table figures tolerance) × ((ns : List Node) × (e : ℕ) × Good m table ns × (tolerance ≡ pos e) × Before.Judged t m e ns figures u))
 
--- "The verdict broken then carries the shortfall in millionths", that of the row it names, the goal row included: more than the tolerance, and so more than 0
+-- "The verdict broken then carries the shortfall in millionths", that of the row it names: above the tolerance, and so above 0
 abbrev pub CarriesShortfall : (t m : ℕ) (table : List ℕ) (figures : List ℤ) (tolerance : ℤ) (ruling : Answer Verdict) → Type 0
 CarriesShortfall t m table figures tolerance ruling =
     (i : ℕ) (d : ℤ) → ruling ≡ answered (Verdict.broken i d) →
