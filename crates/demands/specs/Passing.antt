@@ -26,10 +26,10 @@ use Rattle.rules.specs.Refusals.{RunGood, TableRefused, JudgeRefused}
 use Rattle.rules.specs.Demands.{Fits, OnlyTheTruth}
 use Rattle.rules.specs.Solution.Truths.{place-lt}
 use Rattle.rules.specs.Exactness.Tests.{at-least as bounded}
-use Rattle.rules.specs.Theorems.{only-the-truth, judge-exact}
+use Rattle.rules.specs.Theorems.{only-the-truth}
 use Rattle.rules.specs.Outcome.{judgeOutcome}
 use Rattle.rules.specs.Demands.{Answer}
-use Rattle.rules.specs.Demands.Answer.{answered}
+use Rattle.demands.specs.Answering.{judge-answers}
 use Rattle.demands.specs.Passed.{HoldsBy, RowHolds, Passes, PassedIff, TrulyMet, PassedIsTrue, PassedMeans, PassedAtZero}
 
 -- ---- orders that are refuted
@@ -267,24 +267,20 @@ count-is f (is-broken p q h) = let z : _≡_ {A = ℕ} 0 1 = cc in absurd (omega
 count-is f (is-passed p q r) = cc
 
 module _ (t m : ℕ) (table : List ℕ) (figures : List ℤ) (tolerance : ℤ) (ruling : Answer Verdict) (told : ruling ≡ judgeOutcome t m table figures tolerance) where
-  exact : (v : Verdict) → (ruling ≡ answered v) ↔
-      (None (JudgeRefused t m table figures tolerance) × ((ns : List Node) × (e : ℕ) × Good m table ns × (tolerance ≡ pos e) × Judged t m e ns figures v))
-  exact v = rw told (judge-exact t m table figures tolerance .answers v)
-
   pub passed-means : PassedMeans t m table figures tolerance ruling
   passed-means n = (
     λ f.
-        let x = exact (Verdict.passed n) .0 f in
+        let x = judge-answers t m table figures tolerance ruling told (Verdict.passed n) .0 f in
         let j = x .1 .4 in
         (x .0, (x .1 .0, x .1 .1, x .1 .2, x .1 .3, count-is refl j, passes t m (x .1 .1) (x .1 .0) figures n refl j)),
     λ x.
         let (ns, e, good, tol, count, p) = x .1 in
-        exact (Verdict.passed n) .1 (x .0, (ns, e, good, tol, rw count (passed-iff t m e ns figures .1 p))),
+        judge-answers t m table figures tolerance ruling told (Verdict.passed n) .1 (x .0, (ns, e, good, tol, rw count (passed-iff t m e ns figures .1 p))),
   )
 
   pub passed-at-zero : PassedAtZero t m table figures tolerance ruling
   passed-at-zero n zero-is f =
-      let x = exact (Verdict.passed n) .0 f in
+      let x = judge-answers t m table figures tolerance ruling told (Verdict.passed n) .0 f in
       let ns = x .1 .0 in
       let z : x .1 .1 ≡ 0 = ap natAbs (sym (x .1 .3) ∙ zero-is) in (
         ns,

@@ -5,7 +5,7 @@ ghost use Rattle.demands.specs.Demand1.{ReaderRefuses, EvaluatorRefuses,
 ghost use Rattle.demands.specs.Demand2.{ReaderAnswers, EvaluatorAnswers, RowWriterAnswers, JudgeAnswers};
 ghost use Rattle.demands.specs.Demand3.{Demanded};
 ghost use Rattle.demands.specs.Passed.{PassedMeans, PassedAtZero};
-ghost use Rattle.demands.specs.Shortfall.{SameVerdict, JudgedAsBefore, CarriesShortfall};
+ghost use Rattle.demands.specs.Shortfall.{SameVerdict, CarriesShortfall};
 use answers::Answer;
 use answers::Refusal;
 use judge::Ruling;
@@ -41,7 +41,6 @@ pub fn judge_figures(table: &[u8], t: usize, m: usize, figures: &[i32], e: i32) 
     ensures { λ r. ⌜ PassedMeans t m (now (table .entry)) (now (figures .entry)) e (ruled r) ⌝ }
     ensures { λ r. ⌜ PassedAtZero t m (now (table .entry)) (now (figures .entry)) e (ruled r) ⌝ }
     ensures { λ r. ⌜ SameVerdict t m (now (table .entry)) (now (figures .entry)) e (ruled r) ⌝ }
-    ensures { λ r. ⌜ JudgedAsBefore t m (now (table .entry)) (now (figures .entry)) e (ruled r) ⌝ }
     ensures { λ r. ⌜ CarriesShortfall t m (now (table .entry)) (now (figures .entry)) e (ruled r) ⌝ }
 {
     judge::judge(table, t, m, figures, e)

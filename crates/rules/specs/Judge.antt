@@ -48,8 +48,9 @@ abbrev pub None : (ℕ → Type 0) → Type 0
 None P = (k : ℕ) → P k → ⊥
 
 pub data Verdict : Type 0 where
-  outside not-binary passed : ℕ → Verdict
+  outside not-binary : ℕ → Verdict
   broken : (row : ℕ) (shortfall : ℤ) → Verdict
+  passed : ℕ → Verdict
 
 -- row i of a table's rows
 abbrev pub rowAt : (T M : ℕ) → List Node → ℕ → Row

@@ -1,7 +1,7 @@
 -- The verdict, computed: the first variable outside, the first atom variable that is not binary, the first broken row. It is the verdict of Judge.antt.
 use mathlib.Core.Path.{_≡_, refl, ap}
 use mathlib.Core.Bool.{Bool, _&&_, _||_}
-use mathlib.Core.Logic.{_↔_, inl, inr, ⊎-elim}
+use mathlib.Core.Logic.{_↔_, Iff·trans, inl, inr, ⊎-elim}
 use mathlib.Core.List.{List}
 use mathlib.Core.Option.{Option, none, some}
 use Prim.Native.Nat.{ℕ, _+_, _*_, _<_}
@@ -9,13 +9,13 @@ use native.Mathlib.Omega.{arith}
 use native.Mathlib.Decide.{decLt}
 use lib.Dec.{T as Is, ltb, ltb→lt, lt→ltb}
 use lib.ListN.{length}
-use lib.IntN.{ℤ, pos, negℤ, _-ℤ_, _*ℤ_, natAbs}
+use lib.IntN.{ℤ, pos, negℤ, _-ℤ_, natAbs}
 use lib.Signed.{ltZ, _<ℤ_}
 use Rattle.lists.specs.Tests.{or-cases, or-left, or-right, and-left, and-right, and-both}
 use Rattle.lists.specs.First.{first, first-found, Found}
 use Rattle.rules.specs.Quantities.{one}
 use Rattle.rules.specs.Table.{Node}
-use Rattle.rules.specs.Rows.{Row, valueAt, sumOf, rowsOf}
+use Rattle.rules.specs.Rows.{Row, valueAt, rowsOf}
 use Rattle.rules.specs.Judge.{Apart, Outside, NotBinary, Broken, shortfall, Lowest, None, Verdict, rowAt, OutsideAt, NotBinaryAt, BrokenAt, Judged}
 use Rattle.rules.specs.Judge.Verdict.{outside, not-binary, broken, passed}
 use Rattle.rules.specs.Judge.Judged.{is-outside, is-not-binary, is-broken, is-passed}
@@ -62,9 +62,7 @@ not-binary-iff e x =
     )
 
 broken-iff : (e : ℕ) (xs : List ℤ) (r : Row) → Broken e xs r ↔ Is (isBroken e xs r)
-broken-iff e xs r =
-    let iff = broken-short (r .relation) e (r .right *ℤ pos one) (sumOf xs (r .terms)) in
-    (λ h. iff .0 h .lt, λ t. iff .1 (below-iff (pos e) (shortfall xs r) .1 t))
+broken-iff e xs r = Iff·trans (broken-short e xs r) (below-iff (pos e) (shortfall xs r))
 
 -- ---- the first of
 

@@ -151,29 +151,29 @@ module _ (e : ℕ) (f : Row → ℤ) (s : Search) (g : ℕ → List Row) where
 -- ---- of all rows: the first that is broken, and its shortfall
 
 module _ (e : ℕ) (f : Row → ℤ) (d : Row) where
-  abbrev Breaks : List Row → ℕ → Bool
-  Breaks l i = isShort e (f (getD l i d))
+  abbrev breaks : List Row → ℕ → Bool
+  breaks l i = isShort e (f (getD l i d))
 
   -- the shortfall is that of the row
   abbrev Carries : List Row → Search → Type 0
   Carries l (Clear i) = Unit {0}
   Carries l (Broken x i) = x ≡ f (getD l i d)
 
-  -- the rows rs stand after p in l, and the search is at the first of them
+  -- in what follows the rows rs stand after p in l, and the search is at the first of them
   seam : (r : Row) (rs p l : List Row) → p ++ (r ∷ rs) ≡ l → getD l (length p) d ≡ r
   seam r rs p l q = ap (λ (x : List Row). getD x (length p) d) (sym q) ∙ getD-append-seam p r rs d
 
   one-more : (r : Row) (p : List Row) → length (p ++ (r ∷ [])) ≡ suc (length p)
   one-more r p = length-append p (r ∷ []) ∙ add-one (length p)
 
-  from : (rs p l : List Row) → p ++ rs ≡ l → broken (tested e f (Clear (length p)) rs) ≡ first (Breaks l) (length rs) (length p)
+  from : (rs p l : List Row) → p ++ rs ≡ l → broken (tested e f (Clear (length p)) rs) ≡ first (breaks l) (length rs) (length p)
   unfolding tested first
   from [] p l q = refl
   from (r ∷ rs) p l q = go (isShort e (f r)) refl (seam r rs p l q) (one-more r p) (from rs (p ++ (r ∷ [])) l (append-assoc p (r ∷ []) rs ∙ q))
     where
       go : (b : Bool) → isShort e (f r) ≡ b → getD l (length p) d ≡ r → length (p ++ (r ∷ [])) ≡ suc (length p) →
-          broken (tested e f (Clear (length (p ++ (r ∷ [])))) rs) ≡ first (Breaks l) (length rs) (length (p ++ (r ∷ []))) →
-          broken (tested e f (cond (isShort e (f r)) (Broken (f r) (length p)) (Clear (length p + 1))) rs) ≡ cond (Breaks l (length p)) (some (length p)) (first (Breaks l) (length rs) (suc (length p)))
+          broken (tested e f (Clear (length (p ++ (r ∷ [])))) rs) ≡ first (breaks l) (length rs) (length (p ++ (r ∷ []))) →
+          broken (tested e f (cond (isShort e (f r)) (Broken (f r) (length p)) (Clear (length p + 1))) rs) ≡ cond (breaks l (length p)) (some (length p)) (first (breaks l) (length rs) (suc (length p)))
       go true t here size rest = rw (here, t) (ap broken (stuck e f (length p) (f r) rs))
       go false t here size rest = rw (here, t, add-one (length p), ← size) rest
 
@@ -188,7 +188,7 @@ module _ (e : ℕ) (f : Row → ℤ) (d : Row) where
       go true t here size rest = rw (t, stuck e f (length p) (f r) rs, here) refl
       go false t here size rest = rw (t, add-one (length p), ← size) rest
 
-  pub first-broken : (l : List Row) → broken (tested e f (Clear 0) l) ≡ first (Breaks l) (length l) 0
+  pub first-broken : (l : List Row) → broken (tested e f (Clear 0) l) ≡ first (breaks l) (length l) 0
   first-broken l = from l [] l refl
 
   pub shortfall-of : (l : List Row) (i : ℕ) (x : ℤ) → tested e f (Clear 0) l ≡ Broken x i → x ≡ f (getD l i d)

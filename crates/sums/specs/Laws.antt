@@ -28,15 +28,9 @@ pub size-above : (d : ℤ) → ltZ d (pos 0) ≡ false → d ≡ pos (natAbs d)
 size-above (pos n) e = refl
 size-above (negsuc n) e = let z : _≡_ {A = ℕ} 0 1 = cc in absurd (omega arith)
 
--- sizes of numbers of which a difference is taken
-pub stored-small : {n : ℕ} → n ≤ 1099511627776 → n ≤ 2199023255552
-stored-small h = omega arith
-
-pub sum-small : {n : ℕ} → n ≤ 824633720832 → n ≤ 2199023255552
-sum-small h = omega arith
-
-pub right-small : {n : ℕ} → n ≤ 128000000 → n ≤ 2199023255552
-right-small h = omega arith
+-- the size of a number of which a difference is taken, by a bound that it has
+pub within : (m : ℕ) → m ≤ 2199023255552 → {n : ℕ} → n ≤ m → n ≤ 2199023255552
+within m k h = omega arith
 
 pub truth-small : (b : Bool) → natAbs (ofTruth b .value) ≤ 1000000
 truth-small true = omega arith

@@ -100,7 +100,7 @@ fn product(coefficient: i8, figure: i32) -> i64
 fn scaled(right: i8) -> i64
     ensures { λ r. ⌜ (r ≡ right *ℤ pos Quantities.one) × (natAbs r ≤ 128000000) ⌝ }
 {
-    (right as i64) * (Millionths::ONE.value as i64)
+    product(right, Millionths::ONE.value)
 }
 
 // The sum of two terms.

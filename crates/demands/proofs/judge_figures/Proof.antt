@@ -6,7 +6,7 @@ use Rattle.judge.specs.Ruled.{ruled}
 use Rattle.demands.specs.Refusing.{judge-refuses}
 use Rattle.demands.specs.Answering.{judge-answers}
 use Rattle.demands.specs.Passing.{passed-means, passed-at-zero}
-use Rattle.demands.specs.Carrying.{same-verdict, judged-as-before, carries-shortfall}
+use Rattle.demands.specs.Carrying.{same-verdict, carries-shortfall}
 use borrow.Author.Needs.{needs}
 use Rattle.demands.proofs.judge_figures.Statement.{statement}
 use Rattle.demands.proofs.judge_figures.Tie as tie
@@ -20,7 +20,7 @@ returns c =
     let a = s .args in
     let k = c .judge in
     let told = k .ensures ∙ ap (judgeOutcome (a .t) (a .m) (a .table .now) (a .figures .now)) (toZ-ofZ (s .fits .e)) in
-    (judge-refuses (a .t) (a .m) (a .table .now) (a .figures .now) (a .e) (ruled (k .result)) told, (judge-answers (a .t) (a .m) (a .table .now) (a .figures .now) (a .e) (ruled (k .result)) told, (passed-means (a .t) (a .m) (a .table .now) (a .figures .now) (a .e) (ruled (k .result)) told, (passed-at-zero (a .t) (a .m) (a .table .now) (a .figures .now) (a .e) (ruled (k .result)) told, (same-verdict (a .t) (a .m) (a .table .now) (a .figures .now) (a .e) (ruled (k .result)) told, (judged-as-before (a .t) (a .m) (a .table .now) (a .figures .now) (a .e) (ruled (k .result)) told, carries-shortfall (a .t) (a .m) (a .table .now) (a .figures .now) (a .e) (ruled (k .result)) told))))))
+    (judge-refuses (a .t) (a .m) (a .table .now) (a .figures .now) (a .e) (ruled (k .result)) told, (judge-answers (a .t) (a .m) (a .table .now) (a .figures .now) (a .e) (ruled (k .result)) told, (passed-means (a .t) (a .m) (a .table .now) (a .figures .now) (a .e) (ruled (k .result)) told, (passed-at-zero (a .t) (a .m) (a .table .now) (a .figures .now) (a .e) (ruled (k .result)) told, (same-verdict (a .t) (a .m) (a .table .now) (a .figures .now) (a .e) (ruled (k .result)) told, carries-shortfall (a .t) (a .m) (a .table .now) (a .figures .now) (a .e) (ruled (k .result)) told)))))
 
 pub judge-figures-spec : {M : Type 1} → statement M
 judge-figures-spec = tie.close (tie.spec judge-requires returns)

@@ -9,7 +9,7 @@ use mir.Syntax.{w64}
 use mir.Val.{toZ, ofZ}
 use mir.Facts.{toZ-ofZ, toZ-pos}
 use Rattle.ints.specs.Sizes.{difference-size}
-use Rattle.sums.specs.Laws.{stored-small}
+use Rattle.sums.specs.Laws.{within}
 use Rattle.sums.proofs.is_apart.Statement.{statement}
 use Rattle.sums.proofs.is_apart.Tie as tie
 
@@ -20,7 +20,7 @@ cast-result : tie.Need-cast-result
 cast-result c = search needs
 
 less-requires : tie.Need-less-requires
-less-requires c κs = search (needs, stored-small)
+less-requires c κs = search (needs, within 1099511627776 (omega arith))
 
 size-requires : tie.Need-size-requires
 size-requires c κs =

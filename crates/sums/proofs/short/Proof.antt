@@ -9,7 +9,7 @@ use mir.Facts.{toZ-ofZ}
 use Rattle.ints.specs.Sizes.{difference-size}
 use Rattle.ints.specs.Stored.{back}
 use Rattle.rules.specs.Quantities.{one}
-use Rattle.sums.specs.Laws.{sum-small, right-small}
+use Rattle.sums.specs.Laws.{within}
 use Rattle.sums.proofs.short.Statement.{statement}
 use Rattle.sums.proofs.short.Tie as tie
 
@@ -17,7 +17,7 @@ scaled-requires : tie.Need-scaled-requires
 scaled-requires c κs = search needs
 
 less-requires : tie.Need-less-requires
-less-requires c κs = search (needs, sum-small, right-small)
+less-requires c κs = search (needs, within 824633720832 (omega arith), within 128000000 (omega arith))
 
 returns : tie.Need-returns
 returns c =
