@@ -1,4 +1,4 @@
-/* Reads a rule, writes its rows, evaluates a run and judges the figures that the run makes. Build and run: examples/run-c */
+/* Reads a rule, writes its rows and its MPS page, evaluates a run and judges the figures that the run makes. Build and run: examples/run-c */
 #include <stdio.h>
 #include <string.h>
 #include "sepia.h"
@@ -8,7 +8,7 @@ enum { T = 4, M = 2, ONE = 1000000 };
 int main(void) {
     const char *rule = "G(a0 > F a1)";
     const uint16_t run[T] = {1, 0, 2, 0}; /* a0 at slot 1, a1 at slot 3 */
-    static uint8_t table[640], rows[14 * (4 * 128 * T + 1)], truth[128 * T];
+    static uint8_t table[640], rows[14 * (4 * 128 * T + 1)], truth[128 * T], page[1 << 20];
     static int32_t figures[(M + 128) * T];
 
     sepia_answer read = sepia_read((const uint8_t *)rule, strlen(rule), M, table, sizeof table);
@@ -21,6 +21,9 @@ int main(void) {
 
     sepia_answer written = sepia_rows(table, bytes, T, M, rows, sizeof rows);
     printf("rows %u\n", written.value);
+
+    sepia_answer paged = sepia_mps(table, bytes, T, M, page, sizeof page);
+    printf("page %u bytes\n", paged.value);
 
     sepia_answer holds = sepia_evaluate(table, bytes, T, M, run, T, truth, sizeof truth);
     printf("holds at slot 1: %u\n", holds.value);

@@ -1,4 +1,4 @@
-// Reads a rule, writes its rows, evaluates a run and judges the figures that the run makes. Build and run: examples/run-rust
+// Reads a rule, writes its rows and its MPS page, evaluates a run and judges the figures that the run makes. Build and run: examples/run-rust
 
 #[repr(C)]
 #[derive(Clone, Copy)]
@@ -21,6 +21,7 @@ extern "C" {
     fn sepia_read(text: *const u8, text_len: usize, m: usize, out: *mut u8, out_len: usize) -> Answer;
     fn sepia_evaluate(table: *const u8, table_len: usize, t: usize, m: usize, run: *const u16, run_len: usize, out: *mut u8, out_len: usize) -> Answer;
     fn sepia_rows(table: *const u8, table_len: usize, t: usize, m: usize, out: *mut u8, out_len: usize) -> Answer;
+    fn sepia_mps(table: *const u8, table_len: usize, t: usize, m: usize, out: *mut u8, out_len: usize) -> Answer;
     fn sepia_judge(table: *const u8, table_len: usize, t: usize, m: usize, figures: *const i32, figures_len: usize, e: i32) -> Verdict;
 }
 
@@ -41,6 +42,10 @@ fn rows(table: &[u8], t: usize, m: usize, out: &mut [u8]) -> Result<usize, u32> 
     answer(unsafe { sepia_rows(table.as_ptr(), table.len(), t, m, out.as_mut_ptr(), out.len()) })
 }
 
+fn mps(table: &[u8], t: usize, m: usize, out: &mut [u8]) -> Result<usize, u32> {
+    answer(unsafe { sepia_mps(table.as_ptr(), table.len(), t, m, out.as_mut_ptr(), out.len()) })
+}
+
 fn judge(table: &[u8], t: usize, m: usize, figures: &[i32], e: i32) -> Result<(u32, usize, i64), u32> {
     let v = unsafe { sepia_judge(table.as_ptr(), table.len(), t, m, figures.as_ptr(), figures.len(), e) };
     if v.refusal == 0 { Ok((v.verdict, v.value as usize, v.shortfall)) } else { Err(v.refusal) }
@@ -59,6 +64,9 @@ fn main() -> Result<(), u32> {
 
     let mut records = vec![0u8; 14 * (4 * nodes * T + 1)];
     println!("rows {}", rows(table, T, M, &mut records)?);
+
+    let mut page = vec![0u8; 1 << 20];
+    println!("page {} bytes", mps(table, T, M, &mut page)?);
 
     let mut truth = vec![0u8; nodes * T];
     println!("holds at slot 1: {}", evaluate(table, T, M, &run, &mut truth)?);

@@ -27,7 +27,7 @@ enum {
     SEPIA_RUN = 8,         /* evaluate: the run is not T numbers, or a bit at M or above is set */
     SEPIA_FIGURES = 9,     /* judge: the figures are not (M + N)*T */
     SEPIA_TOLERANCE = 10,  /* judge: the tolerance is not 0 to 1,000 */
-    SEPIA_ROOM = 11        /* read, evaluate, rows: the output buffer is shorter than the output */
+    SEPIA_ROOM = 11        /* read, evaluate, rows, mps: the output buffer is shorter than the output */
 };
 
 /* refusal 0: value is the result. Otherwise value is 0. */
@@ -63,6 +63,9 @@ sepia_answer sepia_evaluate(const uint8_t *table, size_t table_len, size_t t, si
 
 /* Writes a table's rows, 14 bytes a row. The result is the row count. */
 sepia_answer sepia_rows(const uint8_t *table, size_t table_len, size_t t, size_t m, uint8_t *out, size_t out_len);
+
+/* Writes a table's rows as a fixed-column MPS page, with a bound for each variable: BV for atoms, UP 1 for slacks. The result is the page's length in bytes. */
+sepia_answer sepia_mps(const uint8_t *table, size_t table_len, size_t t, size_t m, uint8_t *out, size_t out_len);
 
 /* Judges a solver's figures, in millionths, one for each variable, with tolerance e. */
 sepia_verdict sepia_judge(const uint8_t *table, size_t table_len, size_t t, size_t m, const int32_t *figures, size_t figures_len, int32_t e);

@@ -48,25 +48,33 @@ impl Outputs {
     }
 }
 
-/// The answers of one call, counted.
+/// The answers of one call, counted, and how many of them had something special.
 struct Counts {
     call: &'static str,
     seen: BTreeMap<String, u64>,
+    special: BTreeMap<&'static str, u64>,
 }
 
 impl Counts {
     fn new(call: &'static str) -> Self {
-        Counts { call, seen: BTreeMap::new() }
+        Counts { call, seen: BTreeMap::new(), special: BTreeMap::new() }
     }
 
     fn add(&mut self, answer: String) {
         *self.seen.entry(answer).or_insert(0) += 1;
     }
 
+    fn add_special(&mut self, what: &'static str) {
+        *self.special.entry(what).or_insert(0) += 1;
+    }
+
     fn print(&self) {
         println!("{}: {} inputs", self.call, self.seen.values().sum::<u64>());
         for (answer, count) in &self.seen {
             println!("  {count:>9}  {answer}");
+        }
+        for (what, count) in &self.special {
+            println!("  {count:>9}    of these with {what}");
         }
     }
 }
@@ -174,6 +182,50 @@ fn rows(cases: u64, random: &mut Random, counts: &mut Counts) -> Result<(), Stri
     Ok(())
 }
 
+/// Whether a line of the page has this number in its last field. Only entries have 2 or -2, and only COST lines 0.
+fn has_number(page: &[u8], number: &[u8]) -> bool {
+    page.split(|&byte| byte == b'\n').any(|line| line.get(24..) == Some(number))
+}
+
+/// Whether a row of a good table has a term that another one cancels: an implication of a node by itself.
+fn has_cancelled(table: &[u8]) -> bool {
+    table.chunks_exact(reference::NODE_BYTES).any(|record| record[2] == reference::IMPLIES && record[3] == record[4])
+}
+
+fn mps(cases: u64, random: &mut Random, counts: &mut Counts) -> Result<(), String> {
+    let mut table = Vec::new();
+    let mut outputs = Outputs::default();
+    for case in 0..cases {
+        let (t, m) = (inputs::horizon(random), inputs::atom_count(random));
+        inputs::table(random, m, &mut table);
+        let page = reference::whole_page(&table, t, m).unwrap_or_default();
+        let room = inputs::room(random, if page.is_empty() { 300 } else { page.len() });
+        outputs.fill(random, room);
+        let kept = table.clone();
+        let expected = reference::mps_page(&table, t, m, outputs.of_reference());
+        let answer = sepia::mps_page(&table, t, m, outputs.of_sepia());
+        if let Some(difference) = compare(&expected, &answer, Some(&outputs), kept == table) {
+            return Err(format!("case {case}: {difference}\n  table {}\n  T {t} M {m} room {room}", hex(&table)));
+        }
+        counts.add(match expected {
+            Ok(0..=9_999) => "under 10,000 bytes".to_string(),
+            Ok(10_000..=999_999) => "10,000 to 999,999 bytes".to_string(),
+            Ok(_) => "1,000,000 bytes or more".to_string(),
+            Err(number) => refusal(number),
+        });
+        if expected.is_ok() {
+            let special = [
+                (has_number(&page, b"2"), "a coefficient 2"),
+                (has_number(&page, b"-2"), "a coefficient -2"),
+                (has_cancelled(&table), "a term that is dropped"),
+                (has_number(&page, b"0"), "a variable in no row"),
+            ];
+            special.iter().filter(|(seen, _)| *seen).for_each(|(_, what)| counts.add_special(what));
+        }
+    }
+    Ok(())
+}
+
 fn judge(cases: u64, random: &mut Random, counts: &mut Counts) -> Result<(), String> {
     let (mut table, mut figures) = (Vec::new(), Vec::new());
     for case in 0..cases {
@@ -204,7 +256,8 @@ fn judge(cases: u64, random: &mut Random, counts: &mut Counts) -> Result<(), Str
 /// Runs `cases` inputs through each call; true when all agree.
 pub fn run(cases: u64, seed: u64) -> bool {
     type Call = fn(u64, &mut Random, &mut Counts) -> Result<(), String>;
-    let calls: [(&'static str, Call); 4] = [("read", read), ("evaluate", evaluate), ("rows", rows), ("judge", judge)];
+    let calls: [(&'static str, Call); 5] =
+        [("read", read), ("evaluate", evaluate), ("rows", rows), ("judge", judge), ("mps", mps)];
     println!("seed {seed}");
     for (number, (name, call)) in calls.into_iter().enumerate() {
         // Each call has inputs of its own, whatever the number of cases.

@@ -1,4 +1,4 @@
-//! Random inputs of the four calls, good and damaged.
+//! Random inputs of the calls, good and damaged.
 
 use crate::random::Random;
 use crate::reference::{self, ALWAYS, AND, ATOM, EVENTUALLY, IMPLIES, MAX_NODES, MAX_TEXT, NODE_BYTES, NOT, OR, UNTIL};

@@ -1,4 +1,4 @@
-//! The four calls in plain Rust, straight from the scope paper: what the proved library is compared with,
+//! The calls in plain Rust, straight from the scope paper: what the proved library is compared with,
 //! in its answers and in its speed. It shares no code with the library.
 //!
 //! Each call returns its result or the number of its refusal. The refusals are tested in the order of
@@ -443,6 +443,173 @@ impl Rows for Writer<'_> {
         }
         place.copy_from_slice(&record);
         true
+    }
+}
+
+// ----------------------------------------------------------------------------------------------- page
+
+/// Writes the rows of a table to `out` as a fixed-column MPS page; the result is its length.
+pub fn mps_page(table: &[u8], t: usize, m: usize, out: &mut [u8]) -> Result<usize, u32> {
+    let page = whole_page(table, t, m)?;
+    require(out.len() >= page.len(), 11)?;
+    out[..page.len()].copy_from_slice(&page);
+    Ok(page.len())
+}
+
+/// The page by itself. Fields 2 and 3 are ten columns wide: a name of at most eight characters and two spaces.
+pub fn whole_page(table: &[u8], t: usize, m: usize) -> Result<Vec<u8>, u32> {
+    let table = checked_table(table, t, m)?;
+    let mut gathered = Gathered { heads: Vec::with_capacity(row_count(&table, t)), entries: Vec::new() };
+    all_rows(&table, t, m, &mut gathered);
+    let Gathered { heads, entries } = gathered;
+    let (atoms, variables) = (m * t, (m + table.len()) * t);
+    let columns = Columns::of(&entries, variables);
+    let row_names: Vec<Name> = (0..heads.len()).map(|row| Name::new(b'R', row)).collect();
+    let variable_names: Vec<Name> = (0..variables).map(|variable| Name::new(b'X', variable)).collect();
+    let lines = entries.len() + 2 * heads.len() + 2 * variables + 7;
+    let mut page = Page(Vec::with_capacity(lines * LONGEST_LINE));
+    page.words(b"NAME\nROWS\n N  COST\n");
+    for (&(relation, _), row) in heads.iter().zip(&row_names) {
+        page.words(if let Relation::Equal = relation { b" E  " } else { b" G  " });
+        page.last(row);
+    }
+    page.words(b"COLUMNS\n");
+    for (number, variable) in variable_names.iter().enumerate() {
+        let entries = columns.entries_of(number);
+        for entry in entries {
+            page.words(b"    ");
+            page.wide(variable);
+            page.wide(&row_names[entry.row as usize]);
+            page.number(entry.coefficient);
+        }
+        if entries.is_empty() {
+            page.words(b"    ");
+            page.wide(variable);
+            page.words(b"COST      0\n");
+        }
+    }
+    page.words(b"RHS\n");
+    for (&(_, right), row) in heads.iter().zip(&row_names).filter(|(&(_, right), _)| right != 0) {
+        page.words(b"    RHS       ");
+        page.wide(row);
+        page.number(right);
+    }
+    page.words(b"BOUNDS\n");
+    for variable in &variable_names[..atoms] {
+        page.words(b" BV BND       ");
+        page.last(variable);
+    }
+    for variable in &variable_names[atoms..] {
+        page.words(b" UP BND       ");
+        page.wide(variable);
+        page.number(1);
+    }
+    page.words(b"ENDATA\n");
+    Ok(page.0)
+}
+
+/// What one variable has in one row, not 0.
+#[derive(Clone, Copy, Default)]
+struct Entry {
+    variable: u32,
+    row: u32,
+    coefficient: i8,
+}
+
+/// Relation and right side of each row, and the entries of all rows, in row order.
+struct Gathered {
+    heads: Vec<(Relation, i8)>,
+    entries: Vec<Entry>,
+}
+
+impl Rows for Gathered {
+    #[inline(always)]
+    fn row<const N: usize>(&mut self, relation: Relation, right: i8, terms: [(i8, usize); N]) -> bool {
+        let row = self.heads.len() as u32;
+        self.heads.push((relation, right));
+        for (place, &(_, variable)) in terms.iter().enumerate() {
+            let first = terms[..place].iter().all(|&(_, other)| other != variable);
+            let same = terms[place..].iter().filter(|&&(_, other)| other == variable);
+            let coefficient = same.map(|&(coefficient, _)| coefficient).sum();
+            if first && coefficient != 0 {
+                self.entries.push(Entry { variable: variable as u32, row, coefficient });
+            }
+        }
+        true
+    }
+}
+
+/// The entries by variable and then by row, and where those of each variable begin.
+struct Columns {
+    begins: Vec<usize>,
+    entries: Vec<Entry>,
+}
+
+impl Columns {
+    fn of(in_row_order: &[Entry], variables: usize) -> Self {
+        let mut begins = vec![0; variables + 1];
+        in_row_order.iter().for_each(|entry| begins[entry.variable as usize + 1] += 1);
+        (0..variables).for_each(|variable| begins[variable + 1] += begins[variable]);
+        let mut next = begins.clone();
+        let mut entries = vec![Entry::default(); in_row_order.len()];
+        for &entry in in_row_order {
+            let place = &mut next[entry.variable as usize];
+            entries[*place] = entry;
+            *place += 1;
+        }
+        Columns { begins, entries }
+    }
+
+    fn entries_of(&self, variable: usize) -> &[Entry] {
+        &self.entries[self.begins[variable]..self.begins[variable + 1]]
+    }
+}
+
+/// A letter and a number, with spaces up to the next field.
+struct Name {
+    bytes: [u8; 10],
+    length: usize,
+}
+
+impl Name {
+    fn new(letter: u8, mut number: usize) -> Self {
+        let mut name = Name { bytes: [b' '; 10], length: 2 + number.checked_ilog10().unwrap_or(0) as usize };
+        name.bytes[0] = letter;
+        for place in name.bytes[1..name.length].iter_mut().rev() {
+            *place = b'0' + (number % 10) as u8;
+            number /= 10;
+        }
+        name
+    }
+}
+
+/// Four spaces, two names, a number of at most two characters, a line feed.
+const LONGEST_LINE: usize = 27;
+
+struct Page(Vec<u8>);
+
+impl Page {
+    fn words<const N: usize>(&mut self, words: &[u8; N]) {
+        self.0.extend_from_slice(words);
+    }
+
+    /// A name that another field follows.
+    fn wide(&mut self, name: &Name) {
+        self.0.extend_from_slice(&name.bytes);
+    }
+
+    /// A name that ends its line.
+    fn last(&mut self, name: &Name) {
+        self.0.extend_from_slice(&name.bytes[..name.length]);
+        self.0.push(b'\n');
+    }
+
+    /// A number of one digit, which ends its line.
+    fn number(&mut self, number: i8) {
+        if number < 0 {
+            self.0.push(b'-');
+        }
+        self.0.extend_from_slice(&[b'0' + number.unsigned_abs(), b'\n']);
     }
 }
 

@@ -31,6 +31,7 @@ extern "C" {
         out_len: usize,
     ) -> RawAnswer;
     fn sepia_rows(table: *const u8, table_len: usize, t: usize, m: usize, out: *mut u8, out_len: usize) -> RawAnswer;
+    fn sepia_mps(table: *const u8, table_len: usize, t: usize, m: usize, out: *mut u8, out_len: usize) -> RawAnswer;
     fn sepia_judge(
         table: *const u8,
         table_len: usize,
@@ -64,6 +65,11 @@ pub fn evaluate(table: &[u8], t: usize, m: usize, run: &[u16], out: &mut [u8]) -
 pub fn rows(table: &[u8], t: usize, m: usize, out: &mut [u8]) -> Result<usize, u32> {
     // SAFETY: as in `read`.
     answer(unsafe { sepia_rows(table.as_ptr(), table.len(), t, m, out.as_mut_ptr(), out.len()) })
+}
+
+pub fn mps_page(table: &[u8], t: usize, m: usize, out: &mut [u8]) -> Result<usize, u32> {
+    // SAFETY: as in `read`.
+    answer(unsafe { sepia_mps(table.as_ptr(), table.len(), t, m, out.as_mut_ptr(), out.len()) })
 }
 
 pub fn judge(table: &[u8], t: usize, m: usize, figures: &[i32], e: i32) -> Result<Verdict, u32> {

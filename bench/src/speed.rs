@@ -154,6 +154,15 @@ pub fn run() {
             ratio(&rounds, 0, 2)
         ));
 
+        let bytes = reference::whole_page(&table, t, m).expect("a page").len();
+        let (mut one, mut two) = (vec![0; bytes], vec![0; bytes]);
+        let rounds =
+            measure([&mut || finish(reference::mps_page(black_box(&table), t, m, black_box(&mut one))), &mut || {
+                finish(sepia::mps_page(black_box(&table), t, m, black_box(&mut two)))
+            }]);
+        assert_eq!(one, two);
+        print_pair("mps", &format!("{label}, {bytes} bytes of page"), &rounds);
+
         let expected = reference::judge(&table, t, m, &figures, 0);
         assert_eq!(expected, Ok(reference::Verdict::Passed(count)));
         assert_eq!(expected, sepia::judge(&table, t, m, &figures, 0));

@@ -3,7 +3,9 @@ pub mod Demand2
 pub mod Demand3
 pub mod Passed
 pub mod Shortfall
+pub mod Page
 pub mod Refusing
 pub mod Answering
 pub mod Passing
 pub mod Carrying
+pub mod Paging

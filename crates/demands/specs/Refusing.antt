@@ -21,7 +21,7 @@ result-refused (answered (wrote n bytes)) k = (λ e. let z : _≡_ {A = ℕ} 0 1
 
 module _ (Refused : ℕ → Type 0) (Is : Written → Type 0) (a : Answer Written) (exact : Exact Refused Is a) (answer : Answer ℕ) (out out′ : List ℕ)
     (told : answer ≡ result a) (left : out′ ≡ buffer a out) where
-  refuses : Refuses Refused answer out out′
+  pub refuses : Refuses Refused answer out out′
   refuses = record {
     lowest = λ k. rw told (Iff·trans (result-refused a k) (exact .refuses k));
     untouched = λ k e. left ∙ ap (λ (x : Answer Written). buffer x out) (result-refused a k .0 (sym told ∙ e));

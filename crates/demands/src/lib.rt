@@ -6,6 +6,7 @@ ghost use Rattle.demands.specs.Demand2.{ReaderAnswers, EvaluatorAnswers,
 ghost use Rattle.demands.specs.Demand3.{Demanded};
 ghost use Rattle.demands.specs.Passed.{PassedMeans, PassedAtZero};
 ghost use Rattle.demands.specs.Shortfall.{SameVerdict, CarriesShortfall};
+ghost use Rattle.demands.specs.Page.{PageRefuses, PageAnswers, PageMeans};
 use answers::Answer;
 use answers::Refusal;
 use judge::Ruling;
@@ -44,6 +45,15 @@ pub fn judge_figures(table: &[u8], t: usize, m: usize, figures: &[i32], e: i32) 
     ensures { λ r. ⌜ CarriesShortfall t m (now (table .entry)) (now (figures .entry)) e (ruled r) ⌝ }
 {
     judge::judge(table, t, m, figures, e)
+}
+
+// Demands 1 and 2 of the page writer, and what its page says.
+pub fn mps_page(table: &[u8], t: usize, m: usize, out: &mut [u8]) -> Answer
+    ensures { λ r. ⌜ PageRefuses t m (now (table .entry)) (told r) (now (out .entry)) (now (out .exit)) ⌝ }
+    ensures { λ r. ⌜ PageAnswers t m (now (table .entry)) (told r) (now (out .entry)) (now (out .exit)) ⌝ }
+    ensures { λ r. ⌜ PageMeans t m (now (table .entry)) (told r) (now (out .exit)) ⌝ }
+{
+    pages::mps_page(table, t, m, out)
 }
 
 // The node count, the row count and the root's truth at slot 1, or the first refusal.

@@ -1,4 +1,4 @@
-// The input of program rowlist, scanned in chunks of any size.
+// The input of programs rowlist and mpspage, scanned in chunks of any size.
 ghost use mathlib.Core.Path.{_≡_};
 ghost use Prim.Native.Nat.{_+_, _-_, _*_, _≤_};
 ghost use lib.ListN.{length, take};

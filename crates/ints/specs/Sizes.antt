@@ -6,7 +6,8 @@ use native.Mathlib.Nat.{le-refl, le-of-eq, le-trans, mul-le-mul}
 use native.Mathlib.Omega.{arith}
 use borrow.Author.Tests.{ltb-true}
 use lib.Dec.{ltb}
-use lib.IntN.{ℤ, pos, negsuc, negℤ, natAbs, subℕ, _+ℤ_, _-ℤ_, _*ℤ_}
+use lib.IntN.{ℤ, pos, negsuc, negℤ, natAbs, subℕ, _+ℤ_, _-ℤ_, _*ℤ_, +ℤ-idl}
+use lib.Signed.{ltZ}
 
 abs-cond : (a b : ℕ) (t : Bool) → ltb a b ≡ t → natAbs (cond t (negsuc (b - suc a)) (pos (a - b))) ≤ a + b
 abs-cond a b true e = let h : a < b = ltb-true a b e in omega arith
@@ -40,3 +41,12 @@ sum-size a b p q = let h = abs-add a b in omega arith
 
 pub difference-size : (a b : ℤ) {m n : ℕ} → natAbs a ≤ m → natAbs b ≤ n → natAbs (a -ℤ b) ≤ m + n
 difference-size a b p q = let h = abs-add a (negℤ b) in let e = abs-neg b in omega arith
+
+-- below 0, a number's size is what it is less than 0
+pub size-below : (d : ℤ) → ltZ d (pos 0) ≡ true → pos 0 -ℤ d ≡ pos (natAbs d)
+size-below (pos n) e = absurd (let h = ltb-true n 0 e in omega arith)
+size-below (negsuc n) e = +ℤ-idl (pos (suc n))
+
+pub size-above : (d : ℤ) → ltZ d (pos 0) ≡ false → d ≡ pos (natAbs d)
+size-above (pos n) e = refl
+size-above (negsuc n) e = let z : _≡_ {A = ℕ} 0 1 = cc in absurd (omega arith)

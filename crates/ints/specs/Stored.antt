@@ -1,13 +1,13 @@
 -- Signed numbers as code stores them: what fits a width, and what is read back.
 use mathlib.Core.Path.{_≡_, ap₂, _∙_, subst⁻¹}
-use Prim.Native.Nat.{_+_, _^_, _≤_, _<_}
+use Prim.Native.Nat.{ℕ, _+_, _^_, _≤_, _<_}
 use native.Mathlib.Nat.{le-refl}
 use native.Mathlib.Omega.{arith}
 use lib.Dec.{T, leb}
 use lib.IntN.{ℤ, pos, negsuc, natAbs, _+ℤ_}
-use lib.Signed.{mag, natAbs-le}
+use lib.Signed.{mag, nonNeg, natAbs-le}
 use mir.Syntax.{Width, w64}
-use mir.Val.{SFits, hbits, toZ, ofZ}
+use mir.Val.{Fits, SFits, hbits, toZ, ofZ}
 use mir.Facts.{toZ-ofZ, sfits-widen}
 
 mag-abs : (z : ℤ) → mag z ≤ natAbs z
@@ -48,3 +48,7 @@ kept {z} p = back z (p .1) ∙ p .0
 
 pub sum-back : (a b : ℤ) → natAbs a ≤ 1099511627776 → natAbs b ≤ 1099511627776 → toZ w64 (ofZ w64 a) +ℤ toZ w64 (ofZ w64 b) ≡ a +ℤ b
 sum-back a b h g = ap₂ _+ℤ_ (back a h) (back b g)
+
+-- a cast of a number that is not below 0 to an unsigned type
+pub cast-whole : {z : ℤ} {n : ℕ} → z ≡ pos n → n ≤ 1099511627776 → T (nonNeg z) × Fits w64 (natAbs z)
+cast-whole {n = n} e h = subst⁻¹ (λ (x : ℤ). T (nonNeg x) × Fits w64 (natAbs x)) e (tt, record { fits = omega arith })

@@ -11,12 +11,12 @@ use lib.Seq.{take-all, length-take-le}
 use Rattle.rules.specs.Demands.{Answer, Written}
 use Rattle.rules.specs.Demands.Answer.{refused}
 use Rattle.rules.specs.Outcome.{require, between, readOutcome}
-use Rattle.listing.specs.Page.{readThen, listed, printed, listing}
+use Rattle.listing.specs.Page.{readThen, ruleOutcome, listed, printed, listing}
 
 -- ---- refusals 1, 2 and 3
 
 too-many-slots : (T M : ℕ) (text : List ℕ) → 64 < T → listed T M text ≡ refused 1
-unfolding listed
+unfolding listed ruleOutcome
 too-many-slots T M text h = rw (le-leb 1 T (omega arith), lt-leb T 64 h) refl
 
 too-many-atoms : (M : ℕ) (text : List ℕ) → 16 < M → readOutcome M text 640 ≡ refused 2
@@ -38,9 +38,14 @@ cut-slots T M text = go (leb T 1000) refl
         let l = leb-false T 1000 e in
         too-many-slots (min 1000 T) M text (omega arith) ∙ sym (too-many-slots T M text (omega arith))
 
-listed-read : (T M : ℕ) (text : List ℕ) (o : Answer Written) → readOutcome M text 640 ≡ o → listed T M text ≡ require (between 1 64 T) 1 (readThen T M o)
-unfolding listed
-listed-read T M text o e = ap (λ (x : Answer Written). require (between 1 64 T) 1 (readThen T M x)) e
+-- the check of T, and then the rest
+pub listed-read : (T M : ℕ) (text : List ℕ) (o : Answer Written) → readOutcome M text 640 ≡ o → listed T M text ≡ require (between 1 64 T) 1 (readThen T M o)
+unfolding listed ruleOutcome
+listed-read T M text o e = ap (λ (x : Answer Written). readThen T M (require (between 1 64 T) 1 x)) e ∙ go (between 1 64 T)
+  where
+    go : (b : Bool) → readThen T M (require b 1 o) ≡ require b 1 (readThen T M o)
+    go true = refl
+    go false = refl
 
 cut-atoms : (T M : ℕ) (text : List ℕ) → listed T (min 1000 M) text ≡ listed T M text
 cut-atoms T M text = go (leb M 1000) refl

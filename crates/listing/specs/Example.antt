@@ -9,10 +9,10 @@ use Rattle.rules.specs.Reading.{reading}
 use Rattle.rules.specs.Reading.Lexer.{spaces, digits, value, isNumeral, tokenAt, signAt}
 use Rattle.rules.specs.Reading.Parser.{parse, parsed}
 use Rattle.rules.specs.Outcome.{readOutcome, tableChecked, rowsOutcome}
-use Rattle.rowtext.specs.Decimal.{digitsTo, decimal}
+use Rattle.text.specs.Decimal.{digitsTo, decimal}
 use Rattle.rowtext.specs.RowText.{termsText, rowText, rowsText, headText}
 use Rattle.input.specs.Scanning.{begin, stepped, steps}
-use Rattle.listing.specs.Page.{listed, listing, page, shown}
+use Rattle.listing.specs.Page.{ruleOutcome, listed, listing, page, shown}
 use Rattle.listing.specs.Exact.{shown-page}
 
 abbrev pub exampleInput : List ℕ
@@ -33,7 +33,7 @@ examplePage =
     ((57 ∷ 32 ∷ 61 ∷ 32 ∷ 49 ∷ 32 ∷ 43 ∷ 56 ∷ 10 ∷ [])))))))))))
 
 computed : shown (steps 1025 begin exampleInput) ≡ examplePage
-unfolding shown listing listed steps stepped readOutcome reading parsed parse tokenAt signAt spaces digits value isNumeral rowsOutcome tableChecked good recordGood nodeIn nodesIn all headText rowsText rowText termsText decimal digitsTo
+unfolding shown listing listed ruleOutcome steps stepped readOutcome reading parsed parse tokenAt signAt spaces digits value isNumeral rowsOutcome tableChecked good recordGood nodeIn nodesIn all headText rowsText rowText termsText decimal digitsTo
 computed = refl
 
 pub example : page exampleInput ≡ examplePage

@@ -7,7 +7,7 @@ use native.Mathlib.Nat.{mul-le-mul}
 use native.Mathlib.Omega.{arith}
 use lib.Dec.{leb}
 use borrow.Author.Tests.{leb-true, leb-false, le-leb, lt-leb}
-use lib.ListN.{length, getD, take, drop, replicate, length-append, length-replicate}
+use lib.ListN.{length, getD, take, drop, length-append}
 use lib.Seq.{getD-append-add, take-at, take-all}
 use Rattle.lists.specs.Every.{Every}
 use Rattle.rules.specs.Rule.{size}
@@ -20,7 +20,7 @@ use Rattle.rules.specs.Demands
 use Rattle.rules.specs.Demands.{Written}
 use Rattle.rules.specs.Demands.Answer.{refused, answered}
 use Rattle.rules.specs.Demands.Written.{wrote}
-use Rattle.rules.specs.Outcome.{result, buffer, readOutcome, rowsOutcome}
+use Rattle.rules.specs.Outcome.{result, buffer, require, between, readOutcome, rowsOutcome}
 use Rattle.rules.specs.Theorems.{reader-exact, rows-exact}
 use Rattle.answers.specs.declared.Refusal.{Refusal}
 use Rattle.answers.specs.declared.Refusal.the-variants.{Slots, Atoms, LongText, Grammar, AtomNumber, Nodes, Table, Run, Figures, Tolerance, Room}
@@ -30,7 +30,7 @@ use Rattle.answers.specs.Told.{numberOf, told}
 use Rattle.rowtext.specs.RowText.{FewTerms, headText, rowsText}
 use Rattle.input.specs.declared.Scan.{Scan}
 use Rattle.input.specs.Scanning.{state, shaped}
-use Rattle.listing.specs.Page.{rowsThen, readThen, listed, refusedText, printed, listing, badInput, shown}
+use Rattle.listing.specs.Page.{rowsThen, readThen, ruleOutcome, listed, refusedText, printed, listing, badInput, shown}
 
 -- ---- from an answer to the outcome
 
@@ -66,6 +66,30 @@ number-small Figures = omega arith
 number-small Tolerance = omega arith
 number-small Room = omega arith
 
+-- ---- a rule read for T slots
+
+pub few-slots : (T M : ℕ) (text : List ℕ) → T < 1 → ruleOutcome T M text ≡ refused 1
+unfolding ruleOutcome
+few-slots T M text h = rw (lt-leb 1 T h) refl
+
+pub many-slots : (T M : ℕ) (text : List ℕ) → 64 < T → ruleOutcome T M text ≡ refused 1
+unfolding ruleOutcome
+many-slots T M text h = rw (le-leb 1 T (omega arith), lt-leb T 64 h) refl
+
+-- T is allowed
+pub rule-outcome : (T M : ℕ) (text : List ℕ) → 1 ≤ T → T ≤ 64 → ruleOutcome T M text ≡ readOutcome M text 640
+unfolding ruleOutcome
+rule-outcome T M text l h = rw (le-leb 1 T l, le-leb T 64 h) refl
+
+-- where there is an answer, the test passed, and the rest answered
+pub passed : (b : Bool) (k : ℕ) (o : Demands.Answer Written) (w : Written) → require b k o ≡ answered w → (b ≡ true) × (o ≡ answered w)
+passed true k o w e = (refl, e)
+passed false k o w e = let z : _≡_ {A = ℕ} 0 1 = cc in absurd (omega arith)
+
+rule-answered : (T M : ℕ) (text : List ℕ) (w : Written) → ruleOutcome T M text ≡ answered w → readOutcome M text 640 ≡ answered w
+unfolding ruleOutcome
+rule-answered T M text w e = passed (between 1 64 T) 1 (readOutcome M text 640) w e .1
+
 -- ---- a table that was read
 
 length-table : (ns : List Node) → length (tableBytes ns) ≡ 5 * length ns
@@ -83,9 +107,9 @@ pub record TableRead (n : ℕ) (bytes : List ℕ) : Type 0 where
   pub few : n ≤ 128
   pub size-is : length bytes ≡ 5 * n
 
-pub table-read : (M : ℕ) (text : List ℕ) (n : ℕ) (bytes : List ℕ) → readOutcome M text 640 ≡ answered (wrote n bytes) → TableRead n bytes
-table-read M text n bytes e =
-    let r = reader-exact M text 640 .answers (wrote n bytes) .0 e in
+table-read : (T M : ℕ) (text : List ℕ) (n : ℕ) (bytes : List ℕ) → ruleOutcome T M text ≡ answered (wrote n bytes) → TableRead n bytes
+table-read T M text n bytes e =
+    let r = reader-exact M text 640 .answers (wrote n bytes) .0 (rule-answered T M text (wrote n bytes) e) in
     let p = r .1 .0 in
     let w : wrote n bytes ≡ wrote (size p) (tableBytes (nodesOf p)) = r .1 .2 in
     let a : n ≡ size p = cc in
@@ -145,23 +169,16 @@ lent o n size z l w e f =
       holds = omega (arith, ap length g, length-append (w .bytes) (drop (length (w .bytes)) z));
     }
 
-abbrev pub zeros : ℕ → List ℕ
-zeros n = replicate n 0
-
-length-zeros : (n : ℕ) → length (zeros n) ≡ n
-length-zeros n = length-replicate {A = ℕ} n 0
-
--- a table read into 640 zeros, l after that
-pub record TableReady (M : ℕ) (text : List ℕ) (n : ℕ) (l : List ℕ) : Type 0 where
-  pub table : Lent (readOutcome M text 640) n (5 * n) l
+-- a table read into a buffer, l after that
+pub record TableReady (T M : ℕ) (text : List ℕ) (n : ℕ) (l : List ℕ) : Type 0 where
+  pub table : Lent (ruleOutcome T M text) n (5 * n) l
   pub read : TableRead n (table .bytes)
 
-pub table-ready : (M : ℕ) (text l : List ℕ) (r : Answer) (n : ℕ) → told r ≡ result (readOutcome M text (length (zeros 640))) → l ≡ buffer (readOutcome M text (length (zeros 640))) (zeros 640) → r ≡ Value n → TableReady M text n l
-table-ready M text l r n e f v =
-    let s : length (zeros 640) ≡ 640 = length-zeros 640 in
-    let w = told-value (readOutcome M text 640) r n (rw s at e) v in
-    let t = lent (readOutcome M text 640) n (5 * n) (zeros 640) l w (rw s at f) (table-read M text n (w .bytes) (w .is) .size-is) in
-    record { table = t; read = table-read M text n (t .bytes) (t .is) }
+pub table-ready : (T M : ℕ) (text z l : List ℕ) (r : Answer) (n : ℕ) → told r ≡ result (ruleOutcome T M text) → l ≡ buffer (ruleOutcome T M text) z → r ≡ Value n → TableReady T M text n l
+table-ready T M text z l r n e f v =
+    let w = told-value (ruleOutcome T M text) r n e v in
+    let t = lent (ruleOutcome T M text) n (5 * n) z l w f (table-read T M text n (w .bytes) (w .is) .size-is) in
+    record { table = t; read = table-read T M text n (t .bytes) (t .is) }
 
 -- rows written into 65,536 bytes
 pub record RowsReady (T M : ℕ) (table : List ℕ) (count : ℕ) (l : List ℕ) : Type 0 where
@@ -192,27 +209,18 @@ pub printed-refused : (T M n : ℕ) (table z : List ℕ) (r : Answer) (k : Refus
 printed-refused T M n table z r k s e v =
     ap (λ (x : Demands.Answer Written). printed (rowsThen T M n x)) (told-refused (rowsOutcome T M table 65536) r k (rw s at e) v)
 
--- the listing, by T's test and the reader's outcome
-pub few-slots : (T M : ℕ) (text : List ℕ) → T < 1 → listing T M text ≡ refusedText 1
+-- the listing, by the outcome of reading the rule
+listing-read : (T M : ℕ) (text : List ℕ) (o : Demands.Answer Written) → ruleOutcome T M text ≡ o → listing T M text ≡ printed (readThen T M o)
 unfolding listing listed
-few-slots T M text h = rw (lt-leb 1 T h) refl
+listing-read T M text o e = ap (λ (x : Demands.Answer Written). printed (readThen T M x)) e
 
-pub many-slots : (T M : ℕ) (text : List ℕ) → 64 < T → listing T M text ≡ refusedText 1
-unfolding listing listed
-many-slots T M text h = rw (le-leb 1 T (omega arith), lt-leb T 64 h) refl
+pub listing-refused : (T M : ℕ) (text : List ℕ) (r : Answer) (k : Refusal) → told r ≡ result (ruleOutcome T M text) → r ≡ Refused k → listing T M text ≡ refusedText (numberOf k)
+listing-refused T M text r k e v =
+    listing-read T M text (refused (numberOf k)) (told-refused (ruleOutcome T M text) r k e v)
 
-listing-read : (T M : ℕ) (text : List ℕ) (o : Demands.Answer Written) → 1 ≤ T → T ≤ 64 → readOutcome M text 640 ≡ o → listing T M text ≡ printed (readThen T M o)
-unfolding listing listed
-listing-read T M text o l h e = rw (le-leb 1 T l, le-leb T 64 h) (ap (λ (x : Demands.Answer Written). printed (readThen T M x)) e)
-
-pub listing-refused : (T M : ℕ) (text : List ℕ) (r : Answer) (k : Refusal) → 1 ≤ T → T ≤ 64 → told r ≡ result (readOutcome M text (length (zeros 640))) → r ≡ Refused k → listing T M text ≡ refusedText (numberOf k)
-listing-refused T M text r k l h e v =
-    let s : length (zeros 640) ≡ 640 = length-zeros 640 in
-    listing-read T M text (refused (numberOf k)) l h (told-refused (readOutcome M text 640) r k (rw s at e) v)
-
-pub listing-rows : (T M n : ℕ) (text l : List ℕ) → 1 ≤ T → T ≤ 64 → (t : TableReady M text n l) → listing T M text ≡ printed (rowsThen T M n (rowsOutcome T M (take (5 * n) l) 65536))
-listing-rows T M n text l low high t =
-    listing-read T M text (answered (wrote n (t .table .bytes))) low high (t .table .is)
+pub listing-rows : (T M n : ℕ) (text l : List ℕ) → (t : TableReady T M text n l) → listing T M text ≡ printed (rowsThen T M n (rowsOutcome T M (take (5 * n) l) 65536))
+listing-rows T M n text l t =
+    listing-read T M text (answered (wrote n (t .table .bytes))) (t .table .is)
     ∙ ap (λ (x : List ℕ). printed (rowsThen T M n (rowsOutcome T M x 65536))) (sym (t .table .front))
 
 -- ---- the page of a state

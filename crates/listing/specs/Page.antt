@@ -8,7 +8,7 @@ use Rattle.rules.specs.Demands.{Answer, Written}
 use Rattle.rules.specs.Demands.Answer.{refused, answered}
 use Rattle.rules.specs.Demands.Written.{wrote}
 use Rattle.rules.specs.Outcome.{require, between, readOutcome, rowsOutcome}
-use Rattle.rowtext.specs.Decimal.{decimal}
+use Rattle.text.specs.Decimal.{decimal}
 use Rattle.rowtext.specs.RowText.{headText, rowsText}
 use Rattle.input.specs.Lines.{line, afterLine, FirstLine}
 use Rattle.input.specs.Scanning.{State, shaped}
@@ -29,10 +29,14 @@ abbrev pub readThen : (T M : ℕ) → Answer Written → Answer Listed
 readThen T M (refused k) = refused k
 readThen T M (answered (wrote N table)) = rowsThen T M N (rowsOutcome T M table 65536)
 
+-- a rule read for T slots: the check of T, which is no check of the reader's, and then the reader's answer. Any table fits 640 bytes.
+unfoldable pub ruleOutcome : (T M : ℕ) (text : List ℕ) → Answer Written
+ruleOutcome T M text = require (between 1 64 T) 1 (readOutcome M text 640)
+
 -- "Of the refusals of reader and row writer, the lowest": 1 is the row writer's, 2 both's, 3 to 6 the reader's, 11 the row writer's.
--- Any table fits 640 bytes, and the reader's is good, so 7 and the reader's 11 do not occur.
+-- The reader's table is good and fits, so 7 and the reader's 11 do not occur.
 unfoldable pub listed : (T M : ℕ) (text : List ℕ) → Answer Listed
-listed T M text = require (between 1 64 T) 1 (readThen T M (readOutcome M text 640))
+listed T M text = readThen T M (ruleOutcome T M text)
 
 -- "A refusal prints `refused`, a space and its number"
 unfoldable pub refusedText : ℕ → List ℕ

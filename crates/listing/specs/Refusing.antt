@@ -23,6 +23,7 @@ use Rattle.rules.specs.Ladder.{rung, refuse, exact-answered}
 use Rattle.rules.specs.Exactness.Tests.{between-true, between-false, atoms-true, failed, passes}
 use Rattle.rules.specs.Theorems.{reader-exact, rows-exact, one-reading}
 use Rattle.listing.specs.Page.{Listed, rowsThen, readThen, listed}
+use Rattle.listing.specs.Cut.{listed-read}
 use Rattle.listing.specs.Outcomes.{at-most}
 
 -- the reader's refusals, the row writer's of T, and the row writer's of the rows of the rule
@@ -143,10 +144,10 @@ module _ (T M : ℕ) (text : List ℕ) (allowed : SlotsAllowed T) where
       subst (λ (k : ℕ). Exact (ListRefused T M text) (ListIs T M text) (rowsThen T M k (rowsOutcome T M table 65536))) (sym a) y
 
 pub list-exact : ListExact
-unfolding listed
 list-exact T M text =
-    rung (ListRefused T M text) (ListIs T M text) (between 1 64 T) 1 (readThen T M (readOutcome M text 640))
-    (λ j. from) (λ e. ListRefused.slots (between-false 1 64 T e)) (λ e. read-outcome T M text (between-true 1 64 T e) (readOutcome M text 640) refl)
+    subst (Exact (ListRefused T M text) (ListIs T M text)) (sym (listed-read T M text (readOutcome M text 640) refl))
+    (rung (ListRefused T M text) (ListIs T M text) (between 1 64 T) 1 (readThen T M (readOutcome M text 640))
+    (λ j. from) (λ e. ListRefused.slots (between-false 1 64 T e)) (λ e. read-outcome T M text (between-true 1 64 T e) (readOutcome M text 640) refl))
   where
     positive : {j : ℕ} → TextRefused M text j → 1 ≤ j
     positive (TextRefused.atoms x) = omega arith

@@ -5,21 +5,22 @@ ghost use Prim.Native.Nat.{_+_, _*_, min, _≤_};
 ghost use lib.ListN.{length};
 ghost use lib.Seq.{sets};
 ghost use Rattle.rules.specs.Rows.{rowsIn};
-ghost use Rattle.rules.specs.Outcome.{rowsOutcome};
-ghost use Rattle.answers.specs.Told.{numberOf};
-ghost use Rattle.rowtext.specs.Put.{Put};
+ghost use Rattle.rules.specs.Outcome.{result, buffer, rowsOutcome};
+ghost use Rattle.answers.specs.Told.{numberOf, told};
+ghost use Rattle.text.specs.Put.{Put};
 ghost use Rattle.rowtext.specs.RowText.{FewTerms, headText, rowsText};
 ghost use Rattle.input.specs.Scanning.{state};
-ghost use Rattle.listing.specs.Page.{rowsThen, refusedText, printed, listing, page, shown};
+ghost use Rattle.listing.specs.Page.{rowsThen, ruleOutcome, refusedText, printed, listing, page, shown};
 
 // `refused` and the number.
-fn put_refusal(out: &mut [u8; 160000], refusal: answers::Refusal) -> usize
-    ensures { λ r. ⌜ Put 0 (refusedText (numberOf refusal)) (now (out .entry)) (now (out .exit)) r × (r ≤ 160000) ⌝ }
+pub fn put_refusal(out: &mut [u8], refusal: answers::Refusal) -> usize
+    requires { ⌜ 20 ≤ length (now out) ⌝ }
+    ensures { λ r. ⌜ Put 0 (refusedText (numberOf refusal)) (now (out .entry)) (now (out .exit)) r × (r ≤ 20) ⌝ }
 {
     let n = answers::number(refusal);
-    let a = rowtext::put_bytes(out, 0, b"refused ");
-    let b = rowtext::put_decimal(out, a, n as usize);
-    rowtext::put_bytes(out, b, b"\n")
+    let a = text::put_bytes(out, 0, b"refused ");
+    let b = text::put_decimal(out, a, n as usize);
+    text::put_bytes(out, b, b"\n")
 }
 
 // The listing of `count` row records of a table of `n` nodes.
@@ -69,18 +70,27 @@ fn list_table(table: &[u8], n: usize, t: usize, m: usize, out: &mut [u8; 160000]
     list_rows(table, n, t, m, &mut rows, out)
 }
 
+// Reads a rule for `t` slots into `table`: the check of `t`, and then the reader.
+pub fn read_rule(text: &[u8], t: usize, m: usize, table: &mut [u8]) -> answers::Answer
+    requires { ⌜ length (now table) ≡ 640 ⌝ }
+    ensures { λ r. ⌜ told r ≡ result (ruleOutcome t m (now (text .entry))) ⌝ }
+    ensures { λ _. ⌜ now (table .exit) ≡ buffer (ruleOutcome t m (now (text .entry))) (now (table .entry)) ⌝ }
+{
+    if t < 1 {
+        return answers::Answer::Refused(answers::Refusal::Slots);
+    }
+    if 64 < t {
+        return answers::Answer::Refused(answers::Refusal::Slots);
+    }
+    reader::read(text, m, table)
+}
+
 // The rows of a rule, or the lowest refusal.
 fn list(text: &[u8], t: usize, m: usize, out: &mut [u8; 160000]) -> usize
     ensures { λ r. ⌜ Put 0 (listing t m (now (text .entry))) (now (out .entry)) (now (out .exit)) r × (r ≤ 160000) ⌝ }
 {
-    if t < 1 {
-        return put_refusal(out, answers::Refusal::Slots);
-    }
-    if 64 < t {
-        return put_refusal(out, answers::Refusal::Slots);
-    }
     let mut table = [0u8; 640];
-    match reader::read(text, m, &mut table) {
+    match read_rule(text, t, m, &mut table) {
         answers::Answer::Refused(refusal) => put_refusal(out, refusal),
         answers::Answer::Value(n) => {
             let end = 5 * n;
@@ -89,7 +99,8 @@ fn list(text: &[u8], t: usize, m: usize, out: &mut [u8; 160000]) -> usize
     }
 }
 
-fn least(a: usize, b: usize) -> usize
+// The lower of two numbers.
+pub fn least(a: usize, b: usize) -> usize
     ensures { λ r. ⌜ r ≡ min a b ⌝ }
 {
     if a < b { a } else { b }
@@ -108,7 +119,7 @@ pub fn print(scan: input::Scan, text: &[u8], out: &mut [u8; 160000]) -> usize
         let end = least(kept, text.len());
         return list(&text[..end], t, m, out);
     }
-    rowtext::put_bytes(out, 0, b"bad input\n")
+    text::put_bytes(out, 0, b"bad input\n")
 }
 
 // The page of a whole input.

@@ -1,16 +1,16 @@
 -- The rows of a node at all slots, by its kind, and of the first nodes of a table; the writer and the judge make them in this order.
 use mathlib.Core.Path.{_≡_, sym, ap, _∙_}
 use mathlib.Core.List.{List, [], _∷_}
-use Prim.Native.Nat.{ℕ, _+_, _-_, _*_}
+use Prim.Native.Nat.{ℕ, _+_, _-_, _*_, _≤_}
 use lib.IntN.{pos}
-use lib.ListN.{length}
-use Rattle.lists.specs.Flat.{flat, flat-same}
+use lib.ListN.{length, length-append}
+use Rattle.lists.specs.Flat.{flat, flat-same, flat-zero, flat-more}
 use Rattle.rules.specs.Table.{Node, nodeAt}
 use Rattle.rules.specs.Rows.{Row, eq, plus, slack, rowsAt, slotsRows, slackRows, goalRow}
 use Rattle.rules.specs.RowParts.{slots-parts, nodes-parts}
 use Rattle.table.specs.Nodes.{nodeBy}
 use Rattle.table.specs.declared.Kind.{Kind}
-use Rattle.row.specs.Kinds.{rowsOn, leftPart, slot-rows}
+use Rattle.row.specs.Kinds.{rowsOn, leftPart, slot-rows, nodeCount, length-node}
 
 -- P, p and q are the variables of the node and its parts at the first slot
 unfoldable pub nodeRows : Kind → (T P p q : ℕ) → List Row
@@ -30,6 +30,17 @@ module _ (T M : ℕ) (ns : List Node) where
   node-part n k l r {P} {p} {q} e x y z =
       flat-same (rowsOn k T P p q) (λ s. rowsAt T M n (nodeBy k l r) (s + 1)) T (λ s h. rw (x, y, z) (sym (slot-rows T M n k l r s)))
       ∙ sym (slots-parts T M n (nodeBy k l r) T) ∙ ap (λ (nd : Node). slotsRows T M n nd T 1) e
+
+  -- how many rows the first nodes have
+  pub count-none : length (rowsTo T M ns 0) ≡ 0
+  unfolding rowsTo
+  count-none = ap length (flat-zero (partRows T M ns))
+
+  pub count-more : (n : ℕ) (k : Kind) (l r : ℕ) → 1 ≤ T → nodeBy k l r ≡ nodeAt ns n → length (rowsTo T M ns (n + 1)) ≡ length (rowsTo T M ns n) + nodeCount k T
+  unfolding rowsTo
+  count-more n k l r h e =
+      ap length (flat-more (partRows T M ns) n) ∙ length-append (flat (partRows T M ns) n) (partRows T M ns n)
+      ∙ ap (λ (c : ℕ). length (flat (partRows T M ns) n) + c) (ap (λ (nd : Node). length (slotsRows T M n nd T 1)) (sym e) ∙ length-node T M n k l r h)
 
   -- of a table of n nodes: all rows but the goal row, and the goal row
   module _ (n : ℕ) (e : length ns ≡ n) where

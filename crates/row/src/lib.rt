@@ -6,7 +6,7 @@ ghost use Prim.Native.Nat.{_+_, _*_, _≤_, _<_};
 ghost use lib.IntN.{pos, negsuc};
 ghost use Rattle.rules.specs.Rows as Definitions;
 ghost use Rattle.rules.specs.Rows.{ge, eq, plus, minus};
-ghost use Rattle.row.specs.Kinds.{slotCount, leftPart};
+ghost use Rattle.row.specs.Kinds.{slotCount, leftPart, nodeCount};
 ghost use Rattle.row.specs.Meaning.{rowOf};
 
 pub enum Relation {
@@ -220,4 +220,20 @@ pub fn slot_count(kind: Kind, inner: bool) -> usize
         Kind::Always => { if inner { 3 } else { 1 } }
         Kind::Until => { if inner { 4 } else { 1 } }
     }
+}
+
+// A slot, times rows to a slot.
+pub fn times(a: usize, b: usize) -> usize
+    requires { ⌜ (a ≤ 63) × (b ≤ 4) ⌝ }
+    ensures { λ r. ⌜ (r ≡ a * b) × (r ≤ 252) ⌝ }
+{
+    a * b
+}
+
+// How many rows a node of this kind has at t slots.
+pub fn node_count(kind: Kind, t: usize) -> usize
+    requires { ⌜ (1 ≤ t) × (t ≤ 64) ⌝ }
+    ensures { λ r. ⌜ (r ≡ nodeCount kind t) × (r ≤ 256) ⌝ }
+{
+    times(t - 1, slot_count(kind, true)) + slot_count(kind, false)
 }

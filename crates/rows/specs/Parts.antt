@@ -1,16 +1,16 @@
 -- The bytes of a table's rows, node by node, as the writer makes them, and how many rows they are.
 use mathlib.Core.Path.{_≡_, sym, ap, ap₂, _∙_}
 use mathlib.Core.List.{List, [], _∷_, _++_, append-nil}
-use Prim.Native.Nat.{ℕ, _+_, _*_, _≤_}
+use Prim.Native.Nat.{ℕ, _+_, _*_}
 use lib.ListN.{length, length-append}
-use Rattle.lists.specs.Flat.{flat, flat-zero, flat-more}
+use Rattle.lists.specs.Flat.{flat}
 use Rattle.rules.specs.Table.{Node, nodeAt}
-use Rattle.rules.specs.Rows.{Row, rowBytes, rowsBytes, slotsRows, slackRows, goalRow, rowsOf}
+use Rattle.rules.specs.Rows.{Row, rowBytes, rowsBytes, slackRows, goalRow, rowsOf}
 use Rattle.rules.specs.RowParts.{rowsBytes-append, rowsBytes-flat, nodes-parts}
 use Rattle.rules.specs.RowRecords.{length-rows, rows-recordable}
 use Rattle.table.specs.Nodes.{nodeBy}
 use Rattle.table.specs.declared.Kind.{Kind}
-use Rattle.row.specs.Kinds.{leftPart, nodeCount, length-node}
+use Rattle.row.specs.Kinds.{leftPart}
 use Rattle.row.specs.NodeRows.{partRows, rowsTo, node-part}
 use Rattle.noderows.specs.Node.{nodeBytes, node-bytes}
 
@@ -38,21 +38,11 @@ module _ (T M : ℕ) (ns : List Node) where
 
   -- ---- the row count
 
-  unfoldable pub countTo : ℕ → ℕ
+  abbrev pub countTo : ℕ → ℕ
   countTo k = length (rowsTo T M ns k)
 
-  pub count-none : countTo 0 ≡ 0
-  unfolding countTo rowsTo
-  count-none = rw flat-zero
-
-  pub count-more : (i : ℕ) (k : Kind) (l r : ℕ) → 1 ≤ T → nodeBy k l r ≡ nodeAt ns i → countTo (i + 1) ≡ countTo i + nodeCount k T
-  unfolding countTo rowsTo
-  count-more i k l r h e =
-      ap length (flat-more (partRows T M ns) i) ∙ length-append (flat (partRows T M ns) i) (partRows T M ns i)
-      ∙ ap (λ (n : ℕ). length (flat (partRows T M ns) i) + n) (ap (λ (nd : Node). length (slotsRows T M i nd T 1)) (sym e) ∙ length-node T M i k l r h)
-
   pub count-all : countTo (length ns) + 1 ≡ length (rowsOf T M ns)
-  unfolding countTo rowsTo
+  unfolding rowsTo
   count-all = ap (λ (rs : List Row). length rs + 1) (sym (nodes-parts T M ns)) ∙ sym (length-append (slackRows T M ns) (goalRow T M ns ∷ []))
 
   module _ (n : ℕ) (e : length ns ≡ n) where

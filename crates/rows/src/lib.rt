@@ -2,7 +2,6 @@
 use answers::Answer;
 use answers::Refusal;
 use table::Checked;
-use table::Kind;
 ghost use mathlib.Core.Path.{_≡_};
 ghost use Prim.Native.Nat.{ℕ, _+_, _-_, _*_, _≤_, _<_};
 ghost use lib.ListN.{length};
@@ -12,7 +11,6 @@ ghost use Rattle.rules.specs.TableTest.{recordCount, nodesIn};
 ghost use Rattle.rules.specs.Outcome.{result, buffer, rowsOutcome};
 ghost use Rattle.answers.specs.Told.{told};
 ghost use Rattle.table.specs.Checks.{Ready};
-ghost use Rattle.row.specs.Kinds.{nodeCount};
 ghost use Rattle.rows.specs.Parts.{nodesBytes, countTo};
 ghost use Rattle.rows.specs.Answers.{rowsAnswer};
 
@@ -36,21 +34,6 @@ fn write_nodes(table: &[u8], n: usize, t: usize, m: usize, out: &mut [u8]) -> us
     next
 }
 
-fn times(a: usize, b: usize) -> usize
-    requires { ⌜ (a ≤ 63) × (b ≤ 4) ⌝ }
-    ensures { λ r. ⌜ (r ≡ a * b) × (r ≤ 252) ⌝ }
-{
-    a * b
-}
-
-// How many rows a node of this kind has at t slots.
-fn node_count(kind: Kind, t: usize) -> usize
-    requires { ⌜ (1 ≤ t) × (t ≤ 64) ⌝ }
-    ensures { λ r. ⌜ (r ≡ nodeCount kind t) × (r ≤ 256) ⌝ }
-{
-    times(t - 1, row::slot_count(kind, true)) + row::slot_count(kind, false)
-}
-
 // How many rows the first n nodes have, for any number of atoms.
 fn count_nodes(table: &[u8], n: usize, t: usize) -> usize
     requires { ⌜ (1 ≤ t) × (t ≤ 64) × (n ≤ 128) × (n ≤ recordCount (now table)) ⌝ }
@@ -61,7 +44,7 @@ fn count_nodes(table: &[u8], n: usize, t: usize) -> usize
     while i < n {
         let node = table::node_at(table, i);
         let kind = node.kind;
-        sum += node_count(kind, t);
+        sum += row::node_count(kind, t);
         i += 1;
     }
     sum

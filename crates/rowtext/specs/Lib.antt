@@ -1,4 +1,2 @@
-pub mod Decimal
 pub mod RowText
-pub mod Put
 pub mod Records

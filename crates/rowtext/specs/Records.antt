@@ -7,9 +7,9 @@ use native.Mathlib.Omega.{arith}
 use lib.ListN.{length, getD, take, drop, length-append, length-drop}
 use lib.Seq.{sets, getD-drop, getD-take, drop-drop, length-take-le}
 use Rattle.rules.specs.Rows.{signedIn, termsIn, rowIn, rowsIn}
-use Rattle.rowtext.specs.Decimal.{decimal}
+use Rattle.text.specs.Decimal.{decimal}
 use Rattle.rowtext.specs.RowText.{signOf, termsText, rowText, rowsText}
-use Rattle.rowtext.specs.Put.{Put, sets-append}
+use Rattle.text.specs.Put.{Put, sets-append}
 
 -- ---- terms
 

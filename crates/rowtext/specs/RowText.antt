@@ -1,21 +1,16 @@
 -- The printed text of rows: "counts of rows and variables, then row number, relation, right side, signed terms". Each line ends in a line feed.
 use mathlib.Core.List.{List, [], _∷_, _++_}
-use Prim.Native.Nat.{ℕ, suc, _+_, _*_, _≤_, _<_}
+use Prim.Native.Nat.{ℕ, _+_, _*_, _≤_, _<_}
 use lib.ListN.{getD}
 use lib.IntN.{ℤ, pos, negsuc}
 use Rattle.rules.specs.Rows.{Relation, Term, Row}
 use Rattle.rules.specs.Rows.Relation.{at-least, equal}
-use Rattle.rowtext.specs.Decimal.{decimal}
+use Rattle.text.specs.Decimal.{decimal, signedText}
 
 -- >= and =
 abbrev pub relationText : Relation → List ℕ
 relationText at-least = 62 ∷ 61 ∷ []
 relationText equal = 61 ∷ []
-
--- a whole number, with - before one below 0
-abbrev pub signedText : ℤ → List ℕ
-signedText (pos n) = decimal n
-signedText (negsuc n) = 45 ∷ decimal (suc n)
 
 -- + or -; the coefficients of "Rows" are 1 and −1
 abbrev pub signOf : ℤ → ℕ

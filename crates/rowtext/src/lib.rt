@@ -4,42 +4,9 @@ ghost use mathlib.Core.List.{[], _∷_};
 ghost use Prim.Native.Nat.{_+_, _*_, _≤_, _<_};
 ghost use lib.ListN.{length, getD, drop};
 ghost use Rattle.rules.specs.Rows.{signedIn, relationIn, termsIn, rowIn, rowsIn};
-ghost use Rattle.rowtext.specs.Decimal.{decimal};
-ghost use Rattle.rowtext.specs.RowText.{relationText, signedText, signOf, termsText, rowText, rowsText, headText, FewTerms};
-ghost use Rattle.rowtext.specs.Put.{Put};
-
-// Copies `src` into the page from `at` on.
-pub fn put_bytes(out: &mut [u8; 160000], at: usize, src: &[u8]) -> usize
-    requires { ⌜ at + length (now src) ≤ 160000 ⌝ }
-    ensures { λ r. ⌜ Put at (now (src .entry)) (now (out .entry)) (now (out .exit)) r ⌝ }
-{
-    let mut i: usize = 0;
-    while i < src.len() {
-        out[at + i] = src[i];
-        i += 1;
-    }
-    at + i
-}
-
-fn put_byte(out: &mut [u8; 160000], at: usize, b: u8) -> usize
-    requires { ⌜ at < 160000 ⌝ }
-    ensures { λ r. ⌜ Put at (b ∷ []) (now (out .entry)) (now (out .exit)) r ⌝ }
-{
-    out[at] = b;
-    at + 1
-}
-
-// The digits of `n`.
-pub fn put_decimal(out: &mut [u8; 160000], at: usize, n: usize) -> usize
-    requires { ⌜ at + length (decimal n) ≤ 160000 ⌝ }
-    ensures { λ r. ⌜ Put at (decimal n) (now (out .entry)) (now (out .exit)) r ⌝ }
-{
-    if n < 10 {
-        return put_byte(out, at, 48 + (n as u8));
-    }
-    let next = put_decimal(out, at, n / 10);
-    put_byte(out, next, 48 + ((n % 10) as u8))
-}
+ghost use Rattle.text.specs.Decimal.{decimal, signedText};
+ghost use Rattle.rowtext.specs.RowText.{relationText, signOf, termsText, rowText, rowsText, headText, FewTerms};
+ghost use Rattle.text.specs.Put.{Put};
 
 // `>=` and `=`, by the relation byte of a record.
 fn put_relation(out: &mut [u8; 160000], at: usize, relation: u8) -> usize
@@ -47,9 +14,9 @@ fn put_relation(out: &mut [u8; 160000], at: usize, relation: u8) -> usize
     ensures { λ r. ⌜ Put at (relationText (relationIn relation)) (now (out .entry)) (now (out .exit)) r × (r ≤ at + 2) ⌝ }
 {
     if relation == 1 {
-        return put_bytes(out, at, b">=");
+        return text::put_bytes(out, at, b">=");
     }
-    put_byte(out, at, b'=')
+    text::put_byte(out, at, b'=')
 }
 
 // A signed byte as a whole number.
@@ -58,10 +25,10 @@ fn put_signed(out: &mut [u8; 160000], at: usize, b: u8) -> usize
     ensures { λ r. ⌜ Put at (signedText (signedIn b)) (now (out .entry)) (now (out .exit)) r × (r ≤ at + 4) ⌝ }
 {
     if b < 128 {
-        return put_decimal(out, at, b as usize);
+        return text::put_decimal(out, at, b as usize);
     }
-    let next = put_byte(out, at, b'-');
-    put_decimal(out, next, 256 - (b as usize))
+    let next = text::put_byte(out, at, b'-');
+    text::put_decimal(out, next, 256 - (b as usize))
 }
 
 // `+` or `-`, by a coefficient byte.
@@ -82,9 +49,9 @@ fn put_term(out: &mut [u8; 160000], at: usize, coefficient: u8, v: usize) -> usi
     requires { ⌜ (at + 7 ≤ 160000) × (v < 100000) ⌝ }
     ensures { λ r. ⌜ Put at (32 ∷ signOf (signedIn coefficient) ∷ decimal v) (now (out .entry)) (now (out .exit)) r × (r ≤ at + 7) ⌝ }
 {
-    let space = put_byte(out, at, b' ');
-    let next = put_byte(out, space, sign(coefficient));
-    put_decimal(out, next, v)
+    let space = text::put_byte(out, at, b' ');
+    let next = text::put_byte(out, space, sign(coefficient));
+    text::put_decimal(out, next, v)
 }
 
 // The `k` terms of a record from its byte `p` on.
@@ -105,13 +72,13 @@ fn put_row(out: &mut [u8; 160000], at: usize, i: usize, bytes: &[u8]) -> usize
     requires { ⌜ (at + 34 ≤ 160000) × (i < 10000) × (length (now bytes) ≡ 14) × (getD (now bytes) 3 0 ≤ 3) ⌝ }
     ensures { λ r. ⌜ Put at (rowText i (rowIn (now (bytes .entry)))) (now (out .entry)) (now (out .exit)) r × (r ≤ at + 34) ⌝ }
 {
-    let a = put_decimal(out, at, i);
-    let b = put_byte(out, a, b' ');
+    let a = text::put_decimal(out, at, i);
+    let b = text::put_byte(out, a, b' ');
     let c = put_relation(out, b, bytes[2]);
-    let d = put_byte(out, c, b' ');
+    let d = text::put_byte(out, c, b' ');
     let e = put_signed(out, d, bytes[4]);
     let f = put_terms(out, e, bytes, 5, bytes[3] as usize);
-    put_byte(out, f, b'\n')
+    text::put_byte(out, f, b'\n')
 }
 
 // The lines of `count` records.
@@ -136,9 +103,9 @@ pub fn put_head(out: &mut [u8; 160000], count: usize, variables: usize) -> usize
     requires { ⌜ (count < 100000) × (variables < 100000) ⌝ }
     ensures { λ r. ⌜ Put 0 (headText count variables) (now (out .entry)) (now (out .exit)) r × (r ≤ 22) ⌝ }
 {
-    let a = put_bytes(out, 0, b"rows ");
-    let b = put_decimal(out, a, count);
-    let c = put_bytes(out, b, b" vars ");
-    let d = put_decimal(out, c, variables);
-    put_byte(out, d, b'\n')
+    let a = text::put_bytes(out, 0, b"rows ");
+    let b = text::put_decimal(out, a, count);
+    let c = text::put_bytes(out, b, b" vars ");
+    let d = text::put_decimal(out, c, variables);
+    text::put_byte(out, d, b'\n')
 }

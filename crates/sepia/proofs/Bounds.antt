@@ -1,21 +1,17 @@
 -- Results fit 32 bits.
 use mathlib.Core.Path.{_≡_, refl}
-use mathlib.Core.Bool.{Bool, true, false}
-use mathlib.Core.List.{List, [], _∷_}
-use Prim.Native.Nat.{ℕ, zero, suc, _+_, _*_, _≤_, _<_}
+use mathlib.Core.List.{List}
+use Prim.Native.Nat.{ℕ, _+_, _*_, _≤_, _<_}
 use native.Mathlib.Nat.{mul-le-mul}
 use native.Mathlib.Decide.{ℕ-discrete}
 use native.Mathlib.Omega.{arith}
-use lib.Dec.{ltb}
-use lib.ListN.{length, length-append}
+use lib.ListN.{length}
 use lib.IntN.{ℤ}
-use Rattle.rules.specs.Rule.{Unary, Binary, size}
-use Rattle.rules.specs.Rule.Unary.{not, eventually, always}
-use Rattle.rules.specs.Rule.Binary.{and, or, implies, until}
+use Rattle.rules.specs.Rule.{size}
 use Rattle.rules.specs.Table.{Node, Good}
-use Rattle.rules.specs.Table.Node.{atom, unary, binary}
 use Rattle.rules.specs.Truth.{TruthByte}
-use Rattle.rules.specs.Rows.{unaryRows, binaryRows, rowsAt, slotsRows, nodesRows, slackRows, goalRow, rowsOf}
+use Rattle.rules.specs.Rows.{rowsOf}
+use Rattle.rules.specs.RowCount.{rows-count}
 use Rattle.rules.specs.Judge.{None, Verdict, Judged}
 use Rattle.rules.specs.Judge.Judged.{is-outside, is-not-binary, is-broken, is-passed}
 use Rattle.rules.specs.Refusals.{TextRefused, ReadRefused, TableRefused, RowsRefused, JudgeRefused}
@@ -25,6 +21,7 @@ use Rattle.rules.specs.Demands.Written.{wrote}
 use Rattle.rules.specs.Outcome.{result, readOutcome, evaluateOutcome, rowsOutcome, judgeOutcome}
 use Rattle.rules.specs.Exactness.Tests.{at-least}
 use Rattle.rules.specs.Theorems.{reader-exact, evaluator-exact, rows-exact, judge-exact}
+use Rattle.pages.specs.Answers.{Short}
 use Rattle.sepia.specs.Boundary.{Fits, verdictValue, VerdictFits}
 
 -- an outcome's result fits, where every result that it may have does
@@ -54,38 +51,8 @@ evaluate-fits t m table run room =
 
 -- ---- at most four rows for a node at a slot
 
-unary-few : (u : Unary) (inner : Bool) (P p P′ : ℕ) → length (unaryRows u inner P p P′) ≤ 4
-unary-few not inner P p P′ = omega arith
-unary-few eventually true P p P′ = omega arith
-unary-few eventually false P p P′ = omega arith
-unary-few always true P p P′ = omega arith
-unary-few always false P p P′ = omega arith
-
-binary-few : (o : Binary) (inner : Bool) (P p q P′ : ℕ) → length (binaryRows o inner P p q P′) ≤ 4
-binary-few and inner P p q P′ = omega arith
-binary-few or inner P p q P′ = omega arith
-binary-few implies inner P p q P′ = omega arith
-binary-few until true P p q P′ = omega arith
-binary-few until false P p q P′ = omega arith
-
-module _ (T M : ℕ) where
-  at-few : (n : ℕ) (nd : Node) (t : ℕ) → length (rowsAt T M n nd t) ≤ 4
-  at-few n (atom a) t = omega arith
-  at-few n (unary u c) t = unary-few u (ltb t T) _ _ _
-  at-few n (binary o l r) t = binary-few o (ltb t T) _ _ _ _
-
-  slots-few : (n : ℕ) (nd : Node) (k t : ℕ) → length (slotsRows T M n nd k t) ≤ 4 * k
-  slots-few n nd zero t = omega arith
-  slots-few n nd (suc k) t =
-      omega (arith, length-append (rowsAt T M n nd t) (slotsRows T M n nd k (t + 1)), at-few n nd t, slots-few n nd k (t + 1))
-
-  nodes-few : (n : ℕ) (ns : List Node) → length (nodesRows T M n ns) ≤ 4 * (length ns * T)
-  nodes-few n [] = omega arith
-  nodes-few n (nd ∷ ns) =
-      omega (arith, length-append (slotsRows T M n nd T 1) (nodesRows T M (n + 1) ns), slots-few n nd T 1, nodes-few (n + 1) ns)
-
-  pub rows-few : (ns : List Node) → T ≤ 64 → length ns ≤ 128 → length (rowsOf T M ns) < 4294967296
-  rows-few ns h k = omega (arith, length-append (slackRows T M ns) (goalRow T M ns ∷ []), nodes-few 0 ns, mul-le-mul k h)
+rows-few : (T M : ℕ) (ns : List Node) → T ≤ 64 → length ns ≤ 128 → length (rowsOf T M ns) < 4294967296
+rows-few T M ns h k = omega (arith, rows-count T M ns, mul-le-mul k h)
 
 pub write-rows-fits : (t m : ℕ) (table : List ℕ) (room : ℕ) → Fits (result (rowsOutcome t m table room))
 write-rows-fits t m table room =
@@ -94,6 +61,11 @@ write-rows-fits t m table room =
     let e : n ≡ length (rowsOf t m (i .0)) = cc (i .2) in
     let slots : t ≤ 64 = at-least 64 t (λ h. none 1 (RowsRefused.table-refused (TableRefused.slots (λ s. omega arith)))) in
     rw e (rows-few t m (i .0) slots (i .1 .few)))
+
+-- the page's length, as its call bounds it
+pub short-fits : (a : Answer ℕ) → Short a → Fits a
+short-fits (refused k) h = tt
+short-fits (answered n) h = omega arith
 
 -- ---- the judge's variables and rows
 

@@ -1,8 +1,9 @@
-// The four calls for C and Rust: a static library. A slice passes as a pointer and a length.
+// The calls for C and Rust: a static library. A slice passes as a pointer and a length.
 ghost use mathlib.Core.Path.{_≡_};
 ghost use lib.ListN.{length};
 ghost use Rattle.rules.specs.Outcome.{result, buffer, readOutcome, evaluateOutcome, rowsOutcome, judgeOutcome};
 ghost use Rattle.answers.specs.Told.{told};
+ghost use Rattle.mps.specs.Outcome.{pageOutcome};
 ghost use Rattle.judge.specs.Ruled.{ruled, verdictOf};
 ghost use Rattle.sepia.specs.Boundary.{inC, Fits, verdictNumber, verdictValue, verdictShortfall, verdictInC, VerdictFits};
 use answers::Answer;
@@ -63,6 +64,15 @@ pub extern "C" fn sepia_rows(table: &[u8], t: usize, m: usize, out: &mut [u8]) -
     ensures { λ _. ⌜ now (out .exit) ≡ buffer (rowsOutcome t m (now (table .entry)) (length (now (out .entry)))) (now (out .entry)) ⌝ }
 {
     plain(rows::write_rows(table, t, m, out))
+}
+
+// Writes the fixed-column MPS page of a table's rows.
+#[no_mangle]
+pub extern "C" fn sepia_mps(table: &[u8], t: usize, m: usize, out: &mut [u8]) -> SepiaAnswer
+    ensures { λ r. ⌜ r ≡ inC (result (pageOutcome t m (now (table .entry)) (length (now (out .entry))))) ⌝ }
+    ensures { λ _. ⌜ now (out .exit) ≡ buffer (pageOutcome t m (now (table .entry)) (length (now (out .entry)))) (now (out .entry)) ⌝ }
+{
+    plain(pages::mps_page(table, t, m, out))
 }
 
 // A refusal's number; or 0, the verdict's number, its value and its shortfall.

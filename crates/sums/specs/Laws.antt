@@ -1,12 +1,10 @@
 -- Laws of the tests on figures, of sums and of shortfalls.
-use mathlib.Core.Path.{_≡_, refl, sym, ap₂, _∙_}
+use mathlib.Core.Path.{_≡_, sym, ap₂, _∙_}
 use mathlib.Core.Bool.{Bool, true, false}
 use mathlib.Core.List.{List}
-use Prim.Native.Nat.{ℕ, suc, _≤_}
+use Prim.Native.Nat.{ℕ, _≤_}
 use native.Mathlib.Omega.{arith}
-use borrow.Author.Tests.{ltb-true}
-use lib.IntN.{ℤ, pos, negsuc, natAbs, _+ℤ_, _-ℤ_, _*ℤ_, +ℤ-idl, +ℤ-idr}
-use lib.Signed.{ltZ}
+use lib.IntN.{ℤ, pos, natAbs, _+ℤ_, _*ℤ_, +ℤ-idr}
 use Rattle.rules.specs.Quantities.{one}
 use Rattle.rules.specs.Rows.{valueAt, sumOf}
 use Rattle.rules.specs.Rows.Relation.{at-least, equal}
@@ -18,15 +16,6 @@ use Rattle.row.specs.declared.Terms.{Terms}
 use Rattle.row.specs.declared.Terms.the-variants.{Single, Pair, Triple}
 use Rattle.row.specs.declared.Row.{Row}
 use Rattle.row.specs.Meaning.{termsOf, rowOf}
-
--- below 0, a number's size is what it is less than 0
-pub size-below : (d : ℤ) → ltZ d (pos 0) ≡ true → pos 0 -ℤ d ≡ pos (natAbs d)
-size-below (pos n) e = absurd (let h = ltb-true n 0 e in omega arith)
-size-below (negsuc n) e = +ℤ-idl (pos (suc n))
-
-pub size-above : (d : ℤ) → ltZ d (pos 0) ≡ false → d ≡ pos (natAbs d)
-size-above (pos n) e = refl
-size-above (negsuc n) e = let z : _≡_ {A = ℕ} 0 1 = cc in absurd (omega arith)
 
 -- the size of a number of which a difference is taken, by a bound that it has
 pub within : (m : ℕ) → m ≤ 2199023255552 → {n : ℕ} → n ≤ m → n ≤ 2199023255552

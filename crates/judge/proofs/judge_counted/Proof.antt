@@ -11,7 +11,7 @@ use mir.Val.{Fits, toZ, ofZ}
 use mir.Facts.{toZ-ofZ}
 use Rattle.ints.specs.Stored.{abs-sfits}
 use Rattle.rules.specs.Demands.Answer.{answered}
-use Rattle.sums.specs.Laws.{size-above}
+use Rattle.ints.specs.Sizes.{size-above}
 use Rattle.judge.specs.Checks.{not-below, tolerance-below, tolerance-above, tolerance-within}
 use Rattle.judge.proofs.judge_counted.Statement.{statement}
 use Rattle.judge.proofs.judge_counted.Tie as tie

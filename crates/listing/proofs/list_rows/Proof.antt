@@ -69,7 +69,7 @@ returns c =
     let n = c .before .before .before .refusal .given in
     let p = c .put-refusal .ensures in (
       rw (printed-refused (s .args .t) (s .args .m) (s .args .n) (s .args .table .now) (s .args .rows .now) (w .result) (n .0 .0) (s .pre .1) (w .ensures .0) (n .1)) (p .0),
-      p .1,
+      omega (arith, p .1),
     )
 
 same-length-2 : tie.Need-same-length-2

@@ -1,6 +1,6 @@
 -- `listing::put_listing` meets its contract: the rows straight after the head. Assumes nothing.
 use native.Mathlib.Omega.{arith}
-use Rattle.rowtext.specs.Put.{also}
+use Rattle.text.specs.Put.{also}
 use Rattle.listing.specs.Outcomes.{variables-few}
 use borrow.Author.Needs.{needs}
 use Rattle.listing.proofs.put_listing.Statement.{statement}

@@ -1,7 +1,7 @@
--- `listing::put_refusal` meets its contract.
+-- `listing::put_refusal` meets its contract. The word, the number and the line feed, one after the other. Assumes nothing.
 use native.Mathlib.Omega.{arith}
-use Rattle.rowtext.specs.Put.{also}
-use Rattle.rowtext.specs.Decimal.{below-100000}
+use Rattle.text.specs.Put.{also}
+use Rattle.text.specs.Decimal.{below-100000}
 use Rattle.listing.specs.Page.{refusedText}
 use Rattle.listing.specs.Outcomes.{number-small}
 use borrow.Author.Needs.{needs}
@@ -22,24 +22,37 @@ cast-put-decimal c = search needs
 
 put-decimal-requires : tie.Need-put-decimal-requires
 put-decimal-requires c κs =
-    omega (arith, c .before .put-bytes .ensures .ends, below-100000 (c .before .before .before .before .number .result) (omega (arith, c .before .before .before .before .number .ensures, number-small (c .before .before .before .before .before .args .refusal))))
+    let b = c .before .before .before in
+    let n = b .before .before .before in
+    let few = below-100000 (n .number .result) (omega (arith, n .number .ensures, number-small (n .before .before .args .refusal))) in
+    omega (arith, b .put-bytes .ensures .ends, few)
 
 slice-aggregate-put-bytes-2 : tie.Need-slice-aggregate-put-bytes-2
 slice-aggregate-put-bytes-2 c = search needs
 
 put-bytes-requires-2 : tie.Need-put-bytes-requires-2
 put-bytes-requires-2 c κs =
-    omega (arith, c .before .before .before .before .put-bytes .ensures .ends, c .before .before .put-decimal .ensures .ends, below-100000 (c .before .before .before .before .before .before .before .number .result) (omega (arith, c .before .before .before .before .before .before .before .number .ensures, number-small (c .before .before .before .before .before .before .before .before .args .refusal))))
+    let d = c .before .before .before .before in
+    let b = d .before .before .before .before in
+    let n = b .before .before .before in
+    let few = below-100000 (n .number .result) (omega (arith, n .number .ensures, number-small (n .before .before .args .refusal))) in
+    omega (arith, b .put-bytes .ensures .ends, d .put-decimal .ensures .ends, few)
+
+same-length : tie.Need-same-length
+same-length c = search needs
 
 returns : tie.Need-returns
 unfolding refusedText
 returns c =
-    let a = c .before .before .before .before .before .put-bytes .ensures in
-    let b = c .before .before .before .put-decimal .ensures in
-    let d = c .put-bytes2 .ensures in (
-      rw (c .before .before .before .before .before .before .before .before .number .ensures) at (also a (also b d)),
-      omega (arith, a .ends, b .ends, d .ends, below-100000 (c .before .before .before .before .before .before .before .before .number .result) (omega (arith, c .before .before .before .before .before .before .before .before .number .ensures, number-small (c .before .before .before .before .before .before .before .before .before .args .refusal)))),
-    )
+    let l = c .before .before in
+    let d = l .before .before .before .before .before in
+    let b = d .before .before .before .before in
+    let n = b .before .before .before in
+    let few = below-100000 (n .number .result) (omega (arith, n .number .ensures, number-small (n .before .before .args .refusal))) in
+    let x = b .put-bytes .ensures in
+    let y = d .put-decimal .ensures in
+    let z = l .put-bytes2 .ensures in
+    (rw (n .number .ensures) at (also x (also y z)), omega (arith, x .ends, y .ends, z .ends, few))
 
 pub put-refusal-spec : {M : Type 1} → statement M
 put-refusal-spec =
@@ -52,4 +65,5 @@ put-refusal-spec =
     put-decimal-requires
     slice-aggregate-put-bytes-2
     put-bytes-requires-2
+    same-length
     returns)

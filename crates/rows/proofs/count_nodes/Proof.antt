@@ -4,7 +4,8 @@ use Prim.Native.Nat.{ℕ, _+_, _-_, _*_, _≤_}
 use native.Mathlib.Omega.{arith}
 use borrow.Author.Needs.{needs}
 use Rattle.rules.specs.TableTest.{nodesIn}
-use Rattle.rows.specs.Parts.{countTo, count-none, count-more}
+use Rattle.row.specs.NodeRows.{count-none, count-more}
+use Rattle.rows.specs.Parts.{countTo}
 use Rattle.rows.proofs.count_nodes.Statement.{statement}
 use Rattle.rows.proofs.count_nodes.Tie as tie
 

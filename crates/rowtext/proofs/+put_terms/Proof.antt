@@ -1,7 +1,7 @@
 -- `rowtext::put_terms` meets its contract. The count of terms falls at each call.
 use native.Mathlib.Omega.{arith}
 use borrow.Author.Needs.{needs}
-use Rattle.rowtext.specs.Put.{nothing, also}
+use Rattle.text.specs.Put.{nothing, also}
 use Rattle.rowtext.specs.Records.{terms-none, terms-more}
 use Prim.Native.Nat.{ℕ, _<_}
 use borrow.Fn.Kinds.{In}

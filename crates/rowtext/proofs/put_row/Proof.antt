@@ -1,7 +1,7 @@
 -- `rowtext::put_row` meets its contract.
 use native.Mathlib.Omega.{arith}
-use Rattle.rowtext.specs.Put.{also}
-use Rattle.rowtext.specs.Decimal.{below-10000}
+use Rattle.text.specs.Put.{also}
+use Rattle.text.specs.Decimal.{below-10000}
 use Rattle.rowtext.specs.RowText.{rowText}
 use borrow.Author.Needs.{needs}
 use Rattle.rowtext.proofs.put_row.Statement.{statement}

@@ -3,8 +3,8 @@ use mathlib.Core.Path.{_≡_}
 use Prim.Native.Nat.{suc, _-_}
 use native.Mathlib.Omega.{arith}
 use borrow.Author.Tests.{lt-ltb, le-ltb}
-use Rattle.rowtext.specs.Put.{also}
-use Rattle.rowtext.specs.Decimal.{below-1000}
+use Rattle.text.specs.Put.{also}
+use Rattle.text.specs.Decimal.{below-1000}
 use borrow.Author.Needs.{needs}
 use Rattle.rowtext.proofs.put_signed.Statement.{statement}
 use Rattle.rowtext.proofs.put_signed.Tie as tie

@@ -5,7 +5,7 @@ use lib.IntN.{ℤ, pos, _-ℤ_}
 use lib.Signed.{ltZ}
 use mir.Syntax.{w64}
 use mir.Facts.{toZ-ofZ}
-use Rattle.sums.specs.Laws.{size-below, size-above}
+use Rattle.ints.specs.Sizes.{size-below, size-above}
 use Rattle.sums.proofs.size.Statement.{statement}
 use Rattle.sums.proofs.size.Tie as tie
 

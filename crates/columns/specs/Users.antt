@@ -1,0 +1,43 @@
+-- The rows in which a variable stands: those of its own node and of its parents, at its slot and the one before.
+use mathlib.Core.Bool.{Bool, cond, _||_}
+use mathlib.Core.List.{List, [], _∷_, _++_}
+use Prim.Native.Nat.{ℕ, zero, suc, _+_, _*_}
+use lib.Dec.{eqb}
+use lib.ListN.{length}
+use Rattle.lists.specs.Flat.{flat}
+use Rattle.rules.specs.Table.{Node, nodeAt}
+use Rattle.rules.specs.Table.Node.{atom, unary, binary}
+use Rattle.rules.specs.Rows.{slackRows, goalRow}
+use Rattle.mps.specs.Page.{entryLine}
+use Rattle.rowlines.specs.Slots.{slotText}
+
+-- The variables come in parts of T: the M atoms', then the nodes'. Whether part x stands in the rows of node n.
+abbrev pub uses : (M x n : ℕ) → Node → Bool
+uses M x n (atom a) = eqb x (M + n) || eqb x a
+uses M x n (unary u c) = eqb x (M + n) || eqb x (M + c)
+uses M x n (binary o l r) = eqb x (M + n) || (eqb x (M + l) || eqb x (M + r))
+
+-- node n, where part x stands in its rows
+abbrev pub userAt : (M : ℕ) → List Node → (x n : ℕ) → List ℕ
+userAt M ns x n = cond (uses M x n (nodeAt ns n)) (n ∷ []) []
+
+unfoldable pub users : (M : ℕ) → List Node → (x : ℕ) → List ℕ
+users M ns x = flat (userAt M ns x) (length ns)
+
+-- a text for each of a list
+unfoldable pub eachOf : (ℕ → List ℕ) → List ℕ → List ℕ
+eachOf f [] = []
+eachOf f (n ∷ l) = f n ++ eachOf f l
+
+module _ (T M : ℕ) (ns : List Node) where
+  -- the lines of variable v in the rows of node n before slot s + 1, and at it
+  abbrev pub beforeText : (v n s : ℕ) → List ℕ
+  beforeText v n zero = []
+  beforeText v n (suc s) = slotText T M ns (entryLine v) n s
+
+  unfoldable pub aroundText : (v s n : ℕ) → List ℕ
+  aroundText v s n = beforeText v n s ++ slotText T M ns (entryLine v) n s
+
+  -- the lines of the variable of part x at slot s + 1
+  unfoldable pub variableText : (x s : ℕ) → List ℕ
+  variableText x s = eachOf (aroundText (x * T + s) s) (users M ns x) ++ entryLine (x * T + s) (length (slackRows T M ns)) (goalRow T M ns)

@@ -1,0 +1,51 @@
+-- `pages::write_checked` meets its contract. There is room, or not. Assumes nothing.
+use mathlib.Core.Path.{refl, ap, _∙_}
+use Prim.Native.Nat.{_+_, _≤_}
+use native.Mathlib.Omega.{arith}
+use borrow.Author.Needs.{needs}
+use lib.ListN.{length}
+use Rattle.lists.specs.Splice.{over, sets-splice, splice-zero}
+use Rattle.rules.specs.Demands.Answer.{answered}
+use Rattle.rules.specs.TableTest.{nodesIn}
+use Rattle.mps.specs.Page.{page}
+use Rattle.pages.specs.Answers.{too-short, long-enough}
+use Rattle.pages.proofs.write_checked.Statement.{statement}
+use Rattle.pages.proofs.write_checked.Tie as tie
+
+count-requires : tie.Need-count-requires
+count-requires c κs = search needs
+
+page-length-requires : tie.Need-page-length-requires
+page-length-requires c κs = search needs
+
+returns : tie.Need-returns
+returns c =
+    let k = c .before in
+    let a = k .before .before .before .before .args in
+    let h = too-short (a .t) (a .m) (a .table .now) (length (a .out .now)) (omega (arith, k .page-length .ensures .0)) in
+    (rw h refl, (rw h refl, tt))
+
+put-page-requires : tie.Need-put-page-requires
+put-page-requires c κs = search needs
+
+same-length : tie.Need-same-length
+same-length c = search needs
+
+returns-2 : tie.Need-returns-2
+unfolding over
+returns-2 c =
+    let w = c .before .before in
+    let i = w .before .before in
+    let k = i .before in
+    let a = k .before .before .before .before .args in
+    let e = k .page-length .ensures .0 in
+    let test = i .if1 in
+    let room : length (page (a .t) (a .m) (nodesIn (a .table .now))) ≤ length (a .out .now) = omega arith in
+    let from : 0 + length (page (a .t) (a .m) (nodesIn (a .table .now))) ≤ length (a .out .now) = omega arith in
+    let h = long-enough (a .t) (a .m) (a .table .now) (length (a .out .now)) room in
+    (rw h (ap answered e), (rw h (w .put-page .ensures .0 .content from ∙ sets-splice 0 (page (a .t) (a .m) (nodesIn (a .table .now))) (a .out .now) from ∙ splice-zero _ _), k .page-length .ensures .1))
+
+pub write-checked-spec : {M : Type 1} → statement M
+write-checked-spec =
+    tie.close
+    (tie.spec count-requires page-length-requires returns put-page-requires same-length returns-2)

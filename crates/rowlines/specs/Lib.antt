@@ -1,0 +1,4 @@
+pub mod Texts
+pub mod Coefficients
+pub mod Slots
+pub mod Laws

@@ -1,0 +1,56 @@
+// The sections of an MPS page but COLUMNS.
+use lines::Name;
+use rowlines::Text;
+ghost use mathlib.Core.Path.{_≡_};
+ghost use Prim.Native.Nat.{_+_, _≤_, _<_};
+ghost use Rattle.rules.specs.Rows.{rowsOf};
+ghost use Rattle.rules.specs.TableTest.{recordCount, nodesIn};
+ghost use Rattle.table.specs.Checks.{Ready};
+ghost use Rattle.lines.specs.Sent.{Sent};
+ghost use Rattle.mps.specs.Page.{rowSection, rightSection, boundLine, boundSection};
+
+// NAME and ROWS: the free row, and a line for each row.
+pub fn put_rows(out: &mut [u8], at: usize, table: &[u8], n: usize, t: usize, m: usize) -> usize
+    requires { ⌜ (at ≤ 4000000000) × Ready t m (now table) × (n ≡ recordCount (now table)) ⌝ }
+    ensures { λ r. ⌜ Sent at (rowSection (rowsOf t m (nodesIn (now (table .entry))))) (now (out .entry)) (now (out .exit)) r × (r ≤ at + 1400000) ⌝ }
+{
+    let rows = lines::put_text(out, at, b"NAME\n");
+    let free = lines::put_text(out, rows, b"ROWS\n");
+    let first = lines::put_type_line(out, free, b'N', Name::Cost);
+    nodelines::put_all(out, first, Text::Typed, table, n, t, m)
+}
+
+// RHS: the right sides that are not 0.
+pub fn put_rights(out: &mut [u8], at: usize, table: &[u8], n: usize, t: usize, m: usize) -> usize
+    requires { ⌜ (at ≤ 4000000000) × Ready t m (now table) × (n ≡ recordCount (now table)) ⌝ }
+    ensures { λ r. ⌜ Sent at (rightSection (rowsOf t m (nodesIn (now (table .entry))))) (now (out .entry)) (now (out .exit)) r × (r ≤ at + 1400000) ⌝ }
+{
+    let first = lines::put_text(out, at, b"RHS\n");
+    nodelines::put_all(out, first, Text::Right, table, n, t, m)
+}
+
+// The bound of a variable; the first ones are the atoms'.
+fn put_bound(out: &mut [u8], at: usize, atoms: usize, v: usize) -> usize
+    requires { ⌜ (at ≤ 4294967296) × (v < 100000) ⌝ }
+    ensures { λ r. ⌜ Sent at (boundLine atoms v) (now (out .entry)) (now (out .exit)) r × (r ≤ at + 40) ⌝ }
+{
+    if v < atoms {
+        lines::put_binary_line(out, at, v)
+    } else {
+        lines::put_upper_line(out, at, v)
+    }
+}
+
+// BOUNDS and ENDATA: a bound for each variable.
+pub fn put_bounds(out: &mut [u8], at: usize, atoms: usize, variables: usize) -> usize
+    requires { ⌜ (at ≤ 4000000000) × (variables ≤ 30000) ⌝ }
+    ensures { λ r. ⌜ Sent at (boundSection atoms variables) (now (out .entry)) (now (out .exit)) r × (r ≤ at + 1300000) ⌝ }
+{
+    let mut next = lines::put_text(out, at, b"BOUNDS\n");
+    let mut v: usize = 0;
+    while v < variables {
+        next = put_bound(out, next, atoms, v);
+        v += 1;
+    }
+    lines::put_text(out, next, b"ENDATA\n")
+}

@@ -1,0 +1,246 @@
+-- `slotlines::put_slot` meets its contract. By the kind, and whether a slot follows. Assumes nothing.
+use mathlib.Core.Path.{refl}
+use Rattle.rowlines.specs.Texts.{lineOf}
+use Rattle.lines.specs.Sent.{sent-as}
+use Rattle.slotlines.specs.Each.{of-kind}
+use borrow.Author.Needs.{needs}
+use Rattle.slotlines.proofs.put_slot.Statement.{statement}
+use Rattle.slotlines.proofs.put_slot.Tie as tie
+
+enum-told : tie.Need-enum-told
+enum-told c = search needs
+
+put-same-requires : tie.Need-put-same-requires
+put-same-requires c κs = search needs
+
+enum-told-2 : tie.Need-enum-told-2
+enum-told-2 c = search needs
+
+put-not-requires : tie.Need-put-not-requires
+put-not-requires c κs = search needs
+
+enum-told-3 : tie.Need-enum-told-3
+enum-told-3 c = search needs
+
+put-and-requires : tie.Need-put-and-requires
+put-and-requires c κs = search needs
+
+enum-told-4 : tie.Need-enum-told-4
+enum-told-4 c = search needs
+
+put-or-requires : tie.Need-put-or-requires
+put-or-requires c κs = search needs
+
+enum-told-5 : tie.Need-enum-told-5
+enum-told-5 c = search needs
+
+put-implies-requires : tie.Need-put-implies-requires
+put-implies-requires c κs = search needs
+
+enum-told-6 : tie.Need-enum-told-6
+enum-told-6 c = search needs
+
+add-put-or : tie.Need-add-put-or
+add-put-or c = search needs
+
+put-or-requires-2 : tie.Need-put-or-requires-2
+put-or-requires-2 c κs = search needs
+
+put-same-requires-2 : tie.Need-put-same-requires-2
+put-same-requires-2 c κs = search needs
+
+enum-told-7 : tie.Need-enum-told-7
+enum-told-7 c = search needs
+
+add-put-and : tie.Need-add-put-and
+add-put-and c = search needs
+
+put-and-requires-2 : tie.Need-put-and-requires-2
+put-and-requires-2 c κs = search needs
+
+put-same-requires-3 : tie.Need-put-same-requires-3
+put-same-requires-3 c κs = search needs
+
+enum-told-8 : tie.Need-enum-told-8
+enum-told-8 c = search needs
+
+put-until-requires : tie.Need-put-until-requires
+put-until-requires c κs = search needs
+
+put-same-requires-4 : tie.Need-put-same-requires-4
+put-same-requires-4 c κs = search needs
+
+same-length : tie.Need-same-length
+same-length c = search needs
+
+returns : tie.Need-returns
+returns c =
+    let w = c .before .before in
+    let k = w .before .before in
+    let a = k .before .before .before .args in
+    let p = w .put-same .ensures in
+    (sent-as (of-kind (lineOf (a .text)) (a .i) (a .big) (a .p) (a .q) (k .enum-told .given .1) refl) (p .0), p .1)
+
+same-length-2 : tie.Need-same-length-2
+same-length-2 c = search needs
+
+returns-2 : tie.Need-returns-2
+returns-2 c =
+    let w = c .before .before in
+    let k = w .before .before in
+    let a = k .before .before .before .args in
+    let p = w .put-not .ensures in
+    (sent-as (of-kind (lineOf (a .text)) (a .i) (a .big) (a .p) (a .q) (k .enum-told2 .given .1) refl) (p .0), p .1)
+
+same-length-3 : tie.Need-same-length-3
+same-length-3 c = search needs
+
+returns-3 : tie.Need-returns-3
+returns-3 c =
+    let w = c .before .before in
+    let k = w .before .before in
+    let a = k .before .before .before .args in
+    let p = w .put-and .ensures in
+    (sent-as (of-kind (lineOf (a .text)) (a .i) (a .big) (a .p) (a .q) (k .enum-told3 .given .1) refl) (p .0), p .1)
+
+same-length-4 : tie.Need-same-length-4
+same-length-4 c = search needs
+
+returns-4 : tie.Need-returns-4
+returns-4 c =
+    let w = c .before .before in
+    let k = w .before .before in
+    let a = k .before .before .before .args in
+    let p = w .put-or .ensures in
+    (sent-as (of-kind (lineOf (a .text)) (a .i) (a .big) (a .p) (a .q) (k .enum-told4 .given .1) refl) (p .0), p .1)
+
+same-length-5 : tie.Need-same-length-5
+same-length-5 c = search needs
+
+returns-5 : tie.Need-returns-5
+returns-5 c =
+    let w = c .before .before in
+    let k = w .before .before in
+    let a = k .before .before .before .args in
+    let p = w .put-implies .ensures in
+    (sent-as (of-kind (lineOf (a .text)) (a .i) (a .big) (a .p) (a .q) (k .enum-told5 .given .1) refl) (p .0), p .1)
+
+same-length-6 : tie.Need-same-length-6
+same-length-6 c = search needs
+
+returns-6 : tie.Need-returns-6
+returns-6 c =
+    let w = c .before .before in
+    let t = w .before .before in
+    let k = t .before in
+    let a = k .before .before .before .args in
+    let p = w .put-or2 .ensures in
+    (sent-as (of-kind (lineOf (a .text)) (a .i) (a .big) (a .p) (a .q) (k .enum-told6 .given .1) (t .if1 .taken)) (p .0), p .1)
+
+same-length-7 : tie.Need-same-length-7
+same-length-7 c = search needs
+
+returns-7 : tie.Need-returns-7
+returns-7 c =
+    let w = c .before .before in
+    let t = w .before .before in
+    let k = t .before in
+    let a = k .before .before .before .args in
+    let p = w .put-same2 .ensures in
+    (sent-as (of-kind (lineOf (a .text)) (a .i) (a .big) (a .p) (a .q) (k .enum-told6 .given .1) (t .if1 .left)) (p .0), p .1)
+
+same-length-8 : tie.Need-same-length-8
+same-length-8 c = search needs
+
+returns-8 : tie.Need-returns-8
+returns-8 c =
+    let w = c .before .before in
+    let t = w .before .before in
+    let k = t .before in
+    let a = k .before .before .before .args in
+    let p = w .put-and2 .ensures in
+    (sent-as (of-kind (lineOf (a .text)) (a .i) (a .big) (a .p) (a .q) (k .enum-told7 .given .1) (t .if2 .taken)) (p .0), p .1)
+
+same-length-9 : tie.Need-same-length-9
+same-length-9 c = search needs
+
+returns-9 : tie.Need-returns-9
+returns-9 c =
+    let w = c .before .before in
+    let t = w .before .before in
+    let k = t .before in
+    let a = k .before .before .before .args in
+    let p = w .put-same3 .ensures in
+    (sent-as (of-kind (lineOf (a .text)) (a .i) (a .big) (a .p) (a .q) (k .enum-told7 .given .1) (t .if2 .left)) (p .0), p .1)
+
+same-length-10 : tie.Need-same-length-10
+same-length-10 c = search needs
+
+returns-10 : tie.Need-returns-10
+returns-10 c =
+    let w = c .before .before in
+    let t = w .before .before in
+    let k = t .before in
+    let a = k .before .before .before .args in
+    let p = w .put-until .ensures in
+    (sent-as (of-kind (lineOf (a .text)) (a .i) (a .big) (a .p) (a .q) (k .enum-told8 .given .1) (t .if3 .taken)) (p .0), p .1)
+
+same-length-11 : tie.Need-same-length-11
+same-length-11 c = search needs
+
+returns-11 : tie.Need-returns-11
+returns-11 c =
+    let w = c .before .before in
+    let t = w .before .before in
+    let k = t .before in
+    let a = k .before .before .before .args in
+    let p = w .put-same4 .ensures in
+    (sent-as (of-kind (lineOf (a .text)) (a .i) (a .big) (a .p) (a .q) (k .enum-told8 .given .1) (t .if3 .left)) (p .0), p .1)
+
+pub put-slot-spec : {M : Type 1} → statement M
+put-slot-spec =
+    tie.close
+    (tie.spec
+    enum-told
+    put-same-requires
+    enum-told-2
+    put-not-requires
+    enum-told-3
+    put-and-requires
+    enum-told-4
+    put-or-requires
+    enum-told-5
+    put-implies-requires
+    enum-told-6
+    add-put-or
+    put-or-requires-2
+    put-same-requires-2
+    enum-told-7
+    add-put-and
+    put-and-requires-2
+    put-same-requires-3
+    enum-told-8
+    put-until-requires
+    put-same-requires-4
+    same-length
+    returns
+    same-length-2
+    returns-2
+    same-length-3
+    returns-3
+    same-length-4
+    returns-4
+    same-length-5
+    returns-5
+    same-length-6
+    returns-6
+    same-length-7
+    returns-7
+    same-length-8
+    returns-8
+    same-length-9
+    returns-9
+    same-length-10
+    returns-10
+    same-length-11
+    returns-11)

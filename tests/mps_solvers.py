@@ -1,0 +1,393 @@
+#!/usr/bin/env python3
+"""Holds the pages of the program mpspage to three solvers: GLPK, lp_solve and CBC.
+
+    python3 tests/mps_solvers.py [--rules N] [--seed S] [--program COMMAND]
+
+Needs glpsol, lp_solve and cbc (Debian's packages glpk-utils, lp-solve and coinor-cbc). Made and tried with
+    GLPK 5.0, lp_solve 5.5.2.5, CBC 2.10.8, Python 3.11.7
+
+For each of N random rules (300, or as asked) of at most 8 atom variables:
+  - the rows, the page and the truth are worked out here, from the papers' words and without the toolkit's code;
+  - the page that the program writes must be that page, byte for byte;
+  - each solver reads the page and writes what it understood: these must be the same rows, limits and whole variables;
+  - each solver solves it: there must be a schedule exactly when some run satisfies the rule at slot 1, and then the
+    solver's atoms must be such a run and each slack the truth of its part.
+
+CBC's writer leaves out a variable that stands in no row. For CBC such a variable is compared by the counts that it says
+it read and by its place in the solution, and not by its limits.
+
+The first difference ends the script with 1 and names the rule.
+"""
+
+import argparse
+import gzip
+import itertools
+import math
+import random
+import re
+import shlex
+import subprocess
+import sys
+import tempfile
+from collections import Counter
+from pathlib import Path
+
+PROGRAM = Path(__file__).resolve().parent.parent / "mpspage"
+CLOSE = 1e-5  # how near a solver's figure must be: lp_solve prints six digits
+
+# ------------------------------------------------------------------------------------------ rules and their truth
+
+SINGLE = {"!": 2, "F": 6, "G": 7}
+DOUBLE = {">": 5, "|": 4, "&": 3, "U": 8}  # loosest first
+ATOM, NOT, AND, OR, IMPLIES, EVENTUALLY, ALWAYS, UNTIL = range(1, 9)
+
+
+def parse(text):
+    """The nodes of a rule as (kind, left, right), in the order of the node table."""
+    tokens = re.findall(r"a\d+|\S", text)
+    nodes = []
+
+    def node(kind, left, right=0):
+        nodes.append((kind, left, right))
+        return len(nodes) - 1
+
+    def level(operators):
+        if not operators:
+            return single()
+        left = level(operators[1:])
+        if tokens and tokens[0] == operators[0]:
+            operator = tokens.pop(0)
+            return node(DOUBLE[operator], left, level(operators))
+        return left
+
+    def single():
+        token = tokens.pop(0)
+        if token == "(":
+            inner = level("".join(DOUBLE))
+            assert tokens.pop(0) == ")"
+            return inner
+        return node(SINGLE[token], single()) if token in SINGLE else node(ATOM, int(token[1:]))
+
+    level("".join(DOUBLE))
+    assert not tokens
+    return nodes
+
+
+def truth(nodes, atoms):
+    """For each node its truth at each slot, where atoms[a] has those of atom a. After the last slot nothing changes, so
+    what holds at some or at every later slot is found among the slots up to the last."""
+    slots = range(len(atoms[0]))
+    truths = []
+    for kind, left, right in nodes:
+        p = atoms[left] if kind == ATOM else truths[left]
+        q = None if kind == ATOM else truths[right]
+        holds = {
+            ATOM: lambda t: p[t],
+            NOT: lambda t: not p[t],
+            AND: lambda t: p[t] and q[t],
+            OR: lambda t: p[t] or q[t],
+            IMPLIES: lambda t: not p[t] or q[t],
+            EVENTUALLY: lambda t: any(p[k] for k in slots[t:]),
+            ALWAYS: lambda t: all(p[k] for k in slots[t:]),
+            UNTIL: lambda t: any(q[k] and all(p[j] for j in slots[t:k]) for k in slots[t:]),
+        }[kind]
+        truths.append([holds(t) for t in slots])
+    return truths
+
+
+def satisfiable(nodes, t, m):
+    for bits in itertools.product((False, True), repeat=m * t):
+        if truth(nodes, [bits[a * t : (a + 1) * t] for a in range(m)])[-1][0]:
+            return True
+    return False
+
+
+def random_rule(rng, nodes, m):
+    """A text of that many nodes. Brackets stand where chance puts them; every such text is in the grammar."""
+    if nodes == 1:
+        return f"a{rng.randrange(m)}"
+    if nodes == 2 or rng.random() < 0.3:
+        text = rng.choice("!FG") + random_rule(rng, nodes - 1, m)
+    else:
+        left = rng.randint(1, nodes - 2)
+        if nodes % 2 == 1 and rng.random() < 0.2:  # two equal parts
+            one = other = f"({random_rule(rng, nodes // 2, m)})"
+        else:
+            one, other = random_rule(rng, left, m), random_rule(rng, nodes - 1 - left, m)
+        text = one + rng.choice(">|&UU") + other
+    return f"({text})" if rng.random() < 0.6 else text
+
+
+def random_case(rng):
+    t = rng.randint(1, 4)
+    m = rng.randint(1, 8 // t)
+    if rng.random() < 0.2:  # no run satisfies these
+        part = f"({random_rule(rng, rng.randint(1, 4), m)})"
+        text = rng.choice(["{0}&!{0}", "G({0}&F!{0})", "!({0}>{0})", "F{0}&G!{0}"]).format(part)
+    else:
+        text = random_rule(rng, rng.randint(1, 12), m)
+    if rng.random() < 0.3:
+        text = "".join(token + " " * rng.randint(0, 2) for token in re.findall(r"a\d+|.", text))
+    return t, m, text
+
+
+# ------------------------------------------------------------------------------------------------ rows and the page
+
+# The rows at a slot as the scope paper has them; LAST are those at slot T.
+ROWS = {
+    ATOM: "P - p = 0",
+    NOT: "P + p = 1",
+    AND: "p - P >= 0; q - P >= 0; P - p - q >= -1",
+    OR: "P - p >= 0; P - q >= 0; p + q - P >= 0",
+    IMPLIES: "P + p >= 1; P - q >= 0; q - p - P >= -1",
+    EVENTUALLY: "P - p >= 0; P - P' >= 0; p + P' - P >= 0",
+    ALWAYS: "p - P >= 0; P' - P >= 0; P - p - P' >= -1",
+    UNTIL: "P - q >= 0; p + q - P >= 0; q + P' - P >= 0; P - p - P' >= -1",
+}
+LAST = {**ROWS, EVENTUALLY: "P - p = 0", ALWAYS: "P - p = 0", UNTIL: "P - q = 0"}
+
+
+class Model:
+    """rows: by name the type (G or E), the right side and the coefficients that are not 0 by variable;
+    limits: by variable the least, the largest, and whether it is whole."""
+
+    def __init__(self):
+        self.rows, self.limits = {}, {}
+
+
+def expected_model(nodes, t, m):
+    model = Model()
+
+    def add(row, variables):
+        terms, relation, right = re.fullmatch(r"(.*) (>?=) (-?\d+)", row).groups()
+        sums = Counter()
+        for sign, place in re.findall(r"([+-]?) ?([Ppq]'?)", terms):
+            sums[f"X{variables[place]}"] += -1 if sign == "-" else 1
+        coefficients = {name: value for name, value in sums.items() if value != 0}
+        model.rows[f"R{len(model.rows)}"] = ("E" if relation == "=" else "G", int(right), coefficients)
+
+    for number, (kind, left, right) in enumerate(nodes):
+        for slot in range(t):
+            own = (m + number) * t + slot
+            p = (left if kind == ATOM else m + left) * t + slot
+            variables = {"P": own, "P'": own + 1, "p": p, "q": (m + right) * t + slot}
+            for row in (ROWS if slot < t - 1 else LAST)[kind].split("; "):
+                add(row, variables)
+    add("P = 1", {"P": (m + len(nodes) - 1) * t})
+    for variable in range((m + len(nodes)) * t):
+        model.limits[f"X{variable}"] = (0, 1, variable < m * t)
+    return model
+
+
+def expected_page(model):
+    def line(*fields):
+        text = ""
+        for column, field in zip((2, 5, 15, 25), fields):
+            text = text.ljust(column - 1) + str(field) if field != "" else text
+        return text
+
+    entries = {variable: [] for variable in model.limits}
+    for row, (_, _, coefficients) in model.rows.items():
+        for variable, coefficient in coefficients.items():
+            entries[variable].append((row, coefficient))
+    lines = ["NAME", "ROWS", line("N", "COST")]
+    lines += [line(kind, row) for row, (kind, _, _) in model.rows.items()]
+    lines += ["COLUMNS"]
+    for variable, of_rows in entries.items():
+        lines += [line("", variable, *entry) for entry in of_rows or [("COST", 0)]]
+    lines += ["RHS"]
+    lines += [line("", "RHS", row, right) for row, (_, right, _) in model.rows.items() if right != 0]
+    lines += ["BOUNDS"]
+    for variable, (_, _, whole) in model.limits.items():
+        lines += [line("BV", "BND", variable) if whole else line("UP", "BND", variable, 1)]
+    lines += ["ENDATA"]
+    return "".join(text + "\n" for text in lines)
+
+
+# ------------------------------------------------------------------------------------------------------- the solvers
+
+
+class Difference(Exception):
+    pass
+
+
+def same(what, found, wanted):
+    if found != wanted:
+        raise Difference(f"{what}: {found!r} where {wanted!r} is expected")
+
+
+def read_back(text):
+    """The model of a page that a solver wrote. All three separate the fields by spaces and name their sets."""
+    model, section, whole, objective = Model(), "", False, None
+    right = {}
+    for line in text.splitlines():
+        fields = line.split("$")[0].split()
+        if not fields or line[0] == "*":
+            continue
+        if line[0] != " ":
+            section = fields[0]
+        elif section == "ROWS":
+            if fields[0] == "N":
+                objective = fields[1]
+            else:
+                model.rows[fields[1]] = (fields[0], 0, {})
+        elif section == "COLUMNS" and fields[1] == "'MARKER'":
+            whole = fields[2] == "'INTORG'"
+        elif section == "COLUMNS":
+            model.limits.setdefault(fields[0], (0, math.inf, whole))
+            for row, value in zip(fields[1::2], map(float, fields[2::2])):
+                if row == objective:
+                    same(f"cost of {fields[0]}", value, 0)
+                elif value != 0:
+                    same(f"entries of {fields[0]} in {row}", int(fields[0] in model.rows[row][2]) + 1, 1)
+                    model.rows[row][2][fields[0]] = value
+        elif section == "RHS":
+            right.update(zip(fields[1::2], map(float, fields[2::2])))
+        elif section == "BOUNDS":
+            kind, _, variable, *value = fields
+            least, largest, is_whole = model.limits.get(variable, (0, math.inf, False))
+            model.limits[variable] = {
+                "BV": lambda: (0, 1, True),
+                "UP": lambda: (least, float(value[0]), is_whole),
+                "LO": lambda: (float(value[0]), largest, is_whole),
+                "FX": lambda: (float(value[0]), float(value[0]), is_whole),
+                "MI": lambda: (-math.inf, largest, is_whole),
+                "PL": lambda: (least, math.inf, is_whole),
+                "FR": lambda: (-math.inf, math.inf, is_whole),
+            }[kind]()
+        else:
+            raise Difference(f"a line {line!r} in section {section}")
+    for row, value in right.items():
+        kind, _, coefficients = model.rows[row]
+        model.rows[row] = (kind, value, coefficients)
+    return model
+
+
+def run(*command):
+    return subprocess.run(list(map(str, command)), capture_output=True, text=True, timeout=600, check=False).stdout
+
+
+def written(back):
+    """The page that a solver wrote, which some pack."""
+    packed = back.with_name(back.name + ".gz")
+    same("the solver takes the page", back.exists() or packed.exists(), True)
+    return read_back(gzip.decompress(packed.read_bytes()).decode() if packed.exists() else back.read_text())
+
+
+# Each solver takes the page's file and two files to write, and gives what it understood, the variables' values or None
+# where it finds no schedule, and what it said.
+
+
+def glpsol(page, back, solution):
+    said = run("glpsol", "--mps", page, "--wfreemps", back, "--write", solution)
+    same("glpsol's warnings", re.findall(r"warning: (.*)", said), ["missing model name in field 3"])
+    model = written(back)
+    lines = [line.split() for line in solution.read_text().splitlines()]
+    [status] = [line[4] for line in lines if line[:2] == ["s", "mip"]]
+    same("glpsol's status is optimal or none", status in "on", True)
+    values = [float(line[2]) for line in lines if line[0] == "j"]  # in the order of the columns
+    return model, dict(zip(model.limits, values, strict=True)) if status == "o" else None, said
+
+
+def lp_solve(page, back, _):
+    said = run("lp_solve", "-mps", page, "-S3", "-wfmps", back)
+    model = written(back)
+    if said.strip() == "This problem is infeasible":
+        return model, None, said
+    values = re.search(r"Actual values of the variables:\n(.*?)\n\n", said, re.DOTALL)
+    same("lp_solve gives values", bool(values), True)
+    return model, {name: float(value) for name, value in map(str.split, values[1].splitlines())}, said
+
+
+def cbc(page, back, solution):
+    # Without presolve it writes the model as it was read.
+    said = run(
+        *("cbc", page, "-presolve", "off", "-export", back, "-presolve", "on"),
+        *("-printingOptions", "all", "-solve", "-solution", solution),
+    )
+    same("cbc read with 0 errors", "read with 0 errors" in said, True)
+    model = written(back)
+    status, *lines = solution.read_text().splitlines()
+    same("cbc's status is optimal or infeasible", bool(re.match("Optimal|Infeasible|Integer infeasible", status)), True)
+    fields = [line.replace("**", "").split() for line in lines]
+    values = {name: float(value) for _, name, value, *_ in fields if name[0] == "X"}
+    return model, values if status.startswith("Optimal") else None, said
+
+
+SOLVERS = (glpsol, lp_solve, cbc)
+
+
+def check_model(solver, found, said, wanted):
+    limits = wanted.limits
+    if solver is cbc:
+        in_rows = {variable for _, _, coefficients in wanted.rows.values() for variable in coefficients}
+        limits = {variable: limit for variable, limit in limits.items() if variable in in_rows}
+        entries = sum(len(coefficients) for _, _, coefficients in wanted.rows.values())
+        counts = f"has {len(wanted.rows)} rows, {len(wanted.limits)} columns and {entries} elements"
+        same(f"cbc says that its problem {counts}", counts in said, True)
+    same("row names", list(found.rows), list(wanted.rows))
+    for row in wanted.rows:
+        same(row, found.rows[row], wanted.rows[row])
+    same("variables", sorted(found.limits), sorted(limits))
+    for variable, limit in limits.items():
+        same(f"limits of {variable}", found.limits[variable], limit)
+
+
+def check_values(values, nodes, t, m):
+    """The atoms of a schedule must be a run that satisfies the rule, and the slacks the truth of the parts."""
+    same("variables with a value", sorted(values), sorted(f"X{number}" for number in range((m + len(nodes)) * t)))
+    atoms = [[round(values[f"X{a * t + slot}"]) == 1 for slot in range(t)] for a in range(m)]
+    truths = truth(nodes, atoms)
+    same("the rule holds over the schedule", truths[-1][0], True)
+    for number, of_slots in enumerate(atoms + truths):
+        for slot, holds in enumerate(of_slots):
+            variable = f"X{number * t + slot}"
+            same(f"value {values[variable]} of {variable} is {int(holds)}", abs(values[variable] - holds) < CLOSE, True)
+
+
+def main():
+    parser = argparse.ArgumentParser(description="Holds the pages of mpspage to GLPK, lp_solve and CBC.")
+    parser.add_argument("--rules", type=int, default=300, metavar="N")
+    parser.add_argument("--seed", type=int, default=1, metavar="S")
+    parser.add_argument("--program", default=shlex.quote(str(PROGRAM)), metavar="COMMAND")
+    options = parser.parse_args()
+    program, rng = shlex.split(options.program), random.Random(options.seed)
+    counts = {solver: Counter() for solver in SOLVERS}
+    kinds = Counter()
+    for _ in range(options.rules):
+        t, m, text = random_case(rng)
+        nodes = parse(text)
+        kinds.update({kind for kind, _, _ in nodes})
+        model = expected_model(nodes, t, m)
+        who = "mpspage"
+        try:
+            asked = f"{t} {m}\n{text}\n".encode()
+            page = subprocess.run(program, input=asked, stdout=subprocess.PIPE, check=True).stdout
+            wanted = expected_page(model).encode()
+            for number, lines in enumerate(zip(page.splitlines(True), wanted.splitlines(True)), 1):
+                same(f"line {number}", *lines)
+            same("bytes of the page", len(page), len(wanted))
+            exists = satisfiable(nodes, t, m)
+            for solver in SOLVERS:
+                who = solver.__name__
+                with tempfile.TemporaryDirectory() as folder:
+                    files = [Path(folder, name) for name in ("page.mps", "back.mps", "solution")]
+                    files[0].write_bytes(page)
+                    found, values, said = solver(*files)
+                check_model(solver, found, said, model)
+                same("a schedule is found", values is not None, exists)
+                if values is not None:
+                    check_values(values, nodes, t, m)
+                counts[solver]["read"] += 1
+                counts[solver]["found" if exists else "none"] += 1
+        except Difference as difference:
+            sys.exit(f"{who} differs for T {t}, M {m}, rule {text!r}: {difference}")
+    print(f"seed {options.seed}: {options.rules} rules; " + ", ".join(f"{kinds[n]} with kind {n}" for n in range(1, 9)))
+    print(f"mpspage: {options.rules} pages as expected, byte for byte")
+    for solver, count in counts.items():
+        outcomes = f"{count['found']} schedules found, {count['none']} with none"
+        print(f"{solver.__name__}: {count['read']} pages read back, {outcomes}")
+
+
+if __name__ == "__main__":
+    main()
