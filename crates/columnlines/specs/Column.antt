@@ -10,9 +10,10 @@ use Rattle.lists.specs.Flat.{flat, flat-same}
 use Rattle.rules.specs.Table.{Node}
 use Rattle.rules.specs.Rows.{Row, slackRows, goalRow, rowsOf}
 use Rattle.mps.specs.Page.{entryLine, costLine, columnLines}
+use Rattle.mps.specs.Reading.{gather}
 use Rattle.lines.specs.Sent.{Sent, sent-also, sent-as}
-use Rattle.columns.specs.Users.{users, eachOf, aroundText, variableText}
-use Rattle.columns.specs.Picked.{eachOf-flat}
+use Rattle.columns.specs.Users.{users, aroundText, variableText}
+use Rattle.columns.specs.Picked.{gather-listed}
 use Rattle.columns.specs.Around.{column-text}
 use Rattle.columns.specs.Found.{Found}
 
@@ -24,11 +25,11 @@ module _ (T M : ℕ) (ns : List Node) (x s v : ℕ) (is : v ≡ x * T + s) (low 
   unfolding variableText
   users-sent {count = count} {rows} {list} {goal = goal} f p e g q =
       let around : ℕ → List ℕ = aroundText T M ns v s in
-      let listed : flat (λ j. around (getD list j 0)) count ≡ eachOf around (users M ns x) =
+      let listed : flat (λ j. around (getD list j 0)) count ≡ gather around (users M ns x) =
       flat-same (λ j. around (getD list j 0)) (λ j. around (getD (users M ns x) j 0)) count (λ j h. ap around (f .are j h))
-      ∙ ap (flat (λ j. around (getD (users M ns x) j 0))) (f .counted) ∙ sym (eachOf-flat around (users M ns x)) in
+      ∙ ap (flat (λ j. around (getD (users M ns x) j 0))) (f .counted) ∙ sym (gather-listed around (users M ns x)) in
       let goals : entryLine v rows goal ≡ entryLine v (length (slackRows T M ns)) (goalRow T M ns) = ap₂ (entryLine v) e g in
-      sent-as (ap₂ _++_ listed goals ∙ ap (λ (w : ℕ). eachOf (aroundText T M ns w s) (users M ns x) ++ entryLine w (length (slackRows T M ns)) (goalRow T M ns)) is) (sent-also p q)
+      sent-as (ap₂ _++_ listed goals ∙ ap (λ (w : ℕ). gather (aroundText T M ns w s) (users M ns x) ++ entryLine w (length (slackRows T M ns)) (goalRow T M ns)) is) (sent-also p q)
 
   abbrev column : List ℕ
   column = columnLines (rowsOf T M ns) (x * T + s)

@@ -19,7 +19,7 @@ use Rattle.mps.specs.Page.{entryLine, eachRow, costLine, columnLines}
 use Rattle.rowlines.specs.Slots.{slotRows, firstRow, slotText}
 use Rattle.rowlines.specs.Laws.{all-text}
 use Rattle.columns.specs.Users.{uses, users, beforeText, aroundText, variableText}
-use Rattle.columns.specs.Picked.{place-unique, flat-none, before, flat-around, eachOf-picked}
+use Rattle.columns.specs.Picked.{place-unique, flat-none, before, flat-around, gather-picked}
 use Rattle.columns.specs.Absent.{Lacks, absent, lines-empty}
 
 -- ---- rows that lack a variable, by the variables that they have
@@ -134,7 +134,7 @@ module _ (T M : ℕ) (ns : List Node) (x s : ℕ) (h : s < T) where
       all-text T M ns (entryLine v)
       ∙ ap (λ (l : List ℕ). l ++ entryLine v (length (slackRows T M ns)) (goalRow T M ns))
       (flat-same (λ n. flat (slotText T M ns (entryLine v) n) T) (aroundText T M ns v s) (length ns) (λ n g. around-is n)
-      ∙ eachOf-picked (aroundText T M ns v s) (λ n. uses M x n (nodeAt ns n)) (length ns) (λ n g. unused n))
+      ∙ gather-picked (aroundText T M ns v s) (λ n. uses M x n (nodeAt ns n)) (length ns) (λ n g. unused n))
 
   -- "A variable in no row has one COST line with 0.": it has that line where it has no others
   pub column-text : columnLines (rowsOf T M ns) (x * T + s) ≡ cond (ltb 0 (length (variableText T M ns x s))) (variableText T M ns x s) (costLine (x * T + s))

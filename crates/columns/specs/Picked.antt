@@ -9,7 +9,8 @@ use native.Mathlib.Omega.{arith}
 use lib.ListN.{length, getD}
 use Rattle.lists.specs.Flat.{flat, flat-zero, flat-first}
 use Rattle.lists.specs.Place.{place-end}
-use Rattle.columns.specs.Users.{eachOf}
+use Rattle.mps.specs.Reading.{gather}
+use Rattle.mps.specs.Gathered.{gather-append}
 
 -- ---- a place y·T + a tells the part y and the slot a
 
@@ -55,30 +56,25 @@ module _ {A : Type 0} (f : ℕ → List A) where
 
 -- ---- the parts of a list of numbers
 
-pub eachOf-append : (f : ℕ → List ℕ) (a b : List ℕ) → eachOf f (a ++ b) ≡ eachOf f a ++ eachOf f b
-unfolding eachOf
-eachOf-append f [] b = refl
-eachOf-append f (n ∷ a) b = ap (λ (l : List ℕ). f n ++ l) (eachOf-append f a b) ∙ sym (append-assoc (f n) (eachOf f a) (eachOf f b))
-
-pub eachOf-flat : (f : ℕ → List ℕ) (us : List ℕ) → eachOf f us ≡ flat (λ j. f (getD us j 0)) (length us)
-unfolding eachOf
-eachOf-flat f [] = sym (flat-zero _)
-eachOf-flat f (n ∷ us) = ap (λ (l : List ℕ). f n ++ l) (eachOf-flat f us) ∙ sym (flat-first (λ j. f (getD (n ∷ us) j 0)) (length us))
+pub gather-listed : (f : ℕ → List ℕ) (us : List ℕ) → gather f us ≡ flat (λ j. f (getD us j 0)) (length us)
+unfolding gather
+gather-listed f [] = sym (flat-zero _)
+gather-listed f (n ∷ us) = ap (λ (l : List ℕ). f n ++ l) (gather-listed f us) ∙ sym (flat-first (λ j. f (getD (n ∷ us) j 0)) (length us))
 
 -- parts that are empty where a test fails: those of the numbers that pass it
 module _ (f : ℕ → List ℕ) (test : ℕ → Bool) where
-  eachOf-one : (n : ℕ) (b : Bool) → (b ≡ false → f n ≡ []) → f n ≡ eachOf f (cond b (n ∷ []) [])
-  unfolding eachOf
-  eachOf-one n true e = sym (append-nil (f n))
-  eachOf-one n false e = e refl
+  gather-one : (n : ℕ) (b : Bool) → (b ≡ false → f n ≡ []) → f n ≡ gather f (cond b (n ∷ []) [])
+  unfolding gather
+  gather-one n true e = sym (append-nil (f n))
+  gather-one n false e = e refl
 
-  pub eachOf-picked : (k : ℕ) → ((n : ℕ) → n < k → test n ≡ false → f n ≡ []) → flat f k ≡ eachOf f (flat (λ n. cond (test n) (n ∷ []) []) k)
-  unfolding flat eachOf
-  eachOf-picked zero e = refl
-  eachOf-picked (suc k) e =
+  pub gather-picked : (k : ℕ) → ((n : ℕ) → n < k → test n ≡ false → f n ≡ []) → flat f k ≡ gather f (flat (λ n. cond (test n) (n ∷ []) []) k)
+  unfolding flat gather
+  gather-picked zero e = refl
+  gather-picked (suc k) e =
       let picked : ℕ → List ℕ = λ n. cond (test n) (n ∷ []) [] in
-      ap₂ _++_ (eachOf-picked k (λ n h. e n (omega arith))) (eachOf-one k (test k) (e k (omega arith)))
-      ∙ sym (eachOf-append f (flat picked k) (picked k))
+      ap₂ _++_ (gather-picked k (λ n h. e n (omega arith))) (gather-one k (test k) (e k (omega arith)))
+      ∙ sym (gather-append f (flat picked k) (picked k))
 
 -- ---- parts of equal length
 

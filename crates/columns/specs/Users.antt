@@ -9,6 +9,7 @@ use Rattle.rules.specs.Table.{Node, nodeAt}
 use Rattle.rules.specs.Table.Node.{atom, unary, binary}
 use Rattle.rules.specs.Rows.{slackRows, goalRow}
 use Rattle.mps.specs.Page.{entryLine}
+use Rattle.mps.specs.Reading.{gather}
 use Rattle.rowlines.specs.Slots.{slotText}
 
 -- The variables come in parts of T: the M atoms', then the nodes'. Whether part x stands in the rows of node n.
@@ -24,11 +25,6 @@ userAt M ns x n = cond (uses M x n (nodeAt ns n)) (n ∷ []) []
 unfoldable pub users : (M : ℕ) → List Node → (x : ℕ) → List ℕ
 users M ns x = flat (userAt M ns x) (length ns)
 
--- a text for each of a list
-unfoldable pub eachOf : (ℕ → List ℕ) → List ℕ → List ℕ
-eachOf f [] = []
-eachOf f (n ∷ l) = f n ++ eachOf f l
-
 module _ (T M : ℕ) (ns : List Node) where
   -- the lines of variable v in the rows of node n before slot s + 1, and at it
   abbrev pub beforeText : (v n s : ℕ) → List ℕ
@@ -40,4 +36,4 @@ module _ (T M : ℕ) (ns : List Node) where
 
   -- the lines of the variable of part x at slot s + 1
   unfoldable pub variableText : (x s : ℕ) → List ℕ
-  variableText x s = eachOf (aroundText (x * T + s) s) (users M ns x) ++ entryLine (x * T + s) (length (slackRows T M ns)) (goalRow T M ns)
+  variableText x s = gather (aroundText (x * T + s) s) (users M ns x) ++ entryLine (x * T + s) (length (slackRows T M ns)) (goalRow T M ns)

@@ -11,7 +11,6 @@ use Rattle.lists.specs.Flat.{flat}
 use Rattle.rules.specs.Rows.{Row}
 use Rattle.mps.specs.Page.{ended, eachRow}
 use Rattle.mps.specs.Reading.{Fields, Section, linesIn, fieldsIn, indented, cut, cutAt, factsIn}
-use Rattle.mps.specs.Facts.{each}
 use Rattle.mps.specs.FieldLaws.{Line, Unbroken}
 
 -- ---- the lines of a text
@@ -81,8 +80,8 @@ module _ {A : Type 0} (fact : Fields → Option A) where
   block-flat text facts (suc n) h = block-both (block-flat text facts n (λ i l. h i (omega arith))) (h n (omega arith))
 
   pub block-each : (text : ℕ → Row → List ℕ) (facts : ℕ → Row → List A) (i : ℕ) (rs : List Row) →
-      ((j : ℕ) (r : Row) → j < i + length rs → Block (text j r) (facts j r)) → Block (eachRow text i rs) (each facts i rs)
-  unfolding eachRow each
+      ((j : ℕ) (r : Row) → j < i + length rs → Block (text j r) (facts j r)) → Block (eachRow text i rs) (eachRow facts i rs)
+  unfolding eachRow
   block-each text facts i [] h = block-none
   block-each text facts i (r ∷ rs) h = block-both (h i r (omega arith)) (block-each text facts (i + 1) rs (λ j q l. h j q (omega arith)))
 

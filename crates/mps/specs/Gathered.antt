@@ -16,12 +16,13 @@ use Rattle.mps.specs.Reading.ColumnFact.{entry, cost}
 use Rattle.mps.specs.Reading.RightFact.{right}
 use Rattle.mps.specs.Reading.Stated.{numbered}
 use Rattle.mps.specs.Says.{mergedRows, costOf}
-use Rattle.mps.specs.Facts.{each, rowFacts, entryFacts, columnFacts, rightFacts}
+use Rattle.mps.specs.Page.{eachRow}
+use Rattle.mps.specs.Facts.{rowFacts, entryFacts, columnFacts, rightFacts}
 
 -- ---- gathering from parts
 
 module _ {A B : Type 0} (f : A → List B) where
-  gather-append : (a b : List A) → gather f (a ++ b) ≡ gather f a ++ gather f b
+  pub gather-append : (a b : List A) → gather f (a ++ b) ≡ gather f a ++ gather f b
   unfolding gather
   gather-append [] b = refl
   gather-append (x ∷ a) b = ap (λ (l : List B). f x ++ l) (gather-append a b) ∙ sym (append-assoc (f x) (gather f a) (gather f b))
@@ -31,24 +32,24 @@ module _ {A B : Type 0} (f : A → List B) where
   gather-flat g zero = refl
   gather-flat g (suc n) = gather-append (flat g n) (g n) ∙ ap (λ (l : List B). l ++ gather f (g n)) (gather-flat g n)
 
-  gather-each : (g : ℕ → Row → List A) (i : ℕ) (rs : List Row) → gather f (each g i rs) ≡ each (λ j r. gather f (g j r)) i rs
-  unfolding gather each
+  gather-each : (g : ℕ → Row → List A) (i : ℕ) (rs : List Row) → gather f (eachRow g i rs) ≡ eachRow (λ j r. gather f (g j r)) i rs
+  unfolding gather eachRow
   gather-each g i [] = refl
   gather-each g i (r ∷ rs) =
-      gather-append (g i r) (each g (i + 1) rs) ∙ ap (λ (l : List B). gather f (g i r) ++ l) (gather-each g (i + 1) rs)
+      gather-append (g i r) (eachRow g (i + 1) rs) ∙ ap (λ (l : List B). gather f (g i r) ++ l) (gather-each g (i + 1) rs)
 
 -- ---- one row of all
 
 module _ {A : Type 0} (f : ℕ → Row → List A) where
-  each-none : (i : ℕ) (rs : List Row) → ((j : ℕ) (r : Row) → i ≤ j → f j r ≡ []) → each f i rs ≡ []
-  unfolding each
+  each-none : (i : ℕ) (rs : List Row) → ((j : ℕ) (r : Row) → i ≤ j → f j r ≡ []) → eachRow f i rs ≡ []
+  unfolding eachRow
   each-none i [] h = refl
   each-none i (r ∷ rs) h = ap₂ _++_ (h i r (omega arith)) (each-none (i + 1) rs (λ j q l. h j q (omega arith)))
 
   -- only row k, which follows those of `done`, has something
   each-one : (k i : ℕ) (done : List Row) (r : Row) (rest : List Row) → i + length done ≡ k →
-      ((j : ℕ) (q : Row) → (j ≡ k → ⊥) → f j q ≡ []) → each f i (done ++ (r ∷ rest)) ≡ f k r
-  unfolding each
+      ((j : ℕ) (q : Row) → (j ≡ k → ⊥) → f j q ≡ []) → eachRow f i (done ++ (r ∷ rest)) ≡ f k r
+  unfolding eachRow
   each-one k i [] r rest e h =
       let e′ : i ≡ k = omega arith in
       ap (λ (l : List A). f i r ++ l) (each-none (i + 1) rest (λ j q l. h j q (λ d. omega arith))) ∙ append-nil (f i r) ∙ ap (λ (j : ℕ). f j r) e′
@@ -63,8 +64,8 @@ unless-stands : (dropped rest : Bool) → (not dropped || rest) ≡ false → (d
 unless-stands true rest e = (refl, e)
 unless-stands false rest e = absurd (true≢false e)
 
-no-entries : (v i : ℕ) (rs : List Row) → stands v rs ≡ false → each (entryFacts v) i rs ≡ []
-unfolding stands each
+no-entries : (v i : ℕ) (rs : List Row) → stands v rs ≡ false → eachRow (entryFacts v) i rs ≡ []
+unfolding stands eachRow
 no-entries v i [] e = refl
 no-entries v i (r ∷ rs) e =
     let h = unless-stands (isZero (coefficient v (r .terms))) (stands v rs) e in
@@ -82,12 +83,12 @@ unfolding gather
 other-row true k j v c h = refl
 other-row false k j v c h = rw (ne-eqb j k h) refl
 
-column-entries : (k v : ℕ) (all : List Row) → gather (termIn k) (columnFacts all v) ≡ gather (termIn k) (each (entryFacts v) 0 all)
+column-entries : (k v : ℕ) (all : List Row) → gather (termIn k) (columnFacts all v) ≡ gather (termIn k) (eachRow (entryFacts v) 0 all)
 unfolding gather
 column-entries k v all = go (stands v all) refl
   where
     go : (b : Bool) → stands v all ≡ b →
-        gather (termIn k) (cond b (each (entryFacts v) 0 all) (cost v (pos 0) ∷ [])) ≡ gather (termIn k) (each (entryFacts v) 0 all)
+        gather (termIn k) (cond b (eachRow (entryFacts v) 0 all) (cost v (pos 0) ∷ [])) ≡ gather (termIn k) (eachRow (entryFacts v) 0 all)
     go true e = refl
     go false e = rw (no-entries v 0 all e) refl
 
@@ -112,7 +113,7 @@ module _ (all done : List Row) (r : Row) (rest : List Row) (e : all ≡ done ++ 
   column-terms v =
       let k = length done in
       column-entries k v all ∙ gather-each (termIn k) (entryFacts v) 0 all ∙
-      ap (each (λ j q. gather (termIn k) (entryFacts v j q)) 0) e ∙
+      ap (eachRow (λ j q. gather (termIn k) (entryFacts v j q)) 0) e ∙
       each-one (λ j q. gather (termIn k) (entryFacts v j q)) k 0 done r rest (omega arith)
       (λ j q d. other-row (isZero (coefficient v (q .terms))) k j v (coefficient v (q .terms)) d) ∙
       own-row (isZero (coefficient v (r .terms))) k v (coefficient v (r .terms))
@@ -124,11 +125,11 @@ module _ (all done : List Row) (r : Row) (rest : List Row) (e : all ≡ done ++ 
 
   -- ---- its right side
 
-  row-right : firstOf (gather (rightIn (length done)) (each rightFacts 0 all)) ≡ r .right
+  row-right : firstOf (gather (rightIn (length done)) (eachRow rightFacts 0 all)) ≡ r .right
   row-right =
       let k = length done in
       ap firstOf
-      (gather-each (rightIn k) rightFacts 0 all ∙ ap (each (λ j q. gather (rightIn k) (rightFacts j q)) 0) e ∙
+      (gather-each (rightIn k) rightFacts 0 all ∙ ap (eachRow (λ j q. gather (rightIn k) (rightFacts j q)) 0) e ∙
       each-one (λ j q. gather (rightIn k) (rightFacts j q)) k 0 done r rest (omega arith) (λ j q d. other-right (isZero (q .right)) k j (q .right) d)) ∙
       own-right k (r .right)
 
@@ -136,15 +137,15 @@ module _ (all done : List Row) (r : Row) (rest : List Row) (e : all ≡ done ++ 
 
 module _ (n : ℕ) (all : List Row) where
   rows-after : (done rest : List Row) → all ≡ done ++ rest →
-      gather (stated (flat (columnFacts all) n) (each rightFacts 0 all)) (each rowFacts (length done) rest) ≡ mergedRows n (length done) rest
-  unfolding gather each merged
+      gather (stated (flat (columnFacts all) n) (eachRow rightFacts 0 all)) (eachRow rowFacts (length done) rest) ≡ mergedRows n (length done) rest
+  unfolding gather eachRow merged
   rows-after done [] e = refl
   rows-after done (r ∷ rest) e =
       ap₂ (λ (q : Row) (l : List Stated). numbered (length done) q ∷ l)
       (row-is (r .relation) (row-terms all done r rest e n) (row-right all done r rest e))
       (rw length-append at (rows-after (done ++ (r ∷ [])) rest (e ∙ sym (append-assoc done (r ∷ []) rest))))
 
-  pub rows-gathered : gather (stated (flat (columnFacts all) n) (each rightFacts 0 all)) (each rowFacts 0 all) ≡ mergedRows n 0 all
+  pub rows-gathered : gather (stated (flat (columnFacts all) n) (eachRow rightFacts 0 all)) (eachRow rowFacts 0 all) ≡ mergedRows n 0 all
   rows-gathered = rows-after [] all refl
 
 -- ---- costs and bounds
@@ -154,14 +155,14 @@ unfolding gather
 entry-free true v i c = refl
 entry-free false v i c = refl
 
-entries-free : (v i : ℕ) (rs : List Row) → gather costIn (each (entryFacts v) i rs) ≡ []
+entries-free : (v i : ℕ) (rs : List Row) → gather costIn (eachRow (entryFacts v) i rs) ≡ []
 entries-free v i rs =
     gather-each costIn (entryFacts v) i rs ∙
     each-none (λ j q. gather costIn (entryFacts v j q)) i rs
     (λ j q h. entry-free (isZero (coefficient v (q .terms))) v j (coefficient v (q .terms)))
 
 cost-by : (b : Bool) (v : ℕ) (rs : List Row) →
-    gather costIn (cond b (each (entryFacts v) 0 rs) (cost v (pos 0) ∷ [])) ≡ cond b [] (record { coefficient = pos 0; variable = v } ∷ [])
+    gather costIn (cond b (eachRow (entryFacts v) 0 rs) (cost v (pos 0) ∷ [])) ≡ cond b [] (record { coefficient = pos 0; variable = v } ∷ [])
 unfolding gather
 cost-by true v rs = entries-free v 0 rs
 cost-by false v rs = refl

@@ -58,10 +58,11 @@ entryLine v i r = numberUnlessZero (variableName v) i (coefficient v (r .terms))
 abbrev pub rightLine : (i : ℕ) → Row → List ℕ
 rightLine i r = numberUnlessZero RHS i (r .right)
 
--- a text for each row, one after the other, from row i on
-unfoldable pub eachRow : (ℕ → Row → List ℕ) → ℕ → List Row → List ℕ
-eachRow line i [] = []
-eachRow line i (r ∷ rs) = line i r ++ eachRow line (i + 1) rs
+-- what each row gives, one after the other, from row i on
+module _ {A : Type 0} where
+  unfoldable pub eachRow : (ℕ → Row → List A) → ℕ → List Row → List A
+  eachRow f i [] = []
+  eachRow f i (r ∷ rs) = f i r ++ eachRow f (i + 1) rs
 
 -- "A variable in no row has one COST line with 0."
 unfoldable pub costLine : ℕ → List ℕ

@@ -13,7 +13,7 @@ use Rattle.mps.specs.Page.{typeLine, rowLine, entryLine, rightLine, each
 use Rattle.mps.specs.Reading.{rowFact, columnFact, rightFact, boundFact, gather, same, saidBy, sixSaid, reading}
 use Rattle.mps.specs.Reading.RowFact.{free}
 use Rattle.mps.specs.Says.{boundOf, saidOf}
-use Rattle.mps.specs.Facts.{each, rowFacts, entryFacts, columnFacts, rightFacts}
+use Rattle.mps.specs.Facts.{rowFacts, entryFacts, columnFacts, rightFacts}
 use Rattle.mps.specs.Blocks.{Block, block-both, block-cond, block-flat, block-each, block-facts, Sectioned, no-sections, bare-headed, headed}
 use Rattle.mps.specs.LineFacts.{free-line, row-line, entry-unless-zero, cost-line, right-unless-zero, bound-line}
 use Rattle.mps.specs.Gathered.{rows-gathered, costs-gathered, flat-tabulate}
@@ -21,7 +21,7 @@ use Rattle.mps.specs.Gathered.{rows-gathered, costs-gathered, flat-tabul
 module _ (atoms variables : ℕ) (rs : List Row) (short : variables ≤ 100000) (few : length rs ≤ 100000) where
   -- ---- what each section's lines say
 
-  row-block : Block rowFact (typeLine N COST ++ eachRow rowLine 0 rs) (free ∷ each rowFacts 0 rs)
+  row-block : Block rowFact (typeLine N COST ++ eachRow rowLine 0 rs) (free ∷ eachRow rowFacts 0 rs)
   row-block = block-both rowFact free-line (block-each rowFact rowLine rowFacts 0 rs (λ i r h. row-line i r (omega arith)))
 
   column-block : (v : ℕ) → v < 100000 → Block columnFact (columnLines rs v) (columnFacts rs v)
@@ -34,7 +34,7 @@ module _ (atoms variables : ℕ) (rs : List Row) (short : variables ≤ 100000) 
   column-blocks : Block columnFact (flat (columnLines rs) variables) (flat (columnFacts rs) variables)
   column-blocks = block-flat columnFact (columnLines rs) (columnFacts rs) variables (λ v h. column-block v (omega arith))
 
-  right-block : Block rightFact (eachRow rightLine 0 rs) (each rightFacts 0 rs)
+  right-block : Block rightFact (eachRow rightLine 0 rs) (eachRow rightFacts 0 rs)
   right-block = block-each rightFact rightLine rightFacts 0 rs (λ i r h. right-unless-zero i (r .right) (omega arith))
 
   bound-block : Block boundFact (flat (boundLine atoms) variables) (flat (λ v. boundOf atoms v ∷ []) variables)

@@ -30,7 +30,7 @@ unfoldable pub trimmed : List ℕ → List ℕ
 trimmed [] = []
 trimmed (b ∷ l) = unlessEnd b (trimmed l)
 
--- "Fields start in columns 2, 5, 15 and 25 and are left-aligned": a field goes up to the next one, and the last up to the line's end
+-- "Fields start in columns 2, 5, 15 and 25 and are left-aligned": a field goes up to the next one, and the last up to the line's end. Columns count from 1, so what is before the field is one less.
 pub record Fields : Type 0 where
   pub first : List ℕ
   pub second : List ℕ

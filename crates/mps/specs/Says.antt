@@ -1,5 +1,5 @@
 -- "What the page says, read by the column rules, must be exactly the rows of the table after that adding and dropping."
--- The statements; their proofs stand in Proved.
+-- The statements; their proofs stand in Proved and in Meaning.
 use mathlib.Core.Path.{_≡_}
 use mathlib.Core.Logic.{_↔_}
 use mathlib.Core.Bool.{cond}

@@ -1,5 +1,5 @@
--- What is known of input that was read: a scan stands for some bytes, in the order in which they came.
-use mathlib.Core.Path.{_≡_, refl, sym, ap, _∙_}
+-- What is known of input that was read: the scan stands for some bytes. Which ones the C library handed over no contract says.
+use mathlib.Core.Path.{_≡_, sym, ap, _∙_}
 use mathlib.Core.List.{List, [], _++_}
 use Prim.Native.Nat.{ℕ}
 use lib.ListN.{length}

@@ -21,7 +21,7 @@ fn read_some(scan: input::Scan, text: &mut [u8]) -> Turn
     Turn::More(input::feed(scan, &buffer[..n], text))
 }
 
-// Reads the input to its end. The scan and the text that it keeps stand for what was read.
+// Reads the input to its end. The scan and the text that it keeps stand for some bytes, scanned from the start; that these are the input's is not in the contract, which knows nothing of it.
 pub fn read_all(text: &mut [u8]) -> input::Scan
     ensures { λ r. ⌜ Scanned (length (now (text .entry))) r (now (text .exit)) ⌝ }
 {
