@@ -3,9 +3,11 @@ pub mod Demand2
 pub mod Demand3
 pub mod Passed
 pub mod Shortfall
+pub mod RowSum
 pub mod Page
 pub mod Refusing
 pub mod Answering
 pub mod Passing
 pub mod Carrying
+pub mod Summing
 pub mod Paging

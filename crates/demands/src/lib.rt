@@ -1,15 +1,20 @@
 // The demands, as the contracts of functions that only make the calls.
 ghost use Rattle.answers.specs.Told.{told};
+ghost use Rattle.row.specs.Meaning.{termsOf};
+ghost use Rattle.sums.specs.Summed.{summed};
 ghost use Rattle.judge.specs.Ruled.{ruled};
 ghost use Rattle.demands.specs.Demand1.{ReaderRefuses, EvaluatorRefuses, RowWriterRefuses, JudgeRefuses};
 ghost use Rattle.demands.specs.Demand2.{ReaderAnswers, EvaluatorAnswers, RowWriterAnswers, JudgeAnswers};
 ghost use Rattle.demands.specs.Demand3.{Demanded};
 ghost use Rattle.demands.specs.Passed.{PassedMeans, PassedAtZero};
 ghost use Rattle.demands.specs.Shortfall.{SameVerdict, CarriesShortfall};
+ghost use Rattle.demands.specs.RowSum.{PositiveFirst, SummedVerdict};
 ghost use Rattle.demands.specs.Page.{PageRefuses, PageAnswers, PageMeans};
 use answers::Answer;
 use answers::Refusal;
 use judge::Ruling;
+use row::Terms;
+use sums::RowSum;
 
 // Demands 1 and 2 of the reader.
 pub fn read(text: &[u8], m: usize, out: &mut [u8]) -> Answer
@@ -35,7 +40,7 @@ pub fn write_rows(table: &[u8], t: usize, m: usize, out: &mut [u8]) -> Answer
     rows::write_rows(table, t, m, out)
 }
 
-// Demands 1 and 2 of the judge, what a passed verdict means, and what a broken one carries.
+// Demands 1 and 2 of the judge, what a passed verdict means, what a broken one carries, and the verdict by row sums.
 pub fn judge_figures(table: &[u8], t: usize, m: usize, figures: &[i32], e: i32) -> Ruling
     ensures { λ r. ⌜ JudgeRefuses t m (now (table .entry)) (now (figures .entry)) e (ruled r) ⌝ }
     ensures { λ r. ⌜ JudgeAnswers t m (now (table .entry)) (now (figures .entry)) e (ruled r) ⌝ }
@@ -43,8 +48,16 @@ pub fn judge_figures(table: &[u8], t: usize, m: usize, figures: &[i32], e: i32) 
     ensures { λ r. ⌜ PassedAtZero t m (now (table .entry)) (now (figures .entry)) e (ruled r) ⌝ }
     ensures { λ r. ⌜ SameVerdict t m (now (table .entry)) (now (figures .entry)) e (ruled r) ⌝ }
     ensures { λ r. ⌜ CarriesShortfall t m (now (table .entry)) (now (figures .entry)) e (ruled r) ⌝ }
+    ensures { λ r. ⌜ SummedVerdict t m (now (table .entry)) (now (figures .entry)) e (ruled r) ⌝ }
 {
     judge::judge(table, t, m, figures, e)
+}
+
+// The row sum of a row's terms, in whatever order they stand.
+pub fn row_sum(figures: &[i32], terms: Terms) -> RowSum
+    ensures { λ r. ⌜ PositiveFirst (now (figures .entry)) (termsOf terms) (summed r) ⌝ }
+{
+    sums::row_sum(figures, terms)
 }
 
 // Demands 1 and 2 of the page writer, and what its page says.

@@ -7,20 +7,14 @@ use native.Mathlib.Omega.{arith}
 use native.Mathlib.Decide.{decLt}
 use lib.Dec.{eqb}
 use borrow.Author.Tests.{eq-eqb, ne-eqb}
-use lib.IntN.{ℤ, pos, negsuc, sucℤ, predℤ, negℤ, _+ℤ_, _-ℤ_, _*ℤ_, +ℤ-idl, +ℤ-idr, +ℤ-assoc, +ℤ-comm, sucℤ-+ℤ, predℤ-+ℤ, zero-*ℤ, sucℤ-*ℤ, predℤ-*ℤ}
+use lib.IntN.{ℤ, pos, negsuc, sucℤ, predℤ, negℤ, _+ℤ_, _-ℤ_, _*ℤ_, +ℤ-idl, +ℤ-idr, +ℤ-assoc, sucℤ-+ℤ, predℤ-+ℤ, zero-*ℤ, sucℤ-*ℤ, predℤ-*ℤ}
 use Rattle.lists.specs.Every.{Every}
 use Rattle.lists.specs.Flat.{flat}
+use Rattle.ints.specs.Sums.{swap-last, swap-middle}
 use Rattle.rules.specs.Rows.{Term, Row, valueAt, sumOf}
 use Rattle.mps.specs.Merged.{coefficient, termOf, merged}
 
--- ---- integers: sums of four, and a sum as a factor
-
-swap-last : (a b c : ℤ) → a +ℤ b +ℤ c ≡ a +ℤ c +ℤ b
-swap-last a b c = +ℤ-assoc a b c ∙ ap (λ (z : ℤ). a +ℤ z) (+ℤ-comm b c) ∙ sym (+ℤ-assoc a c b)
-
-swap-middle : (a b c d : ℤ) → (a +ℤ b) +ℤ (c +ℤ d) ≡ (a +ℤ c) +ℤ (b +ℤ d)
-swap-middle a b c d =
-    sym (+ℤ-assoc (a +ℤ b) c d) ∙ ap (λ (z : ℤ). z +ℤ d) (swap-last a b c) ∙ +ℤ-assoc (a +ℤ c) b d
+-- ---- integers: a sum as a factor
 
 times-suc : (a b x : ℤ) → (a +ℤ b) *ℤ x ≡ a *ℤ x +ℤ b *ℤ x → (sucℤ a +ℤ b) *ℤ x ≡ sucℤ a *ℤ x +ℤ b *ℤ x
 times-suc a b x e =

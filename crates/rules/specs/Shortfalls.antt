@@ -8,8 +8,9 @@ use native.Mathlib.Omega.{arith}
 use native.Mathlib.Decide.{decLt}
 use borrow.Author.Tests.{ltb-true, lt-ltb, le-ltb}
 use lib.Dec.{ltb, ltb→lt, lt→ltb}
-use lib.IntN.{ℤ, pos, negsuc, negℤ, natAbs, _+ℤ_, _-ℤ_, _*ℤ_, +ℤ-idr, +ℤ-assoc, +ℤ-comm}
+use lib.IntN.{ℤ, pos, negsuc, negℤ, natAbs, _-ℤ_, _*ℤ_, +ℤ-idr}
 use lib.Signed.{ltZ, _<ℤ_}
+use Rattle.ints.specs.Sums.{swap-last}
 use Rattle.rules.specs.Quantities.{one}
 use Rattle.rules.specs.Rows.{Relation, Row, sumOf}
 use Rattle.rules.specs.Rows.Relation.{at-least, equal}
@@ -36,13 +37,9 @@ below-difference (negsuc a) (pos b) = sym (lt-ltb 0 (b + suc a) (omega arith))
 below-difference (negsuc a) (negsuc b) =
     same-test b a (suc b) (suc a) (λ h. omega arith) (λ h. omega arith) ∙ difference-above (suc a) (suc b) (ltb (suc a) (suc b)) refl
 
-swapped : (b c d : ℤ) → b -ℤ c -ℤ d ≡ b -ℤ d -ℤ c
-swapped b c d =
-    +ℤ-assoc b (negℤ c) (negℤ d) ∙ ap (λ (z : ℤ). b +ℤ z) (+ℤ-comm (negℤ c) (negℤ d)) ∙ sym (+ℤ-assoc b (negℤ d) (negℤ c))
-
 -- s is below b less e exactly where e is below b less s
 below-less : (e b s : ℤ) → ltZ s (b -ℤ e) ≡ ltZ e (b -ℤ s)
-below-less e b s = below-difference s (b -ℤ e) ∙ ap (ltZ (pos 0)) (swapped b e s) ∙ sym (below-difference e (b -ℤ s))
+below-less e b s = below-difference s (b -ℤ e) ∙ ap (ltZ (pos 0)) (swap-last b (negℤ e) (negℤ s)) ∙ sym (below-difference e (b -ℤ s))
 
 -- ---- broken, by the shortfall
 

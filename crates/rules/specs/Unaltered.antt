@@ -1,11 +1,19 @@
--- "Which verdict is given does not alter": without its shortfall, the judge's verdict is the one of before (request N1).
-use mathlib.Core.Path.{_≡_, refl}
+-- The judge's verdict does not alter.
+use mathlib.Core.Path.{_≡_, refl, sym, ap, subst}
+use mathlib.Core.Logic.{_↔_}
 use mathlib.Core.List.{List}
 use Prim.Native.Nat.{ℕ}
-use lib.IntN.{ℤ}
+use lib.IntN.{ℤ, pos, _*ℤ_}
+use Rattle.rules.specs.Quantities.{one}
 use Rattle.rules.specs.Table.{Node}
+use Rattle.rules.specs.Rows.{Row}
+use Rattle.rules.specs.Judge.{BrokenBy, shortfallBy, Lowest, None, rowAt}
 use Rattle.rules.specs.Judge as Now
 use Rattle.rules.specs.Before.{Verdict, Judged, withoutShortfall}
+use Rattle.rules.specs.RowSum as Summed
+use Rattle.rules.specs.RowSumLaws.{whole-is}
+
+-- ---- request N1, "Which verdict is given does not alter": without its shortfall, the verdict is the one of before
 
 module _ {T M e : ℕ} {ns : List Node} {xs : List ℤ} where
   pub judged-before : {v : Now.Verdict} → Now.Judged T M e ns xs v → Judged T M e ns xs (withoutShortfall v)
@@ -19,3 +27,46 @@ module _ {T M e : ℕ} {ns : List Node} {xs : List ℤ} where
   judged-now (Judged.is-not-binary p h) = (_, Now.Judged.is-not-binary p h, refl)
   judged-now (Judged.is-broken p q h) = (_, Now.Judged.is-broken p q h, refl)
   judged-now (Judged.is-passed p q r) = (_, Now.Judged.is-passed p q r, refl)
+
+-- ---- request N3: with the second number of the row sum for a row's sum, the verdict is the same, its shortfall too
+
+pub same-shortfall : (xs : List ℤ) (r : Row) → Summed.shortfall xs r ≡ Now.shortfall xs r
+same-shortfall xs r = ap (λ (z : ℤ). shortfallBy (r .relation) (r .right *ℤ pos one) z) (whole-is xs (r .terms))
+
+pub same-broken : (e : ℕ) (xs : List ℤ) (r : Row) → Summed.Broken e xs r ↔ Now.Broken e xs r
+same-broken e xs r =
+    let same = whole-is xs (r .terms) in
+    let by : ℤ → Type 0 = λ z. BrokenBy (r .relation) e (r .right *ℤ pos one) z in
+    (subst by same, subst by (sym same))
+
+module _ {P Q : ℕ → Type 0} where
+  lowest-same : ((k : ℕ) → P k ↔ Q k) → {n : ℕ} → Lowest P n → Lowest Q n
+  lowest-same iff {n} h = record { holds = iff n .0 (h .holds); below = λ k l q. h .below k l (iff k .1 q) }
+
+  none-same : ((k : ℕ) → P k ↔ Q k) → None P → None Q
+  none-same iff h = λ k q. h k (iff k .1 q)
+
+module _ (T M e : ℕ) (ns : List Node) (xs : List ℤ) where
+  same-at : (i : ℕ) → Summed.BrokenAt T M e ns xs i ↔ Now.BrokenAt T M e ns xs i
+  same-at i = let iff = same-broken e xs (rowAt T M ns i) in (λ h. (h .0, iff .0 (h .1)), λ h. (h .0, iff .1 (h .1)))
+
+  back-at : (i : ℕ) → Now.BrokenAt T M e ns xs i ↔ Summed.BrokenAt T M e ns xs i
+  back-at i = (same-at i .1, same-at i .0)
+
+  same-verdict : (i : ℕ) → Now.Verdict.broken i (Summed.shortfall xs (rowAt T M ns i)) ≡ Now.Verdict.broken i (Now.shortfall xs (rowAt T M ns i))
+  same-verdict i = ap (Now.Verdict.broken i) (same-shortfall xs (rowAt T M ns i))
+
+  summed-now : {v : Now.Verdict} → Summed.Judged T M e ns xs v → Now.Judged T M e ns xs v
+  summed-now (Summed.Judged.is-outside h) = Now.Judged.is-outside h
+  summed-now (Summed.Judged.is-not-binary p h) = Now.Judged.is-not-binary p h
+  summed-now (Summed.Judged.is-broken {i} p q h) = subst (Now.Judged T M e ns xs) (sym (same-verdict i)) (Now.Judged.is-broken p q (lowest-same same-at h))
+  summed-now (Summed.Judged.is-passed p q r) = Now.Judged.is-passed p q (none-same same-at r)
+
+  now-summed : {v : Now.Verdict} → Now.Judged T M e ns xs v → Summed.Judged T M e ns xs v
+  now-summed (Now.Judged.is-outside h) = Summed.Judged.is-outside h
+  now-summed (Now.Judged.is-not-binary p h) = Summed.Judged.is-not-binary p h
+  now-summed (Now.Judged.is-broken {i} p q h) = subst (Summed.Judged T M e ns xs) (same-verdict i) (Summed.Judged.is-broken p q (lowest-same back-at h))
+  now-summed (Now.Judged.is-passed p q r) = Summed.Judged.is-passed p q (none-same back-at r)
+
+  pub judged-summed : (v : Now.Verdict) → Summed.Judged T M e ns xs v ↔ Now.Judged T M e ns xs v
+  judged-summed v = (summed-now, now-summed)

@@ -1,1 +1,3 @@
+pub mod Summed
+pub mod Sums
 pub mod Laws

@@ -5,13 +5,15 @@ use row::Row;
 use row::Term;
 use row::Terms;
 ghost use mathlib.Core.Path.{_≡_};
+ghost use mathlib.Core.List.{[], _∷_};
 ghost use Prim.Native.Nat.{_+_, _≤_};
 ghost use lib.IntN.{ℤ, pos, natAbs, _-ℤ_, _*ℤ_};
 ghost use Rattle.rules.specs.Quantities as Quantities;
-ghost use Rattle.rules.specs.Rows.{valueAt, sumOf};
+ghost use Rattle.rules.specs.Rows.{valueAt};
 ghost use Rattle.rules.specs.Judge as Judge;
 ghost use Rattle.rules.specs.Verdicts.{apart, isOutside, isNotBinary};
-ghost use Rattle.sums.specs.Laws.{shortOf, offOf, pairOf, tripleOf};
+ghost use Rattle.sums.specs.Sums.{added, passed, of, Sums, pairOf, tripleOf};
+ghost use Rattle.sums.specs.Laws.{shortOf, offOf};
 ghost use Rattle.millionths.specs.Unit.{ofTruth};
 ghost use Rattle.row.specs.Meaning.{termsOf, rowOf};
 
@@ -103,18 +105,50 @@ fn scaled(right: i8) -> i64
     product(right, Millionths::ONE.value)
 }
 
-// The sum of two terms.
-pub fn pair(j: i8, x: i32, k: i8, y: i32) -> i64
-    ensures { λ r. ⌜ (r ≡ pairOf j x k y) × (natAbs r ≤ 824633720832) ⌝ }
-{
-    product(j, x) + product(k, y)
+// The sum of a row, its terms added in the order of the solver's trace: those with a positive coefficient first.
+pub struct RowSum {
+    // the sum reached after those
+    pub positive: i64,
+    // the sum of all terms
+    pub whole: i64,
 }
 
-// The sum of three terms.
-pub fn triple(j: i8, x: i32, k: i8, y: i32, l: i8, z: i32) -> i64
-    ensures { λ r. ⌜ (r ≡ tripleOf j x k y l z) × (natAbs r ≤ 824633720832) ⌝ }
+// A sum and one more term, if it is taken.
+fn add(sum: i64, taken: bool, term: i64) -> i64
+    requires { ⌜ (natAbs sum ≤ 1374389534720) × (natAbs term ≤ 274877906944) ⌝ }
+    ensures { λ r. ⌜ (r ≡ added sum taken term) × (natAbs r ≤ natAbs sum + 274877906944) ⌝ }
 {
-    product(j, x) + (product(k, y) + product(l, z))
+    if taken { sum + term } else { sum }
+}
+
+// A pass through three terms: a sum and those of them that are taken, one after the other.
+fn pass(sum: i64, p: bool, a: i64, q: bool, b: i64, s: bool, c: i64) -> i64
+    requires { ⌜ (natAbs sum ≤ 824633720832) × (natAbs a ≤ 274877906944) × (natAbs b ≤ 274877906944) × (natAbs c ≤ 274877906944) ⌝ }
+    ensures { λ r. ⌜ (r ≡ passed sum p a q b s c) × (natAbs r ≤ natAbs sum + 824633720832) ⌝ }
+{
+    add(add(add(sum, p, a), q, b), s, c)
+}
+
+// The row sum of three terms.
+pub fn triple(j: i8, x: i32, k: i8, y: i32, l: i8, z: i32) -> RowSum
+    ensures { λ r. ⌜ Sums (x ∷ y ∷ z ∷ []) (of j 0 ∷ of k 1 ∷ of l 2 ∷ []) r ⌝ }
+{
+    let a = product(j, x);
+    let b = product(k, y);
+    let c = product(l, z);
+    let positive = pass(0, 0 < j, a, 0 < k, b, 0 < l, c);
+    let whole = pass(positive, !(0 < j), a, !(0 < k), b, !(0 < l), c);
+    RowSum {
+        positive: positive,
+        whole: whole,
+    }
+}
+
+// The row sum of two terms: the third is zero.
+pub fn pair(j: i8, x: i32, k: i8, y: i32) -> RowSum
+    ensures { λ r. ⌜ Sums (x ∷ y ∷ []) (of j 0 ∷ of k 1 ∷ []) r ⌝ }
+{
+    triple(j, x, k, y, 0, 0)
 }
 
 // What a sum falls short of the right side by.
@@ -137,37 +171,46 @@ fn off(right: i8, sum: i64) -> i64
 pub fn pair_short(j: i8, x: i32, k: i8, y: i32, right: i8) -> i64
     ensures { λ r. ⌜ (r ≡ shortOf right (pairOf j x k y)) × (natAbs r ≤ 1099511627776) ⌝ }
 {
-    short(right, pair(j, x, k, y))
+    let sum = pair(j, x, k, y);
+    short(right, sum.whole)
 }
 
 // How far jx + ky is from the right side.
 pub fn pair_off(j: i8, x: i32, k: i8, y: i32, right: i8) -> i64
     ensures { λ r. ⌜ (r ≡ offOf right (pairOf j x k y)) × (natAbs r ≤ 1099511627776) ⌝ }
 {
-    off(right, pair(j, x, k, y))
+    let sum = pair(j, x, k, y);
+    off(right, sum.whole)
 }
 
 // What jx + ky + lz falls short of the right side by.
 pub fn triple_short(j: i8, x: i32, k: i8, y: i32, l: i8, z: i32, right: i8) -> i64
     ensures { λ r. ⌜ (r ≡ shortOf right (tripleOf j x k y l z)) × (natAbs r ≤ 1099511627776) ⌝ }
 {
-    short(right, triple(j, x, k, y, l, z))
+    let sum = triple(j, x, k, y, l, z);
+    short(right, sum.whole)
 }
 
-fn term(figures: &[i32], t: Term) -> i64
-    ensures { λ r. ⌜ (r ≡ t .coefficient *ℤ valueAt (now (figures .entry)) (t .variable)) × (natAbs r ≤ 274877906944) ⌝ }
-{
-    product(t.coefficient, figure_of(figures, t.variable))
-}
-
-// The sum of a row's terms over the figures.
-pub fn row_sum(figures: &[i32], terms: Terms) -> i64
-    ensures { λ r. ⌜ (r ≡ sumOf (now (figures .entry)) (termsOf terms)) × (natAbs r ≤ 824633720832) ⌝ }
+// The row sum of terms over the figures.
+pub fn row_sum(figures: &[i32], terms: Terms) -> RowSum
+    ensures { λ r. ⌜ Sums (now (figures .entry)) (termsOf terms) r ⌝ }
 {
     match terms {
-        Terms::Single(a) => term(figures, a),
-        Terms::Pair(a, b) => term(figures, a) + term(figures, b),
-        Terms::Triple(a, b, c) => term(figures, a) + (term(figures, b) + term(figures, c)),
+        Terms::Single(a) => {
+            let x = figure_of(figures, a.variable);
+            pair(a.coefficient, x, 0, 0)
+        }
+        Terms::Pair(a, b) => {
+            let x = figure_of(figures, a.variable);
+            let y = figure_of(figures, b.variable);
+            pair(a.coefficient, x, b.coefficient, y)
+        }
+        Terms::Triple(a, b, c) => {
+            let x = figure_of(figures, a.variable);
+            let y = figure_of(figures, b.variable);
+            let z = figure_of(figures, c.variable);
+            triple(a.coefficient, x, b.coefficient, y, c.coefficient, z)
+        }
     }
 }
 
@@ -180,7 +223,7 @@ pub fn shortfall(row: Row, figures: &[i32]) -> i64
     let terms = row.terms;
     let sum = row_sum(figures, terms);
     match relation {
-        Relation::AtLeast => short(right, sum),
-        Relation::Equal => off(right, sum),
+        Relation::AtLeast => short(right, sum.whole),
+        Relation::Equal => off(right, sum.whole),
     }
 }

@@ -1,4 +1,4 @@
--- `demands::judge_figures` meets its contract: demands 1 and 2 and what a passed verdict means, from the contract of `judge::judge`.
+-- `demands::judge_figures` meets its contract: demands 1 and 2 and what its verdicts mean, from the contract of `judge::judge`.
 use mathlib.Core.Path.{ap, _∙_}
 use mir.Facts.{toZ-ofZ}
 use Rattle.rules.specs.Outcome.{judgeOutcome}
@@ -7,6 +7,7 @@ use Rattle.demands.specs.Refusing.{judge-refuses}
 use Rattle.demands.specs.Answering.{judge-answers}
 use Rattle.demands.specs.Passing.{passed-means, passed-at-zero}
 use Rattle.demands.specs.Carrying.{same-verdict, carries-shortfall}
+use Rattle.demands.specs.Summing.{summed-verdict}
 use borrow.Author.Needs.{needs}
 use Rattle.demands.proofs.judge_figures.Statement.{statement}
 use Rattle.demands.proofs.judge_figures.Tie as tie
@@ -20,7 +21,8 @@ returns c =
     let a = s .args in
     let k = c .judge in
     let told = k .ensures ∙ ap (judgeOutcome (a .t) (a .m) (a .table .now) (a .figures .now)) (toZ-ofZ (s .fits .e)) in
-    (judge-refuses (a .t) (a .m) (a .table .now) (a .figures .now) (a .e) (ruled (k .result)) told, (judge-answers (a .t) (a .m) (a .table .now) (a .figures .now) (a .e) (ruled (k .result)) told, (passed-means (a .t) (a .m) (a .table .now) (a .figures .now) (a .e) (ruled (k .result)) told, (passed-at-zero (a .t) (a .m) (a .table .now) (a .figures .now) (a .e) (ruled (k .result)) told, (same-verdict (a .t) (a .m) (a .table .now) (a .figures .now) (a .e) (ruled (k .result)) told, carries-shortfall (a .t) (a .m) (a .table .now) (a .figures .now) (a .e) (ruled (k .result)) told)))))
+    let r = ruled (k .result) in
+    (judge-refuses (a .t) (a .m) (a .table .now) (a .figures .now) (a .e) r told, (judge-answers (a .t) (a .m) (a .table .now) (a .figures .now) (a .e) r told, (passed-means (a .t) (a .m) (a .table .now) (a .figures .now) (a .e) r told, (passed-at-zero (a .t) (a .m) (a .table .now) (a .figures .now) (a .e) r told, (same-verdict (a .t) (a .m) (a .table .now) (a .figures .now) (a .e) r told, (carries-shortfall (a .t) (a .m) (a .table .now) (a .figures .now) (a .e) r told, summed-verdict (a .t) (a .m) (a .table .now) (a .figures .now) (a .e) r told))))))
 
 pub judge-figures-spec : {M : Type 1} → statement M
 judge-figures-spec = tie.close (tie.spec judge-requires returns)

@@ -1,115 +1,100 @@
--- `sums::row_sum` meets its contract. By the number of terms; each sum fits. Assumes nothing.
-use mathlib.Core.Path.{_≡_, ap₂, _∙_, subst⁻¹}
-use Prim.Native.Nat.{_≤_}
-use native.Mathlib.Omega.{arith}
+-- `sums::row_sum` meets its contract. By the number of terms. Assumes nothing.
+use mathlib.Core.Path.{_∙_}
 use borrow.Author.Needs.{needs}
-use lib.IntN.{ℤ, natAbs, _+ℤ_}
-use mir.Syntax.{w64}
-use mir.Val.{toZ, ofZ}
+use mir.Syntax.{w8, w32}
 use mir.Facts.{toZ-ofZ}
-use Rattle.ints.specs.Sizes.{sum-size}
-use Rattle.ints.specs.Stored.{sfits-by, back, sum-back}
-use Rattle.sums.specs.Laws.{single-sum, pair-sum, triple-sum}
+use Rattle.sums.specs.Sums.{single-sums, pair-sums, triple-sums}
 use Rattle.sums.proofs.row_sum.Statement.{statement}
 use Rattle.sums.proofs.row_sum.Tie as tie
-
-two : (c : tie.After-term3) → natAbs (c .before .term2 .result +ℤ c .term3 .result) ≤ 549755813888
-two c = sum-size (c .before .term2 .result) (c .term3 .result) (c .before .term2 .ensures .1) (c .term3 .ensures .1)
-
-two-back : (c : tie.After-term3) → toZ w64 (ofZ w64 (c .before .term2 .result)) +ℤ toZ w64 (ofZ w64 (c .term3 .result)) ≡ c .before .term2 .result +ℤ c .term3 .result
-two-back c = sum-back (c .before .term2 .result) (c .term3 .result) (omega arith) (omega arith)
-
-last : (c : tie.After-term6) → natAbs (c .before .term5 .result +ℤ c .term6 .result) ≤ 549755813888
-last c = sum-size (c .before .term5 .result) (c .term6 .result) (c .before .term5 .ensures .1) (c .term6 .ensures .1)
-
-last-back : (c : tie.After-term6) → toZ w64 (ofZ w64 (c .before .term5 .result)) +ℤ toZ w64 (ofZ w64 (c .term6 .result)) ≡ c .before .term5 .result +ℤ c .term6 .result
-last-back c = sum-back (c .before .term5 .result) (c .term6 .result) (omega arith) (omega arith)
-
-three : (c : tie.After-term6) → natAbs (c .before .before .term4 .result +ℤ (c .before .term5 .result +ℤ c .term6 .result)) ≤ 824633720832
-three c = sum-size (c .before .before .term4 .result) (c .before .term5 .result +ℤ c .term6 .result) (c .before .before .term4 .ensures .1) (last c)
 
 enum-known-terms : tie.Need-enum-known-terms
 enum-known-terms c = search needs
 
-term-requires : tie.Need-term-requires
-term-requires c κs = search needs
+figure-of-requires : tie.Need-figure-of-requires
+figure-of-requires c κs = search needs
+
+pair-requires : tie.Need-pair-requires
+pair-requires c κs = search needs
 
 enum-known-terms-2 : tie.Need-enum-known-terms-2
 enum-known-terms-2 c = search needs
 
-term-requires-2 : tie.Need-term-requires-2
-term-requires-2 c κs = search needs
+figure-of-requires-2 : tie.Need-figure-of-requires-2
+figure-of-requires-2 c κs = search needs
 
-term-requires-3 : tie.Need-term-requires-3
-term-requires-3 c κs = search needs
+figure-of-requires-3 : tie.Need-figure-of-requires-3
+figure-of-requires-3 c κs = search needs
 
-add-result : tie.Need-add-result
-add-result c = sfits-by (two-back c) (let h = two c in omega arith)
+pair-requires-2 : tie.Need-pair-requires-2
+pair-requires-2 c κs = search needs
 
 enum-known-terms-3 : tie.Need-enum-known-terms-3
 enum-known-terms-3 c = search needs
 
-term-requires-4 : tie.Need-term-requires-4
-term-requires-4 c κs = search needs
+figure-of-requires-4 : tie.Need-figure-of-requires-4
+figure-of-requires-4 c κs = search needs
 
-term-requires-5 : tie.Need-term-requires-5
-term-requires-5 c κs = search needs
+figure-of-requires-5 : tie.Need-figure-of-requires-5
+figure-of-requires-5 c κs = search needs
 
-term-requires-6 : tie.Need-term-requires-6
-term-requires-6 c κs = search needs
+figure-of-requires-6 : tie.Need-figure-of-requires-6
+figure-of-requires-6 c κs = search needs
 
-add-result-2 : tie.Need-add-result-2
-add-result-2 c = sfits-by (last-back c) (let h = last c in omega arith)
-
-three-back : (c : tie.After-term6) → toZ w64 (ofZ w64 (c .before .before .term4 .result)) +ℤ toZ w64 (ofZ w64 (toZ w64 (ofZ w64 (c .before .term5 .result)) +ℤ toZ w64 (ofZ w64 (c .term6 .result)))) ≡ c .before .before .term4 .result +ℤ (c .before .term5 .result +ℤ c .term6 .result)
-three-back c = ap₂ _+ℤ_ (back (c .before .before .term4 .result) (omega arith)) (toZ-ofZ (add-result-2 c) ∙ last-back c)
-
-add-result-3 : tie.Need-add-result-3
-add-result-3 c = sfits-by (three-back c) (let h = three c in omega arith)
+triple-requires : tie.Need-triple-requires
+triple-requires c κs = search needs
 
 returns : tie.Need-returns
 returns c =
-    let t = c .before .before in
-    let a = t .before .before .args in
-    let e = back (c .term .result) (omega arith) in
-    (e ∙ single-sum (a .figures .now) (a .terms) (c .term .result) (t .terms .given .1) (c .term .ensures .0), subst⁻¹ (λ (z : ℤ). natAbs z ≤ 824633720832) e (omega arith))
+    let x = c .before .before .figure-of in
+    let t = c .before .before .before .before in
+    let a = t .terms .given .0 .0 in
+    single-sums (t .before .before .args .figures .now) (t .terms .given .1)
+    (toZ-ofZ {w = w8} {z = a .coefficient} (search needs)) (toZ-ofZ {w = w32} {z = x .result} (search needs) ∙ x .ensures)
+    (c .pair .ensures)
 
 returns-2 : tie.Need-returns-2
 returns-2 c =
-    let t = c .before .before .before in
-    let a = t .before .before .args in
-    let e = toZ-ofZ (add-result c) ∙ two-back c in (
-      e ∙ pair-sum (a .figures .now) (a .terms) (c .before .term2 .result) (c .term3 .result) (t .terms2 .given .1) (c .before .term2 .ensures .0) (c .term3 .ensures .0),
-      subst⁻¹ (λ (z : ℤ). natAbs z ≤ 824633720832) e (let h = two c in omega arith),
-    )
+    let y = c .before .before .before .figure-of3 in
+    let x = c .before .before .before .before .figure-of2 in
+    let t = c .before .before .before .before .before .before in
+    let a = t .terms2 .given .0 .0 in
+    let b = t .terms2 .given .0 .1 .0 in
+    pair-sums (t .before .before .args .figures .now) (t .terms2 .given .1)
+    (toZ-ofZ {w = w8} {z = a .coefficient} (search needs)) (toZ-ofZ {w = w32} {z = x .result} (search needs) ∙ x .ensures)
+    (toZ-ofZ {w = w8} {z = b .coefficient} (search needs)) (toZ-ofZ {w = w32} {z = y .result} (search needs) ∙ y .ensures)
+    (c .pair2 .ensures)
 
 returns-3 : tie.Need-returns-3
 returns-3 c =
-    let t = c .before .before .before .before in
-    let a = t .before .before .args in
-    let e = toZ-ofZ (add-result-3 c) ∙ three-back c in (
-      e
-          ∙ triple-sum (a .figures .now) (a .terms) (c .before .before .term4 .result) (c .before .term5 .result) (c .term6 .result) (t .terms3 .given .1) (c .before .before .term4 .ensures .0) (c .before .term5 .ensures .0)
-          (c .term6 .ensures .0),
-      subst⁻¹ (λ (z : ℤ). natAbs z ≤ 824633720832) e (three c),
-    )
+    let z = c .before .before .before .before .figure-of6 in
+    let y = c .before .before .before .before .before .figure-of5 in
+    let x = c .before .before .before .before .before .before .figure-of4 in
+    let t = c .before .before .before .before .before .before .before .before in
+    let a = t .terms3 .given .0 .0 in
+    let b = t .terms3 .given .0 .1 .0 in
+    let d = t .terms3 .given .0 .1 .1 .0 in
+    triple-sums (t .before .before .args .figures .now) (t .terms3 .given .1)
+    (toZ-ofZ {w = w8} {z = a .coefficient} (search needs)) (toZ-ofZ {w = w32} {z = x .result} (search needs) ∙ x .ensures)
+    (toZ-ofZ {w = w8} {z = b .coefficient} (search needs)) (toZ-ofZ {w = w32} {z = y .result} (search needs) ∙ y .ensures)
+    (toZ-ofZ {w = w8} {z = d .coefficient} (search needs)) (toZ-ofZ {w = w32} {z = z .result} (search needs) ∙ z .ensures)
+    (c .triple .ensures)
 
 pub row-sum-spec : {M : Type 1} → statement M
 row-sum-spec =
     tie.close
     (tie.spec
     enum-known-terms
-    term-requires
+    figure-of-requires
+    pair-requires
     enum-known-terms-2
-    term-requires-2
-    term-requires-3
-    add-result
+    figure-of-requires-2
+    figure-of-requires-3
+    pair-requires-2
     enum-known-terms-3
-    term-requires-4
-    term-requires-5
-    term-requires-6
-    add-result-2
-    add-result-3
+    figure-of-requires-4
+    figure-of-requires-5
+    figure-of-requires-6
+    triple-requires
     returns
     returns-2
     returns-3)

@@ -1,19 +1,19 @@
 -- `sums::shortfall` meets its contract. By cases on the relation. Assumes nothing.
 use mathlib.Core.Path.{_≡_, _∙_}
-use native.Mathlib.Omega.{arith}
 use borrow.Author.Needs.{needs}
 use mir.Syntax.{w8, w64}
 use mir.Val.{toZ, ofZ}
 use mir.Facts.{toZ-ofZ}
-use Rattle.ints.specs.Stored.{back, small-back, kept}
+use Rattle.ints.specs.Stored.{small-back, kept}
 use Rattle.rules.specs.Rows.{sumOf}
 use Rattle.row.specs.Meaning.{termsOf}
+use Rattle.sums.specs.Sums.{sums-whole}
 use Rattle.sums.specs.Laws.{short-row, off-row}
 use Rattle.sums.proofs.shortfall.Statement.{statement}
 use Rattle.sums.proofs.shortfall.Tie as tie
 
-sum-is : (c : tie.After-row-sum) → toZ w64 (ofZ w64 (c .row-sum .result)) ≡ sumOf (c .before .before .args .figures .now) (termsOf (c .before .before .args .row .terms))
-sum-is c = back (c .row-sum .result) (omega (arith, c .row-sum .ensures .1)) ∙ c .row-sum .ensures .0
+sum-is : (c : tie.After-row-sum) → toZ w64 (ofZ w64 (c .row-sum .result .whole)) ≡ sumOf (c .before .before .args .figures .now) (termsOf (c .before .before .args .row .terms))
+sum-is c = sums-whole (c .row-sum .ensures)
 
 right-is : (c : tie.After-row-sum) → toZ w8 (ofZ w8 (c .before .before .args .row .right)) ≡ c .before .before .args .row .right
 right-is c = toZ-ofZ {w = w8} {z = c .before .before .args .row .right} (search needs)
@@ -35,15 +35,15 @@ off-requires c κs = search needs
 
 returns : tie.Need-returns
 returns c =
-    let k = c .before .before .before in
+    let k = c .before .before .before .before in
     let a = k .before .before .args in
-    (kept (c .short .ensures) ∙ short-row (a .figures .now) (a .row) (sum-is k) (right-is k) (c .before .enum-told .given .1), small-back (c .short .result) (c .short .ensures .1))
+    (kept (c .short .ensures) ∙ short-row (a .figures .now) (a .row) (sum-is k) (right-is k) (c .before .before .enum-told .given .1), small-back (c .short .result) (c .short .ensures .1))
 
 returns-2 : tie.Need-returns-2
 returns-2 c =
-    let k = c .before .before .before in
+    let k = c .before .before .before .before in
     let a = k .before .before .args in
-    (kept (c .off .ensures) ∙ off-row (a .figures .now) (a .row) (sum-is k) (right-is k) (c .before .enum-told2 .given .1), small-back (c .off .result) (c .off .ensures .1))
+    (kept (c .off .ensures) ∙ off-row (a .figures .now) (a .row) (sum-is k) (right-is k) (c .before .before .enum-told2 .given .1), small-back (c .off .result) (c .off .ensures .1))
 
 pub shortfall-spec : {M : Type 1} → statement M
 shortfall-spec =

@@ -1,10 +1,10 @@
 -- `sums::triple_short` meets its contract. What the sum of three terms is short by. Assumes nothing.
 use mathlib.Core.Path.{ap₂, _∙_}
-use native.Mathlib.Omega.{arith}
 use borrow.Author.Needs.{needs}
 use mir.Facts.{toZ-ofZ}
-use Rattle.ints.specs.Stored.{back, small-back, kept}
-use Rattle.sums.specs.Laws.{shortOf, triple-same}
+use Rattle.ints.specs.Stored.{small-back, kept}
+use Rattle.sums.specs.Sums.{sums-whole, triple-same}
+use Rattle.sums.specs.Laws.{shortOf}
 use Rattle.sums.proofs.triple_short.Statement.{statement}
 use Rattle.sums.proofs.triple_short.Tie as tie
 
@@ -16,10 +16,9 @@ short-requires c κs = search needs
 
 returns : tie.Need-returns
 returns c =
-    let s = c .before .before in
-    let sum = c .before .triple in
-    let sum-is = back (sum .result) (omega (arith, sum .ensures .1)) ∙ sum .ensures .0 ∙ triple-same (toZ-ofZ (s .fits .j)) (toZ-ofZ (s .fits .x)) (toZ-ofZ (s .fits .k)) (toZ-ofZ (s .fits .y)) (toZ-ofZ (s .fits .l)) (toZ-ofZ (s .fits .z)) in
-    (kept (c .short .ensures) ∙ ap₂ shortOf (toZ-ofZ (s .fits .right)) sum-is, small-back (c .short .result) (c .short .ensures .1))
+    let f = c .before .before .before .fits in
+    let sum-is = sums-whole (c .before .before .triple .ensures) ∙ triple-same (toZ-ofZ (f .j)) (toZ-ofZ (f .x)) (toZ-ofZ (f .k)) (toZ-ofZ (f .y)) (toZ-ofZ (f .l)) (toZ-ofZ (f .z)) in
+    (kept (c .short .ensures) ∙ ap₂ shortOf (toZ-ofZ (f .right)) sum-is, small-back (c .short .result) (c .short .ensures .1))
 
 pub triple-short-spec : {M : Type 1} → statement M
 triple-short-spec = tie.close (tie.spec triple-requires short-requires returns)
