@@ -1,9 +1,9 @@
-"""A file of crates/known/data, written by a script, or with --check compared with what the script makes."""
+"""A file below crates/, written by a script, or with --check compared with what the script makes."""
 
 import sys
 from pathlib import Path
 
-FOLDER = Path(__file__).resolve().parent.parent / "crates" / "known" / "data"
+FOLDER = Path(__file__).resolve().parent.parent / "crates"
 
 
 def write_or_check(name, content):

@@ -498,7 +498,7 @@ def main():
     writing_rows()
     judging()
     of_the_reference()
-    write_or_check("lines.txt", "".join(line + "\n" for line in LINES))
+    write_or_check("known/data/lines.txt", "".join(line + "\n" for line in LINES))
     cases = [line for line in LINES if not line.startswith("#")]
     print(f"{len(cases)} cases, longest line {max(map(len, LINES))} bytes")
 

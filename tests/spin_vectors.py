@@ -232,7 +232,7 @@ def main():
         print(f"{title}: " + ", ".join(f"{key} {counts[key]}" for key in sorted(counts)))
     assert len(lines) >= 300 and set(kinds) == set("a" + SINGLE + DOUBLE) and min(kinds.values()) >= 40
     assert set(depths) == set(range(1, LARGEST_DEPTH + 1)) and {1, 64} <= set(horizons) and {1, 16} <= set(atom_counts)
-    write_or_check("spin.txt", "".join(lines))
+    write_or_check("known/data/spin.txt", "".join(lines))
 
 
 if __name__ == "__main__":

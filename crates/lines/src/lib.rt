@@ -52,14 +52,6 @@ fn put_name(line: &mut [u8; 40], at: usize, name: Name) -> usize
     }
 }
 
-// A number without its sign.
-pub fn size(c: i64) -> usize
-    requires { ⌜ natAbs c ≤ 999 ⌝ }
-    ensures { λ r. ⌜ r ≡ natAbs c ⌝ }
-{
-    if c < 0 { (0 - c) as usize } else { c as usize }
-}
-
 // How many digits a number has.
 fn digits_in(n: usize) -> usize
     requires { ⌜ n < 1000 ⌝ }
@@ -78,7 +70,7 @@ fn signed_length(c: i64) -> usize
     requires { ⌜ natAbs c ≤ 999 ⌝ }
     ensures { λ r. ⌜ (r ≡ length (signedText c)) × (r ≤ 4) ⌝ }
 {
-    let n = digits_in(size(c));
+    let n = digits_in(text::size(c));
     if c < 0 { n + 1 } else { n }
 }
 
@@ -86,7 +78,7 @@ fn put_signed(line: &mut [u8; 40], at: usize, c: i64) -> usize
     requires { ⌜ (at ≤ 30) × (natAbs c ≤ 999) ⌝ }
     ensures { λ r. ⌜ Put at (signedText c) (now (line .entry)) (now (line .exit)) r × (r ≤ at + 4) ⌝ }
 {
-    let n = size(c);
+    let n = text::size(c);
     if c < 0 {
         let next = text::put_byte(line, at, b'-');
         return text::put_decimal(line, next, n);

@@ -60,7 +60,7 @@ fn put_unless_zero(out: &mut [u8], at: usize, name: Name, i: usize, c: i64) -> u
     requires { ⌜ (at ≤ 4294967296) × NameFits name × (i < 100000) × (natAbs c ≤ 384) ⌝ }
     ensures { λ r. ⌜ Sent at (numberUnlessZero (nameText name) i c) (now (out .entry)) (now (out .exit)) r × (r ≤ at + 40) ⌝ }
 {
-    if lines::size(c) == 0 {
+    if text::size(c) == 0 {
         return at;
     }
     lines::put_number_line(out, at, name, Name::Row(i), c)

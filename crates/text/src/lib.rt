@@ -1,6 +1,8 @@
-// Text put into a lent buffer: bytes and decimal numbers.
+// Text put into a lent buffer: bytes and decimal numbers; a number without its sign.
+ghost use mathlib.Core.Path.{_≡_};
 ghost use mathlib.Core.List.{[], _∷_};
 ghost use Prim.Native.Nat.{_+_, _≤_, _<_};
+ghost use lib.IntN.{natAbs};
 ghost use lib.ListN.{length};
 ghost use Rattle.text.specs.Decimal.{decimal, pairText};
 ghost use Rattle.text.specs.Put.{Put};
@@ -35,6 +37,14 @@ pub fn put_decimal(out: &mut [u8], at: usize, n: usize) -> usize
     }
     let next = put_decimal(out, at, n / 100);
     put_pair(out, next, n % 100)
+}
+
+// A number without its sign.
+pub fn size(c: i64) -> usize
+    requires { ⌜ natAbs c ≤ 1099511627776 ⌝ }
+    ensures { λ r. ⌜ r ≡ natAbs c ⌝ }
+{
+    if c < 0 { (0 - c) as usize } else { c as usize }
 }
 
 // Copies `src` into `out` from `at` on.

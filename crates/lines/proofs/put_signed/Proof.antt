@@ -22,7 +22,7 @@ short : (c : tie.After-size) → length (decimal (c .size .result)) ≤ 3
 short c = let e = sized c in below-1000 (c .size .result) (omega (arith, c .before .pre .1))
 
 size-requires : tie.Need-size-requires
-size-requires c κs = search needs
+size-requires c κs = let e = ap natAbs (toZ-ofZ (c .fits .c)) in omega (arith, c .pre .1)
 
 put-byte-requires : tie.Need-put-byte-requires
 put-byte-requires c κs = search needs

@@ -21,7 +21,7 @@ sized : (c : tie.After-size) → c .size .result ≡ natAbs (c .before .before .
 sized c = c .size .ensures ∙ ap natAbs (toZ-ofZ (c .before .before .fits .c))
 
 size-requires : tie.Need-size-requires
-size-requires c κs = small (c .before)
+size-requires c κs = let h = small (c .before) in omega arith
 
 returns : tie.Need-returns
 returns c =

@@ -1,4 +1,4 @@
--- `lines::size` meets its contract. By the sign. Assumes nothing.
+-- `text::size` meets its contract. By the sign. Assumes nothing.
 use mathlib.Core.Path.{_≡_, sym, ap, _∙_}
 use native.Mathlib.Omega.{arith}
 use lib.IntN.{ℤ, pos, natAbs, _-ℤ_}
@@ -8,8 +8,8 @@ use mir.Val.{toZ, ofZ}
 use mir.Facts.{toZ-ofZ}
 use Rattle.ints.specs.Sizes.{size-below, size-above}
 use Rattle.ints.specs.Stored.{sfits-by, cast-whole}
-use Rattle.lines.proofs.size.Statement.{statement}
-use Rattle.lines.proofs.size.Tie as tie
+use Rattle.text.proofs.size.Statement.{statement}
+use Rattle.text.proofs.size.Tie as tie
 
 negated : (c : tie.Then1) → pos 0 -ℤ toZ w64 (ofZ w64 (c .before .args .c)) ≡ pos (natAbs (c .before .args .c))
 negated c =
