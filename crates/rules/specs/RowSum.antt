@@ -39,7 +39,7 @@ rowSum xs ts =
     let reached = pass isPositive xs (pos 0) ts in
     record { positive = reached; whole = pass (λ t. not (isPositive t)) xs reached ts }
 
--- ---- the judge, with the second number of the row sum for a row's sum
+-- ---- the judge as in Judge.antt, with the second number of the row sum for a row's sum. Unaltered.antt proves that it gives the same verdicts and shortfalls.
 
 abbrev pub Broken : (e : ℕ) → List ℤ → Row → Type 0
 Broken e xs r = BrokenBy (r .relation) e (r .right *ℤ pos one) (rowSum xs (r .terms) .whole)

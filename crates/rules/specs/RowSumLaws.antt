@@ -7,6 +7,9 @@ use Rattle.ints.specs.Sums.{swap-first}
 use Rattle.rules.specs.Rows.{Term, valueAt, sumOf}
 use Rattle.rules.specs.RowSum.{isPositive, termsWhere, positiveTerms, pass, RowSum, rowSum}
 
+pub sums-equal : {s t : RowSum} → s .positive ≡ t .positive → s .whole ≡ t .whole → s ≡ t
+sums-equal p w = ap₂ (λ (a b : ℤ). let r : RowSum = record { positive = a; whole = b } in r) p w
+
 abbrev isOther : Term → Bool
 isOther t = not (isPositive t)
 
@@ -64,5 +67,5 @@ module _ (xs : List ℤ) where
 
   pub any-order : {ts us : List Term} → List·Permᴰ ts us → rowSum xs ts ≡ rowSum xs us
   any-order {ts} {us} p =
-      ap₂ (λ (a b : ℤ). let s : RowSum = record { positive = a; whole = b } in s) (positive-is ts ∙ reordered isPositive p ∙ sym (positive-is us))
+      sums-equal (positive-is ts ∙ reordered isPositive p ∙ sym (positive-is us))
       (whole-is ts ∙ sym (parts-sum isPositive ts) ∙ ap₂ _+ℤ_ (reordered isPositive p) (reordered isOther p) ∙ parts-sum isPositive us ∙ sym (whole-is us))

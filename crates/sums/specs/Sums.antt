@@ -12,7 +12,7 @@ use Rattle.ints.specs.Stored.{back}
 use Rattle.rules.specs.Rows.{Term, valueAt, sumOf}
 use Rattle.rules.specs.RowSum as Definitions
 use Rattle.rules.specs.RowSum.{rowSum}
-use Rattle.rules.specs.RowSumLaws.{whole-is}
+use Rattle.rules.specs.RowSumLaws.{sums-equal, whole-is}
 use Rattle.row.specs.declared.Term as Row
 use Rattle.row.specs.declared.Terms.{Terms}
 use Rattle.row.specs.declared.Terms.the-variants.{Single, Pair, Triple}
@@ -49,9 +49,12 @@ pub record Sums (xs : List ℤ) (ts : List Term) (r : RowSum) : Type 0 where
 pub sums-whole : {xs : List ℤ} {ts : List Term} {r : RowSum} → Sums xs ts r → toZ w64 (ofZ w64 (r .whole)) ≡ sumOf xs ts
 sums-whole {xs} {ts} {r} h = back (r .whole) (omega (arith, h .whole-small)) ∙ ap (λ (s : Definitions.RowSum). s .whole) (h .is) ∙ whole-is xs ts
 
+pub sums-as : {xs ys : List ℤ} {ts us : List Term} {r : RowSum} → rowSum xs ts ≡ rowSum ys us → Sums xs ts r → Sums ys us r
+sums-as e h = record { is = h .is ∙ e; positive-small = h .positive-small; whole-small = h .whole-small }
+
 -- a last term that is zero adds nothing
-abbrev zero-more : (s : Definitions.RowSum) → _≡_ {A = Definitions.RowSum} (record { positive = s .positive; whole = s .whole +ℤ pos 0 }) s
-zero-more s = ap (λ (z : ℤ). let r : Definitions.RowSum = record { positive = s .positive; whole = z } in r) (+ℤ-idr (s .whole))
+zero-more : (s : Definitions.RowSum) → _≡_ {A = Definitions.RowSum} (record { positive = s .positive; whole = s .whole +ℤ pos 0 }) s
+zero-more s = sums-equal refl (+ℤ-idr (s .whole))
 
 pub third-zero : (j x k y : ℤ) → rowSum (x ∷ y ∷ pos 0 ∷ []) (of j 0 ∷ of k 1 ∷ of (pos 0) 2 ∷ []) ≡ rowSum (x ∷ y ∷ []) (of j 0 ∷ of k 1 ∷ [])
 third-zero j x k y = zero-more (rowSum (x ∷ y ∷ []) (of j 0 ∷ of k 1 ∷ []))
@@ -61,16 +64,16 @@ third-zero j x k y = zero-more (rowSum (x ∷ y ∷ []) (of j 0 ∷ of k 1 ∷ [
 module _ (xs : List ℤ) {terms : Terms} {r : RowSum} where
   pub single-sums : {a : Row.Term} {j x : ℤ} → terms ≡ Single a → j ≡ a .coefficient → x ≡ valueAt xs (a .variable) →
       Sums (x ∷ pos 0 ∷ []) (of j 0 ∷ of (pos 0) 1 ∷ []) r → Sums xs (termsOf terms) r
-  single-sums {a} t p q h = record { is = h .is ∙ rw (p, q, t) (zero-more (rowSum xs (termOf a ∷ []))); positive-small = h .positive-small; whole-small = h .whole-small }
+  single-sums {a} t p q = sums-as (rw (p, q, t) (zero-more (rowSum xs (termOf a ∷ []))))
 
   pub pair-sums : {a b : Row.Term} {j x k y : ℤ} → terms ≡ Pair a b → j ≡ a .coefficient → x ≡ valueAt xs (a .variable) →
       k ≡ b .coefficient → y ≡ valueAt xs (b .variable) → Sums (x ∷ y ∷ []) (of j 0 ∷ of k 1 ∷ []) r → Sums xs (termsOf terms) r
-  pair-sums t p q u v h = record { is = h .is ∙ rw (p, q, u, v, t) refl; positive-small = h .positive-small; whole-small = h .whole-small }
+  pair-sums t p q u v = sums-as (rw (p, q, u, v, t) refl)
 
   pub triple-sums : {a b c : Row.Term} {j x k y l z : ℤ} → terms ≡ Triple a b c → j ≡ a .coefficient → x ≡ valueAt xs (a .variable) →
       k ≡ b .coefficient → y ≡ valueAt xs (b .variable) → l ≡ c .coefficient → z ≡ valueAt xs (c .variable) →
       Sums (x ∷ y ∷ z ∷ []) (of j 0 ∷ of k 1 ∷ of l 2 ∷ []) r → Sums xs (termsOf terms) r
-  triple-sums t p q u v m n h = record { is = h .is ∙ rw (p, q, u, v, m, n, t) refl; positive-small = h .positive-small; whole-small = h .whole-small }
+  triple-sums t p q u v m n = sums-as (rw (p, q, u, v, m, n, t) refl)
 
 -- ---- the sums of two and three terms over the figures of the variables
 

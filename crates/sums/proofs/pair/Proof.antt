@@ -1,8 +1,7 @@
 -- `sums::pair` meets its contract. A third term that is zero adds nothing. Assumes nothing.
-use mathlib.Core.Path.{_∙_}
 use borrow.Author.Needs.{needs}
 use mir.Facts.{toZ-ofZ}
-use Rattle.sums.specs.Sums.{third-zero}
+use Rattle.sums.specs.Sums.{sums-as, third-zero}
 use Rattle.sums.proofs.pair.Statement.{statement}
 use Rattle.sums.proofs.pair.Tie as tie
 
@@ -13,12 +12,7 @@ returns : tie.Need-returns
 returns c =
     let a = c .before .args in
     let f = c .before .fits in
-    let t = c .triple .ensures in
-    record {
-      is = t .is ∙ rw (toZ-ofZ (f .j), toZ-ofZ (f .x), toZ-ofZ (f .k), toZ-ofZ (f .y)) (third-zero (a .j) (a .x) (a .k) (a .y));
-      positive-small = t .positive-small;
-      whole-small = t .whole-small;
-    }
+    sums-as (rw (toZ-ofZ (f .j), toZ-ofZ (f .x), toZ-ofZ (f .k), toZ-ofZ (f .y)) (third-zero (a .j) (a .x) (a .k) (a .y))) (c .triple .ensures)
 
 pub pair-spec : {M : Type 1} → statement M
 pair-spec = tie.close (tie.spec triple-requires returns)

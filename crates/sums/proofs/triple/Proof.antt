@@ -13,7 +13,7 @@ use mir.Facts.{toZ-ofZ}
 use Rattle.ints.specs.Sizes.{mul-size}
 use Rattle.ints.specs.Stored.{abs-sfits}
 use Rattle.rules.specs.RowSum.{RowSum, rowSum}
-use Rattle.rules.specs.RowSumLaws.{whole-is}
+use Rattle.rules.specs.RowSumLaws.{sums-equal, whole-is}
 use Rattle.sums.specs.Sums.{of, passed-same, triple-size}
 use Rattle.sums.proofs.triple.Statement.{statement}
 use Rattle.sums.proofs.triple.Tie as tie
@@ -76,7 +76,7 @@ returns c =
     let k = c .before in
     let e = whole-sum c in
     record {
-      is = ap₂ (λ (p w : ℤ). let s : RowSum = record { positive = p; whole = w } in s) (positive-is k) e;
+      is = sums-equal (positive-is k) e;
       positive-small = let f = ap natAbs (toZ-ofZ {w = w64} {z = k .pass .result} (search needs)) in omega (arith, k .pass .ensures .1);
       whole-small = subst⁻¹ (λ (z : ℤ). natAbs z ≤ 824633720832) e (small (k .before .before .before .before));
     }
