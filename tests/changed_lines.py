@@ -10,9 +10,10 @@ import sys
 import tempfile
 from pathlib import Path
 
-from data_file import FOLDER
+from data_file import CRATES
 
-KNOWN = FOLDER.parents[2] / "target" / "bin" / "known"
+DATA = CRATES / "known" / "data"
+KNOWN = CRATES.parent / "target" / "bin" / "known"
 
 # where the answer and the output stand in a line of each call
 ANSWER = {"read": 3, "evaluate": 4, "rows": 4, "judge": 5}
@@ -65,8 +66,8 @@ def hold(what, named, changed_ones):
 
 
 def main():
-    lines = (FOLDER / "lines.txt").read_text().splitlines()
-    spin = (FOLDER / "spin.txt").read_text().splitlines()
+    lines = (DATA / "lines.txt").read_text().splitlines()
+    spin = (DATA / "spin.txt").read_text().splitlines()
     for what, places, change in (
         ("answers", ANSWER, other_answer),
         ("shortfalls", VERDICT, other_shortfall),

@@ -3,11 +3,11 @@
 import sys
 from pathlib import Path
 
-FOLDER = Path(__file__).resolve().parent.parent / "crates"
+CRATES = Path(__file__).resolve().parent.parent / "crates"
 
 
 def write_or_check(name, content):
-    target = FOLDER / name
+    target = CRATES / name
     if sys.argv[1:] != ["--check"]:
         target.parent.mkdir(parents=True, exist_ok=True)
         target.write_text(content)
