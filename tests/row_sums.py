@@ -28,4 +28,5 @@ def page():
                 yield line(first, second, third)
 
 
-write_or_check("rowsums/stdout", "".join(page()))
+if __name__ == "__main__":
+    write_or_check("rowsums/stdout", "".join(page()))

@@ -1,6 +1,6 @@
 -- The judge's verdict does not alter.
 use mathlib.Core.Path.{_≡_, refl, sym, ap, subst}
-use mathlib.Core.Logic.{_↔_}
+use mathlib.Core.Logic.{_↔_, Iff·symm}
 use mathlib.Core.List.{List}
 use Prim.Native.Nat.{ℕ}
 use lib.IntN.{ℤ, pos, _*ℤ_}
@@ -50,9 +50,6 @@ module _ (T M e : ℕ) (ns : List Node) (xs : List ℤ) where
   same-at : (i : ℕ) → Summed.BrokenAt T M e ns xs i ↔ Now.BrokenAt T M e ns xs i
   same-at i = let iff = same-broken e xs (rowAt T M ns i) in (λ h. (h .0, iff .0 (h .1)), λ h. (h .0, iff .1 (h .1)))
 
-  back-at : (i : ℕ) → Now.BrokenAt T M e ns xs i ↔ Summed.BrokenAt T M e ns xs i
-  back-at i = (same-at i .1, same-at i .0)
-
   same-verdict : (i : ℕ) → Now.Verdict.broken i (Summed.shortfall xs (rowAt T M ns i)) ≡ Now.Verdict.broken i (Now.shortfall xs (rowAt T M ns i))
   same-verdict i = ap (Now.Verdict.broken i) (same-shortfall xs (rowAt T M ns i))
 
@@ -65,8 +62,8 @@ module _ (T M e : ℕ) (ns : List Node) (xs : List ℤ) where
   now-summed : {v : Now.Verdict} → Now.Judged T M e ns xs v → Summed.Judged T M e ns xs v
   now-summed (Now.Judged.is-outside h) = Summed.Judged.is-outside h
   now-summed (Now.Judged.is-not-binary p h) = Summed.Judged.is-not-binary p h
-  now-summed (Now.Judged.is-broken {i} p q h) = subst (Summed.Judged T M e ns xs) (same-verdict i) (Summed.Judged.is-broken p q (lowest-same back-at h))
-  now-summed (Now.Judged.is-passed p q r) = Summed.Judged.is-passed p q (none-same back-at r)
+  now-summed (Now.Judged.is-broken {i} p q h) = subst (Summed.Judged T M e ns xs) (same-verdict i) (Summed.Judged.is-broken p q (lowest-same (λ k. Iff·symm (same-at k)) h))
+  now-summed (Now.Judged.is-passed p q r) = Summed.Judged.is-passed p q (none-same (λ k. Iff·symm (same-at k)) r)
 
   pub judged-summed : (v : Now.Verdict) → Summed.Judged T M e ns xs v ↔ Now.Judged T M e ns xs v
   judged-summed v = (summed-now, now-summed)

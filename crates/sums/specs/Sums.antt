@@ -35,53 +35,53 @@ pub passed-same : {s s′ a a′ b b′ c c′ : ℤ} {p p′ q q′ r r′ : Bo
     passed s p a q b r c ≡ passed s′ p′ a′ q′ b′ r′ c′
 passed-same h i j k l m n = cc
 
--- a term; the variables of a few figures count from 0
-abbrev pub of : (coefficient : ℤ) (variable : ℕ) → Term
-of c v = record { coefficient = c; variable = v }
+-- a coefficient times a variable; the variables of a few figures count from 0
+abbrev pub term : (coefficient : ℤ) (variable : ℕ) → Term
+term c v = record { coefficient = c; variable = v }
 
 -- the row sum of terms over figures, as the calls that make it ensure
-pub record Sums (xs : List ℤ) (ts : List Term) (r : RowSum) : Type 0 where
+pub record RowSumOf (xs : List ℤ) (ts : List Term) (r : RowSum) : Type 0 where
   pub is : summed r ≡ rowSum xs ts
   pub positive-small : natAbs (r .positive) ≤ 824633720832
   pub whole-small : natAbs (r .whole) ≤ 824633720832
 
 -- the whole sum, as it is passed on, is the same number as before
-pub sums-whole : {xs : List ℤ} {ts : List Term} {r : RowSum} → Sums xs ts r → toZ w64 (ofZ w64 (r .whole)) ≡ sumOf xs ts
+pub sums-whole : {xs : List ℤ} {ts : List Term} {r : RowSum} → RowSumOf xs ts r → toZ w64 (ofZ w64 (r .whole)) ≡ sumOf xs ts
 sums-whole {xs} {ts} {r} h = back (r .whole) (omega (arith, h .whole-small)) ∙ ap (λ (s : Definitions.RowSum). s .whole) (h .is) ∙ whole-is xs ts
 
-pub sums-as : {xs ys : List ℤ} {ts us : List Term} {r : RowSum} → rowSum xs ts ≡ rowSum ys us → Sums xs ts r → Sums ys us r
+pub sums-as : {xs ys : List ℤ} {ts us : List Term} {r : RowSum} → rowSum xs ts ≡ rowSum ys us → RowSumOf xs ts r → RowSumOf ys us r
 sums-as e h = record { is = h .is ∙ e; positive-small = h .positive-small; whole-small = h .whole-small }
 
 -- a last term that is zero adds nothing
 zero-more : (s : Definitions.RowSum) → _≡_ {A = Definitions.RowSum} (record { positive = s .positive; whole = s .whole +ℤ pos 0 }) s
 zero-more s = sums-equal refl (+ℤ-idr (s .whole))
 
-pub third-zero : (j x k y : ℤ) → rowSum (x ∷ y ∷ pos 0 ∷ []) (of j 0 ∷ of k 1 ∷ of (pos 0) 2 ∷ []) ≡ rowSum (x ∷ y ∷ []) (of j 0 ∷ of k 1 ∷ [])
-third-zero j x k y = zero-more (rowSum (x ∷ y ∷ []) (of j 0 ∷ of k 1 ∷ []))
+pub third-zero : (j x k y : ℤ) → rowSum (x ∷ y ∷ pos 0 ∷ []) (term j 0 ∷ term k 1 ∷ term (pos 0) 2 ∷ []) ≡ rowSum (x ∷ y ∷ []) (term j 0 ∷ term k 1 ∷ [])
+third-zero j x k y = zero-more (rowSum (x ∷ y ∷ []) (term j 0 ∷ term k 1 ∷ []))
 
 -- ---- the row sum of a row's terms, from that of their coefficients and figures
 
 module _ (xs : List ℤ) {terms : Terms} {r : RowSum} where
   pub single-sums : {a : Row.Term} {j x : ℤ} → terms ≡ Single a → j ≡ a .coefficient → x ≡ valueAt xs (a .variable) →
-      Sums (x ∷ pos 0 ∷ []) (of j 0 ∷ of (pos 0) 1 ∷ []) r → Sums xs (termsOf terms) r
+      RowSumOf (x ∷ pos 0 ∷ []) (term j 0 ∷ term (pos 0) 1 ∷ []) r → RowSumOf xs (termsOf terms) r
   single-sums {a} t p q = sums-as (rw (p, q, t) (zero-more (rowSum xs (termOf a ∷ []))))
 
   pub pair-sums : {a b : Row.Term} {j x k y : ℤ} → terms ≡ Pair a b → j ≡ a .coefficient → x ≡ valueAt xs (a .variable) →
-      k ≡ b .coefficient → y ≡ valueAt xs (b .variable) → Sums (x ∷ y ∷ []) (of j 0 ∷ of k 1 ∷ []) r → Sums xs (termsOf terms) r
+      k ≡ b .coefficient → y ≡ valueAt xs (b .variable) → RowSumOf (x ∷ y ∷ []) (term j 0 ∷ term k 1 ∷ []) r → RowSumOf xs (termsOf terms) r
   pair-sums t p q u v = sums-as (rw (p, q, u, v, t) refl)
 
   pub triple-sums : {a b c : Row.Term} {j x k y l z : ℤ} → terms ≡ Triple a b c → j ≡ a .coefficient → x ≡ valueAt xs (a .variable) →
       k ≡ b .coefficient → y ≡ valueAt xs (b .variable) → l ≡ c .coefficient → z ≡ valueAt xs (c .variable) →
-      Sums (x ∷ y ∷ z ∷ []) (of j 0 ∷ of k 1 ∷ of l 2 ∷ []) r → Sums xs (termsOf terms) r
+      RowSumOf (x ∷ y ∷ z ∷ []) (term j 0 ∷ term k 1 ∷ term l 2 ∷ []) r → RowSumOf xs (termsOf terms) r
   triple-sums t p q u v m n = sums-as (rw (p, q, u, v, m, n, t) refl)
 
 -- ---- the sums of two and three terms over the figures of the variables
 
 abbrev pub pairOf : (j x k y : ℤ) → ℤ
-pairOf j x k y = sumOf (x ∷ y ∷ []) (of j 0 ∷ of k 1 ∷ [])
+pairOf j x k y = sumOf (x ∷ y ∷ []) (term j 0 ∷ term k 1 ∷ [])
 
 abbrev pub tripleOf : (j x k y l z : ℤ) → ℤ
-tripleOf j x k y l z = sumOf (x ∷ y ∷ z ∷ []) (of j 0 ∷ of k 1 ∷ of l 2 ∷ [])
+tripleOf j x k y l z = sumOf (x ∷ y ∷ z ∷ []) (term j 0 ∷ term k 1 ∷ term l 2 ∷ [])
 
 pub pair-same : {j j′ x x′ k k′ y y′ : ℤ} → j ≡ j′ → x ≡ x′ → k ≡ k′ → y ≡ y′ → pairOf j x k y ≡ pairOf j′ x′ k′ y′
 pair-same a b c d = cc

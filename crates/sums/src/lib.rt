@@ -12,7 +12,7 @@ ghost use Rattle.rules.specs.Quantities as Quantities;
 ghost use Rattle.rules.specs.Rows.{valueAt};
 ghost use Rattle.rules.specs.Judge as Judge;
 ghost use Rattle.rules.specs.Verdicts.{apart, isOutside, isNotBinary};
-ghost use Rattle.sums.specs.Sums.{added, passed, of, Sums, pairOf, tripleOf};
+ghost use Rattle.sums.specs.Sums.{added, passed, term, RowSumOf, pairOf, tripleOf};
 ghost use Rattle.sums.specs.Laws.{shortOf, offOf};
 ghost use Rattle.millionths.specs.Unit.{ofTruth};
 ghost use Rattle.row.specs.Meaning.{termsOf, rowOf};
@@ -121,7 +121,7 @@ fn add(sum: i64, taken: bool, term: i64) -> i64
     if taken { sum + term } else { sum }
 }
 
-// A pass through three terms: a sum and those of them that are taken, one after the other.
+// A pass through three terms: a sum and, one after the other, a where p, b where q and c where s.
 fn pass(sum: i64, p: bool, a: i64, q: bool, b: i64, s: bool, c: i64) -> i64
     requires { ⌜ (natAbs sum ≤ 824633720832) × (natAbs a ≤ 274877906944) × (natAbs b ≤ 274877906944) × (natAbs c ≤ 274877906944) ⌝ }
     ensures { λ r. ⌜ (r ≡ passed sum p a q b s c) × (natAbs r ≤ natAbs sum + 824633720832) ⌝ }
@@ -131,7 +131,7 @@ fn pass(sum: i64, p: bool, a: i64, q: bool, b: i64, s: bool, c: i64) -> i64
 
 // The row sum of three terms.
 pub fn triple(j: i8, x: i32, k: i8, y: i32, l: i8, z: i32) -> RowSum
-    ensures { λ r. ⌜ Sums (x ∷ y ∷ z ∷ []) (of j 0 ∷ of k 1 ∷ of l 2 ∷ []) r ⌝ }
+    ensures { λ r. ⌜ RowSumOf (x ∷ y ∷ z ∷ []) (term j 0 ∷ term k 1 ∷ term l 2 ∷ []) r ⌝ }
 {
     let a = product(j, x);
     let b = product(k, y);
@@ -146,7 +146,7 @@ pub fn triple(j: i8, x: i32, k: i8, y: i32, l: i8, z: i32) -> RowSum
 
 // The row sum of two terms: the third is zero.
 pub fn pair(j: i8, x: i32, k: i8, y: i32) -> RowSum
-    ensures { λ r. ⌜ Sums (x ∷ y ∷ []) (of j 0 ∷ of k 1 ∷ []) r ⌝ }
+    ensures { λ r. ⌜ RowSumOf (x ∷ y ∷ []) (term j 0 ∷ term k 1 ∷ []) r ⌝ }
 {
     triple(j, x, k, y, 0, 0)
 }
@@ -193,7 +193,7 @@ pub fn triple_short(j: i8, x: i32, k: i8, y: i32, l: i8, z: i32, right: i8) -> i
 
 // The row sum of terms over the figures.
 pub fn row_sum(figures: &[i32], terms: Terms) -> RowSum
-    ensures { λ r. ⌜ Sums (now (figures .entry)) (termsOf terms) r ⌝ }
+    ensures { λ r. ⌜ RowSumOf (now (figures .entry)) (termsOf terms) r ⌝ }
 {
     match terms {
         Terms::Single(a) => {

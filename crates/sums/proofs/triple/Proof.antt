@@ -14,7 +14,7 @@ use Rattle.ints.specs.Sizes.{mul-size}
 use Rattle.ints.specs.Stored.{abs-sfits}
 use Rattle.rules.specs.RowSum.{RowSum, rowSum}
 use Rattle.rules.specs.RowSumLaws.{sums-equal, whole-is}
-use Rattle.sums.specs.Sums.{of, passed-same, triple-size}
+use Rattle.sums.specs.Sums.{term, passed-same, triple-size}
 use Rattle.sums.proofs.triple.Statement.{statement}
 use Rattle.sums.proofs.triple.Tie as tie
 
@@ -44,7 +44,7 @@ third-is : (c : tie.After-product3) → toZ w64 (ofZ w64 (c .product3 .result)) 
 third-is c = let s = c .before .before .before in toZ-ofZ {w = w64} {z = c .product3 .result} (search needs) ∙ c .product3 .ensures .0 ∙ ap₂ _*ℤ_ (toZ-ofZ (s .fits .l)) (toZ-ofZ (s .fits .z))
 
 abbrev sums : tie.Start → RowSum
-sums s = rowSum (s .args .x ∷ s .args .y ∷ s .args .z ∷ []) (of (s .args .j) 0 ∷ of (s .args .k) 1 ∷ of (s .args .l) 2 ∷ [])
+sums s = rowSum (s .args .x ∷ s .args .y ∷ s .args .z ∷ []) (term (s .args .j) 0 ∷ term (s .args .k) 1 ∷ term (s .args .l) 2 ∷ [])
 
 -- whether a coefficient is positive
 sign-is : {z : ℤ} → SFits w8 z → ltZ (pos 0) (toZ w8 (ofZ w8 z)) ≡ ltZ (pos 0) z
@@ -67,7 +67,7 @@ small : (s : tie.Start) → natAbs (sums s .whole) ≤ 824633720832
 small s =
     let a = s .args in
     let f = s .fits in
-    subst⁻¹ (λ (z : ℤ). natAbs z ≤ 824633720832) (whole-is (a .x ∷ a .y ∷ a .z ∷ []) (of (a .j) 0 ∷ of (a .k) 1 ∷ of (a .l) 2 ∷ []))
+    subst⁻¹ (λ (z : ℤ). natAbs z ≤ 824633720832) (whole-is (a .x ∷ a .y ∷ a .z ∷ []) (term (a .j) 0 ∷ term (a .k) 1 ∷ term (a .l) 2 ∷ []))
     (triple-size (a .j) (a .x) (a .k) (a .y) (a .l) (a .z) (mul-size (a .j) (a .x) (abs-sfits (f .j)) (abs-sfits (f .x)))
     (mul-size (a .k) (a .y) (abs-sfits (f .k)) (abs-sfits (f .y))) (mul-size (a .l) (a .z) (abs-sfits (f .l)) (abs-sfits (f .z))))
 
