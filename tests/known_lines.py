@@ -1,75 +1,144 @@
 #!/usr/bin/env python3
-"""Makes crates/known/data/lines.txt: the scope paper's examples and the edges of its limits, one case a line.
+"""Makes crates/known/stdin, a case a line, and crates/known/stdout, what the program `known` must print for them.
 
-    python3 tests/known_lines.py            writes the file
-    python3 tests/known_lines.py --check    says whether the file is what this script makes, and writes nothing
+    python3 tests/known_lines.py            writes the files
+    python3 tests/known_lines.py --check    says whether the files are what this script makes, and writes nothing
 
-The cases and what is expected of them are written down below; this script only spells them out as bytes. It reads,
-evaluates and judges nothing.
+What is expected is written down below, comes from SPIN (tests/spin.txt) or is worked out here from the paper's words;
+nothing of it comes from the program. A new call has a function here that writes its case and what must be printed.
 """
 
-from data_file import write_or_check
-
-LINES = []
+import paper
+from data_file import TOP, write_or_check
 
 HEAD = """\
-The scope paper's examples and the edges of its limits, made by tests/known_lines.py. A line is one case:
-  read M ROOM ANSWER TEXT
-  evaluate T M ROOM ANSWER RUN TRUTH TABLE
-  rows T M ROOM ANSWER ROWS TABLE
-  judge T M E FIGURES ANSWER TABLE
-TEXT, TRUTH, ROWS and TABLE are bytes in hexadecimal, RUN and FIGURES numbers with commas; - stands for none of them.
-TRUTH and ROWS are the output, - where the call refuses. ROOM is the length of the output buffer.
-ANSWER: n and a count (read, rows), v and a truth (evaluate), o, b, k or p and a number (judge: outside, not binary,
-broken, passed), r and the refusal. After k and the row stand a comma and the shortfall. No number has more than ten digits.
-Above each group stands where its expected values come from."""
+Cases made by tests/known_lines.py. A line is a call, numbers, and after a colon bytes; % and two digits stand for a byte.
+  read ROOM M:TEXT
+  evaluate ROOM T M RUN..:TABLE
+  write ROOM T M:TABLE
+  mps ROOM T M:TABLE
+  judge T M E FIGURES..:TABLE
+  list:INPUT (what rowlist prints, in a buffer of 160,000 bytes without a guard)
+  sum X Y C V.. (the row sum of terms of coefficient C and variable V, over the figures X and Y)
+ROOM is the length of the buffer lent. It is filled with bytes fe and followed by 8 more of them, its guard.
+After a line stand the answer and what the buffer then holds: what was written, of mps and list as text, otherwise in
+hexadecimal, above 1,000 bytes its length and FNV-1a sum of 64 bits; then ~ and how many bytes fe follow, guard included.
+Above each group stands where the expected values come from."""
+
+FILL = b"\xfe"
+GUARD = 8
+LISTING = 160000
+LONG = 1000
+NAMES = {"n": "value", "v": "value", "r": "refused", "o": "outside", "b": "not binary", "k": "broken", "p": "passed"}
+KINDS = {**paper.SINGLE, **paper.DOUBLE}
+
+CASES, PRINTED = [], []
 
 
 def say(words):
-    LINES.extend(f"# {line}" for line in words.split("\n"))
+    for line in words.split("\n"):
+        CASES.append(f"# {line}")
+        PRINTED.append(f"# {line}")
 
 
 def spelled(data):
-    return bytes(data).hex() or "-"
+    return "".join(chr(byte) if 0x20 <= byte <= 0x7E and byte != 0x25 else f"%{byte:02x}" for byte in data)
 
 
-def listed(numbers):
-    return ",".join(map(str, numbers)) or "-"
+def case(call, numbers, data, *printed):
+    line = " ".join([call, *map(str, numbers)]) + ("" if data is None else ":" + spelled(data))
+    CASES.append(line)
+    PRINTED.extend([line, *printed])
+
+
+def said(answer):
+    """n3 as `value 3`, k0,1 as `broken 0 shortfall 1`."""
+    number, _, shortfall = answer[1:].partition(",")
+    return f"{NAMES[answer[0]]} {number}" + (f" shortfall {shortfall}" if shortfall else "")
+
+
+def summed(data):
+    """The length and the FNV-1a sum."""
+    total = 0xCBF29CE484222325
+    for byte in data:
+        total = (total ^ byte) * 0x100000001B3 % 2**64
+    return f"{len(data)} bytes, sum {total:016x}"
+
+
+def lent(room, written, text=False, guard=GUARD):
+    """What the whole buffer holds after a call that wrote this to its start."""
+    assert len(written) <= room and not written.endswith(FILL)
+    part = summed(written) if len(written) > LONG else written.decode() if text else written.hex()
+    return f"{part}~{room - len(written) + guard}"
+
+
+def nodes_of(postfix):
+    """The nodes of a rule whose parts stand before their operator, as the records do: `a0 a1 U`."""
+    nodes, parts = [], []
+    for word in postfix.split():
+        if word[0] == "a":
+            nodes.append((1, int(word[1:]), 0))
+        elif word in "!FG":
+            nodes.append((KINDS[word], parts.pop(), 0))
+        else:
+            right = parts.pop()
+            nodes.append((KINDS[word], parts.pop(), right))
+        parts.append(len(nodes) - 1)
+    assert parts == [len(nodes) - 1]
+    return nodes
 
 
 def table(*nodes):
     """Records of nodes written as kind, left, right."""
-    return b"".join(bytes([0x4E, 0x44, *node]) for node in nodes)
+    return paper.table(nodes)
 
 
-def read(m, room, answer, text):
+def read(m, room, expected, text):
+    """Expected is a refusal, or the nodes as nodes_of takes them."""
     text = text.encode() if isinstance(text, str) else text
-    LINES.append(f"read {m} {room} {answer} {spelled(text)}")
+    if expected[0] == "r":
+        case("read", [room, m], text, said(expected), lent(room, b""))
+    else:
+        nodes = nodes_of(expected)
+        case("read", [room, m], text, f"value {len(nodes)}", lent(room, paper.table(nodes)))
 
 
 def evaluate(t, m, room, answer, run, truth, nodes):
     """The truth is a word of 0 and 1 for each node, in node order."""
     truth = bytes(int(bit) for bit in truth.replace(" ", ""))
-    LINES.append(f"evaluate {t} {m} {room} {answer} {listed(run)} {spelled(truth)} {spelled(nodes)}")
+    assert answer[0] == "r" and not truth or answer == f"v{truth[-t]}"
+    case("evaluate", [room, t, m, *run], nodes, said(answer), lent(room, truth))
 
 
-def record(row):
-    """The record of a row as rowlist prints it behind the row's number: `>= -1 +8 -4 -9`."""
-    relation, right, *terms = row.split()
-    data = [0x52, 0x57, {">=": 1, "=": 2}[relation], len(terms), int(right) % 256]
-    for term in terms:
-        variable = int(term[1:])
-        data += [{"+": 1, "-": 255}[term[0]], variable % 256, variable // 256]
-    return bytes(data + [0] * (14 - len(data)))
+def row(text):
+    """A row as rowlist prints it behind the row's number: `>= -1 +8 -4 -9`."""
+    relation, right, *terms = text.split()
+    return relation, int(right), [(int(term[0] + "1"), int(term[1:])) for term in terms]
 
 
 def rows(t, m, room, answer, expected, nodes):
-    expected = b"".join(record(row) for row in expected)
-    LINES.append(f"rows {t} {m} {room} {answer} {spelled(expected)} {spelled(nodes)}")
+    """The rows expected, as rowlist prints them."""
+    assert answer[0] == "r" and not expected or answer == f"n{len(expected)}"
+    case("write", [room, t, m], nodes, said(answer), lent(room, b"".join(paper.record(row(text)) for text in expected)))
 
 
 def judge(t, m, e, figures, answer, nodes):
-    LINES.append(f"judge {t} {m} {e} {listed(figures)} {answer} {spelled(nodes)}")
+    case("judge", [t, m, e, *figures], nodes, said(answer))
+
+
+def mps(t, m, room, answer, page, nodes):
+    assert answer[0] == "r" and not page or answer == f"n{len(page)}"
+    case("mps", [room, t, m], nodes, said(answer), lent(room, page.encode(), text=True))
+
+
+def rowlist(given, printed):
+    case("list", [], given.encode(), f"value {len(printed)}", lent(LISTING, printed.encode(), text=True, guard=0))
+
+
+def row_sum(figures, *terms):
+    sums = [sum(c * figures[v] for c, v in terms if c > 0), sum(c * figures[v] for c, v in terms)]
+    numbers = [*figures, *(number for term in terms for number in term)]
+    case("sum", numbers, None, f"positive {sums[0]} whole {sums[1]}")
 
 
 ATOM = table((1, 0, 0))
@@ -94,41 +163,41 @@ def reading():
     read(1, 640, "r3", " " * 1025)
     read(0, 640, "r2", "a0")
     say("The paper, accepted: 127 times `!` then `a0`; `a0` followed by 1,022 spaces; its known rules")
-    read(1, 640, "n128", "!" * 127 + "a0")
-    read(1, 640, "n1", "a0" + " " * 1022)
-    read(2, 15, "n3", "a0 U a1")
-    read(2, 10, "n2", "F a1")
-    read(2, 10, "n2", "G a0")
-    read(2, 15, "n3", "a0>a1")
-    read(2, 15, "n3", "GFa0")
-    read(2, 15, "n3", "FGa0")
-    read(2, 25, "n5", "a0&a1|a0")
-    read(2, 25, "n5", "a0Ua1Ua0")
-    read(2, 20, "n4", "!a0Ua1")
+    read(1, 640, "a0" + " !" * 127, "!" * 127 + "a0")
+    read(1, 640, "a0", "a0" + " " * 1022)
+    read(2, 15, "a0 a1 U", "a0 U a1")
+    read(2, 10, "a1 F", "F a1")
+    read(2, 10, "a0 G", "G a0")
+    read(2, 15, "a0 a1 >", "a0>a1")
+    read(2, 15, "a0 F G", "GFa0")
+    read(2, 15, "a0 G F", "FGa0")
+    read(2, 25, "a0 a1 & a0 |", "a0&a1|a0")
+    read(2, 25, "a0 a1 a0 U U", "a0Ua1Ua0")
+    read(2, 20, "a0 ! a1 U", "!a0Ua1")
     say("By hand from the paper: limits of M, of the text's length and of the nodes; the buffer")
     read(17, 640, "r2", "a0")
     read(257, 640, "r2", "a0")
     read(65537, 640, "r2", "a0")
     read(4294967297, 640, "r2", "a0")
-    read(16, 640, "n1", "a15")
+    read(16, 640, "a15", "a15")
     read(1, 640, "r5", "a1")
-    read(1, 640, "n1", " " * 1022 + "a0")
-    read(1, 640, "n1", " " * 511 + "a0" + " " * 511)
+    read(1, 640, "a0", " " * 1022 + "a0")
+    read(1, 640, "a0", " " * 511 + "a0" + " " * 511)
     read(1, 640, "r3", "a0" + " " * 1023)
     read(1, 640, "r4", " " * 1024)
-    read(1, 640, "n128", "!a0" + "&a0" * 63)
+    read(1, 640, "a0 !" + " a0" * 63 + " &" * 63, "!a0" + "&a0" * 63)
     read(1, 645, "r6", "a0" + "&a0" * 64)
-    read(1, 640, "n127", "a0" + "Ua0" * 63)
-    read(1, 640, "n1", "(" * 511 + "a0" + ")" * 511)
+    read(1, 640, "a0" + " a0" * 63 + " U" * 63, "a0" + "Ua0" * 63)
+    read(1, 640, "a0", "(" * 511 + "a0" + ")" * 511)
     read(1, 640, "r4", "(" * 1024)
     read(1, 640, "r4", "!" * 1024)
     read(1, 640, "r6", "!" * 1022 + "a0")
-    read(1, 5, "n1", "a0")
-    read(1, 6, "n1", "a0")
+    read(1, 5, "a0", "a0")
+    read(1, 6, "a0", "a0")
     read(1, 4, "r11", "a0")
     read(1, 0, "r11", "a0")
     read(2, 14, "r11", "a0Ua1")
-    read(2, 15, "n3", "a0Ua1")
+    read(2, 15, "a0 a1 U", "a0Ua1")
     read(1, 639, "r11", "!" * 127 + "a0")
     say("By hand: the lowest refusal wins, and a fault at the end comes before all that is known earlier")
     read(0, 0, "r2", " " * 1025)
@@ -148,7 +217,7 @@ def reading():
     read(16, 640, "r4", "a")
     read(16, 640, "r4", "aa0")
     read(16, 640, "r4", "a1 5")
-    read(16, 640, "n1", "a10")
+    read(16, 640, "a10", "a10")
     for power in (8, 16, 32, 64, 128):
         read(16, 640, "r5", f"a{2**power}")
     read(16, 640, "r5", f"a{2**64 + 1}&a0")
@@ -172,14 +241,14 @@ def reading():
     ):
         read(2, 640, "r4", text)
     say("By hand: spaces and brackets make no node")
-    read(2, 640, "n3", "  a0  U  a1  ")
-    read(2, 640, "n3", "( ( a0 ) U ( ( a1 ) ) )")
-    read(2, 640, "n2", " ! ( a0 ) ")
-    read(2, 640, "n4", "!(a0Ua1)")
-    read(2, 640, "n8", "G(a0>Fa1)|!a0")
-    read(2, 640, "n5", "a0 > a1 > a0")
-    read(2, 640, "n9", "(a0>a1)U(a0|a1)&a0")
-    read(2, 640, "n12", "F(a0&a1)U!a0|G(a0>a1)")
+    read(2, 640, "a0 a1 U", "  a0  U  a1  ")
+    read(2, 640, "a0 a1 U", "( ( a0 ) U ( ( a1 ) ) )")
+    read(2, 640, "a0 !", " ! ( a0 ) ")
+    read(2, 640, "a0 a1 U !", "!(a0Ua1)")
+    read(2, 640, "a0 a1 F > G a0 ! |", "G(a0>Fa1)|!a0")
+    read(2, 640, "a0 a1 a0 > >", "a0 > a1 > a0")
+    read(2, 640, "a0 a1 > a0 a1 | U a0 &", "(a0>a1)U(a0|a1)&a0")
+    read(2, 640, "a0 a1 & F a0 ! U a0 a1 > G |", "F(a0&a1)U!a0|G(a0>a1)")
 
 
 def evaluating():
@@ -464,10 +533,8 @@ def judging():
 
 
 # A rule of every kind: `G(a0>Fa1)&!(a2U!a0)|a1`, T 4, M 3.
-MIXED = table(
-    (1, 0, 0), (1, 1, 0), (6, 1, 0), (5, 0, 2), (7, 3, 0), (1, 2, 0), (1, 0, 0), (2, 6, 0), (8, 5, 7), (2, 8, 0),
-    (3, 4, 9), (1, 1, 0), (4, 10, 11),
-)
+MIXED_RULE = "a0 a1 F > G a2 a0 ! U ! & a1 |"
+MIXED = paper.table(nodes_of(MIXED_RULE))
 
 
 def solution(run, truth):
@@ -478,7 +545,7 @@ def solution(run, truth):
 
 def of_the_reference():
     say("From the reference implementation in bench/: a rule of every kind, `G(a0>Fa1)&!(a2U!a0)|a1`")
-    read(3, 65, "n13", "G(a0>Fa1)&!(a2U!a0)|a1")
+    read(3, 65, MIXED_RULE, "G(a0>Fa1)&!(a2U!a0)|a1")
     read(3, 64, "r11", "G(a0>Fa1)&!(a2U!a0)|a1")
     for run, answer, truth, verdict in (
         ([0, 1, 2, 4], "v0", "0100 0010 1110 1111 1111 0001 0100 1011 1011 0100 0100 0010 0110", "k97,1000000"),
@@ -491,16 +558,135 @@ def of_the_reference():
         judge(4, 3, 0, solution(run, truth), verdict, MIXED)
 
 
+def writing_pages():
+    say("The request: `a0Ua1`, T 2, M 2, of the page's words; the buffer as long as the page, longer, and a byte too short")
+    nodes = nodes_of("a0 a1 U")
+    page = paper.expected_page(paper.expected_model(nodes, 2, 2))
+    size = len(page)
+    mps(2, 2, size, f"n{size}", page, UNTIL)
+    mps(2, 2, size + 3, f"n{size}", page, UNTIL)
+    mps(2, 2, size - 1, "r11", "", UNTIL)
+    mps(2, 2, 0, "r11", "", UNTIL)
+    say("By hand: a page in full, `a0` with T 1 and M 2, where a1 stands in no row and has its COST line")
+    page = """\
+NAME
+ROWS
+ N  COST
+ E  R0
+ E  R1
+COLUMNS
+    X0        R0        -1
+    X1        COST      0
+    X2        R0        1
+    X2        R1        1
+RHS
+    RHS       R1        1
+BOUNDS
+ BV BND       X0
+ BV BND       X1
+ UP BND       X2        1
+ENDATA
+"""
+    mps(1, 2, len(page), f"n{len(page)}", page, ATOM)
+    say("By hand: coefficients of equal variables, T 1 and M 1: `a0&a0` has -2, `a0|a0` 2, and `a0>a0` drops its p in row 3")
+    for kind, rights, columns in (
+        (3, "R3 -1, R4 1", "X1 R0 1, X1 R1 1, X1 R2 1, X1 R3 -2, X2 R1 -1, X2 R2 -1, X2 R3 1, X2 R4 1"),
+        (4, "R4 1", "X1 R0 1, X1 R1 -1, X1 R2 -1, X1 R3 2, X2 R1 1, X2 R2 1, X2 R3 -1, X2 R4 1"),
+        (5, "R1 1, R3 -1, R4 1", "X1 R0 1, X1 R1 1, X1 R2 -1, X2 R1 1, X2 R2 1, X2 R3 -1, X2 R4 1"),
+    ):
+        lines = ["NAME", "ROWS", " N  COST", " E  R0", " G  R1", " G  R2", " G  R3", " E  R4", "COLUMNS"]
+        lines += ["    {:10}{:10}{}".format(*entry.split()) for entry in ("X0 R0 -1, " + columns).split(", ")]
+        lines += ["RHS", *("    RHS       {:10}{}".format(*entry.split()) for entry in rights.split(", "))]
+        lines += ["BOUNDS", " BV BND       X0", " UP BND       X1        1", " UP BND       X2        1", "ENDATA"]
+        page = "".join(line + "\n" for line in lines)
+        mps(1, 1, len(page), f"n{len(page)}", page, table((1, 0, 0), (kind, 0, 0)))
+    say("By hand: the row writer's refusals, the lowest wins")
+    mps(65, 2, 9999, "r1", "", UNTIL)
+    mps(0, 0, 0, "r1", "", b"")
+    mps(2, 0, 9999, "r2", "", ATOM)
+    mps(2, 17, 0, "r2", "", b"")
+    mps(2, 2, 9999, "r7", "", b"")
+    mps(2, 2, 0, "r7", "", NOTS + ATOM)
+    mps(1, 1, 9999, "r7", "", table((1, 1, 0)))
+    say("Of the page's words: a rule of every kind, `G(a0>Fa1)&!(a2U!a0)|a1`, T 4, M 3; 128 nodes, T 3, M 1")
+    for nodes, t, m in (nodes_of(MIXED_RULE), 4, 3), (nodes_of("a0" + " !" * 127), 3, 1):
+        page = paper.expected_page(paper.expected_model(nodes, t, m))
+        mps(t, m, len(page), f"n{len(page)}", page, paper.table(nodes))
+
+
+def listing_rows():
+    say("The paper: rowlist's example; the last line may lack its line feed, and what follows line 2 is ignored")
+    for given in "2 2\na0Ua1\n", "2 2\na0Ua1", "2 2\na0Ua1\na0\n\n", "002 2\na0Ua1":
+        rowlist(given, "rows 10 vars 10\n" + PAGE + "\n")
+    say("By hand: each refusal of reader and row writer; the lowest wins")
+    for given, number in (
+        ("65 1\na0", 1), ("0 0\n)", 1), ("18446744073709551618 1\na0", 1), ("2 0\n)", 2), ("2 17\na0", 2),
+        ("1 1\n" + " " * 1025, 3), ("2 2", 4), ("2 2\n", 4), ("2 2\n\na0", 4), ("2 2\na0\r\n", 4), ("1 1\na1", 5),
+        ("1 1\n" + "!" * 128 + "a0", 6), ("31 1\n" + "!" * 54 + "(a0" + "&a0" * 24 + ")", 11),
+    ):
+        rowlist(given, f"refused {number}\n")
+    say("By hand: a first line of another shape")
+    for given in "", "\n", "2", "2 ", " 2 2", "2  2", "2 2 ", "2 2 2", "2\t2", "2 2\r\na0", "-2 2", "2,2", "a0", "65 x\na0":
+        rowlist(given, "bad input\n")
+    say("Of the paper's words: 4,681 rows, the most that rowlist holds, with T 60 and 77 times `!` then `a0`")
+    rowlist("60 1\n" + "!" * 77 + "a0", paper.listing(nodes_of("a0" + " !" * 77), 60, 1))
+
+
+def of_spin():
+    say("From SPIN (tests/spin.txt), the root's truth at the slots asked; the tables, and the other truths, of the paper's words")
+    for line in (TOP / "tests" / "spin.txt").read_text().splitlines():
+        t, m, run, bits, text = line.split(" ", 4)
+        t, m, run, nodes = int(t), int(m), [int(number) for number in run.split(",")], paper.parse(text)
+        case("read", [640, m], text.encode(), f"value {len(nodes)}", lent(640, paper.table(nodes)))
+        atoms = [[number >> atom & 1 for number in run] for atom in range(m)]
+        truths = [[int(bit) for bit in truth] for truth in paper.truth(nodes, atoms)]
+        truths[-1] = [own if bit == "-" else int(bit) for own, bit in zip(truths[-1], bits)]
+        words = " ".join("".join(map(str, truth)) for truth in truths)
+        evaluate(t, m, len(nodes) * t, f"v{truths[-1][0]}", run, words, paper.table(nodes))
+
+
+def largest():
+    say("Of the paper's words: 128 nodes, an atom and then until over the node before on both sides, T 64 and M 16")
+    nodes = [(1, 0, 0)] + [(8, child, child) for child in range(127)]
+    run = [int(slot % 3 == 0) for slot in range(64)]
+    texts = [paper.row_text(row) for row in paper.rows(nodes, 64, 16)]
+    rows(64, 16, 450744, "n32196", texts, paper.table(nodes))
+    rows(64, 16, 450743, "r11", [], paper.table(nodes))
+    evaluate(64, 16, 8192, "v1", run, "".join(map(str, run)) * 128, paper.table(nodes))
+    evaluate(64, 16, 8191, "r11", run, "", paper.table(nodes))
+    page = paper.expected_page(paper.expected_model(nodes, 64, 16))
+    mps(64, 16, len(page), f"n{len(page)}", page, paper.table(nodes))
+    mps(64, 16, len(page) - 1, "r11", "", paper.table(nodes))
+
+
+def summing():
+    say("By own arithmetic (request N3): rows of one, two and three of seven terms, with the ends of a figure's type for figures")
+    figures = (2**31 - 1, -(2**31))
+    terms = [(1, 0), (-1, 1), (127, 0), (127, 1), (-128, 0), (-128, 1), (0, 0)]
+    for first in terms:
+        row_sum(figures, first)
+        for second in terms:
+            row_sum(figures, first, second)
+            for third in terms:
+                row_sum(figures, first, second, third)
+
+
 def main():
     say(HEAD)
     reading()
     evaluating()
     writing_rows()
+    writing_pages()
+    listing_rows()
     judging()
     of_the_reference()
-    write_or_check("known/data/lines.txt", "".join(line + "\n" for line in LINES))
-    cases = [line for line in LINES if not line.startswith("#")]
-    print(f"{len(cases)} cases, longest line {max(map(len, LINES))} bytes")
+    of_spin()
+    largest()
+    summing()
+    for name, lines in ("stdin", CASES), ("stdout", PRINTED):
+        write_or_check(f"crates/known/{name}", "".join(line + "\n" for line in lines))
+    cases = [line for line in CASES if not line.startswith("#")]
+    print(f"{len(cases)} cases, {len(''.join(CASES)) + len(CASES)} bytes, longest line {max(map(len, CASES))}")
 
 
 if __name__ == "__main__":

@@ -32,68 +32,10 @@ import tempfile
 from collections import Counter
 from pathlib import Path
 
+from paper import Model, expected_model, expected_page, parse, truth
+
 PROGRAM = Path(__file__).resolve().parent.parent / "mpspage"
 CLOSE = 1e-5  # how near a solver's figure must be: lp_solve prints six digits
-
-# ------------------------------------------------------------------------------------------ rules and their truth
-
-SINGLE = {"!": 2, "F": 6, "G": 7}
-DOUBLE = {">": 5, "|": 4, "&": 3, "U": 8}  # loosest first
-ATOM, NOT, AND, OR, IMPLIES, EVENTUALLY, ALWAYS, UNTIL = range(1, 9)
-
-
-def parse(text):
-    """The nodes of a rule as (kind, left, right), in the order of the node table."""
-    tokens = re.findall(r"a\d+|\S", text)
-    nodes = []
-
-    def node(kind, left, right=0):
-        nodes.append((kind, left, right))
-        return len(nodes) - 1
-
-    def level(operators):
-        if not operators:
-            return single()
-        left = level(operators[1:])
-        if tokens and tokens[0] == operators[0]:
-            operator = tokens.pop(0)
-            return node(DOUBLE[operator], left, level(operators))
-        return left
-
-    def single():
-        token = tokens.pop(0)
-        if token == "(":
-            inner = level("".join(DOUBLE))
-            assert tokens.pop(0) == ")"
-            return inner
-        return node(SINGLE[token], single()) if token in SINGLE else node(ATOM, int(token[1:]))
-
-    level("".join(DOUBLE))
-    assert not tokens
-    return nodes
-
-
-def truth(nodes, atoms):
-    """For each node its truth at each slot, where atoms[a] has those of atom a. After the last slot nothing changes, so
-    what holds at some or at every later slot is found among the slots up to the last."""
-    slots = range(len(atoms[0]))
-    truths = []
-    for kind, left, right in nodes:
-        p = atoms[left] if kind == ATOM else truths[left]
-        q = None if kind == ATOM else truths[right]
-        holds = {
-            ATOM: lambda t: p[t],
-            NOT: lambda t: not p[t],
-            AND: lambda t: p[t] and q[t],
-            OR: lambda t: p[t] or q[t],
-            IMPLIES: lambda t: not p[t] or q[t],
-            EVENTUALLY: lambda t: any(p[k] for k in slots[t:]),
-            ALWAYS: lambda t: all(p[k] for k in slots[t:]),
-            UNTIL: lambda t: any(q[k] and all(p[j] for j in slots[t:k]) for k in slots[t:]),
-        }[kind]
-        truths.append([holds(t) for t in slots])
-    return truths
-
 
 def satisfiable(nodes, t, m):
     for bits in itertools.product((False, True), repeat=m * t):
@@ -129,79 +71,6 @@ def random_case(rng):
     if rng.random() < 0.3:
         text = "".join(token + " " * rng.randint(0, 2) for token in re.findall(r"a\d+|.", text))
     return t, m, text
-
-
-# ------------------------------------------------------------------------------------------------ rows and the page
-
-# The rows at a slot as the scope paper has them; LAST are those at slot T.
-ROWS = {
-    ATOM: "P - p = 0",
-    NOT: "P + p = 1",
-    AND: "p - P >= 0; q - P >= 0; P - p - q >= -1",
-    OR: "P - p >= 0; P - q >= 0; p + q - P >= 0",
-    IMPLIES: "P + p >= 1; P - q >= 0; q - p - P >= -1",
-    EVENTUALLY: "P - p >= 0; P - P' >= 0; p + P' - P >= 0",
-    ALWAYS: "p - P >= 0; P' - P >= 0; P - p - P' >= -1",
-    UNTIL: "P - q >= 0; p + q - P >= 0; q + P' - P >= 0; P - p - P' >= -1",
-}
-LAST = {**ROWS, EVENTUALLY: "P - p = 0", ALWAYS: "P - p = 0", UNTIL: "P - q = 0"}
-
-
-class Model:
-    """rows: by name the type (G or E), the right side and the coefficients that are not 0 by variable;
-    limits: by variable the least, the largest, and whether it is whole."""
-
-    def __init__(self):
-        self.rows, self.limits = {}, {}
-
-
-def expected_model(nodes, t, m):
-    model = Model()
-
-    def add(row, variables):
-        terms, relation, right = re.fullmatch(r"(.*) (>?=) (-?\d+)", row).groups()
-        sums = Counter()
-        for sign, place in re.findall(r"([+-]?) ?([Ppq]'?)", terms):
-            sums[f"X{variables[place]}"] += -1 if sign == "-" else 1
-        coefficients = {name: value for name, value in sums.items() if value != 0}
-        model.rows[f"R{len(model.rows)}"] = ("E" if relation == "=" else "G", int(right), coefficients)
-
-    for number, (kind, left, right) in enumerate(nodes):
-        for slot in range(t):
-            own = (m + number) * t + slot
-            p = (left if kind == ATOM else m + left) * t + slot
-            variables = {"P": own, "P'": own + 1, "p": p, "q": (m + right) * t + slot}
-            for row in (ROWS if slot < t - 1 else LAST)[kind].split("; "):
-                add(row, variables)
-    add("P = 1", {"P": (m + len(nodes) - 1) * t})
-    for variable in range((m + len(nodes)) * t):
-        model.limits[f"X{variable}"] = (0, 1, variable < m * t)
-    return model
-
-
-def expected_page(model):
-    def line(*fields):
-        text = ""
-        for column, field in zip((2, 5, 15, 25), fields):
-            text = text.ljust(column - 1) + str(field) if field != "" else text
-        return text
-
-    entries = {variable: [] for variable in model.limits}
-    for row, (_, _, coefficients) in model.rows.items():
-        for variable, coefficient in coefficients.items():
-            entries[variable].append((row, coefficient))
-    lines = ["NAME", "ROWS", line("N", "COST")]
-    lines += [line(kind, row) for row, (kind, _, _) in model.rows.items()]
-    lines += ["COLUMNS"]
-    for variable, of_rows in entries.items():
-        lines += [line("", variable, *entry) for entry in of_rows or [("COST", 0)]]
-    lines += ["RHS"]
-    lines += [line("", "RHS", row, right) for row, (_, right, _) in model.rows.items() if right != 0]
-    lines += ["BOUNDS"]
-    for variable, (_, _, whole) in model.limits.items():
-        lines += [line("BV", "BND", variable) if whole else line("UP", "BND", variable, 1)]
-    lines += ["ENDATA"]
-    return "".join(text + "\n" for text in lines)
 
 
 # ------------------------------------------------------------------------------------------------------- the solvers

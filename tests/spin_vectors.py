@@ -1,5 +1,5 @@
 #!/usr/bin/env python3
-"""Makes crates/known/data/spin.txt: the truth of rules over runs, as the model checker SPIN has it.
+"""Makes tests/spin.txt: the truth of rules over runs, as the model checker SPIN has it.
 
     python3 tests/spin_vectors.py            writes the file (about seven minutes)
     python3 tests/spin_vectors.py --check    says whether the file is what SPIN gives, and writes nothing
@@ -58,6 +58,12 @@ KNOWN = [
     (("G", ("F", ("a", 0))), [1, 1, 0], "GFa0"),
     (("F", ("G", ("a", 0))), [0, 0, 1], "FGa0"),
 ]
+
+# The paper's accepted long texts, with its least and its largest horizon.
+NOTS = ("a", 0)
+for _ in range(127):
+    NOTS = ("!", NOTS)
+LONG = [(tree, run, words) for tree, words in ((NOTS, "!" * 127 + "a0"), (("a", 0), "a0" + " " * 1022)) for run in ([1], [0, 1] * 32)]
 
 
 def children(tree):
@@ -172,7 +178,7 @@ def plan(rng):
                 asked = sorted({1, slots - 1, slots, *rng.sample(range(2, slots - 1), 2)})
             rules.append((tree, text(tree, rng, spaces, brackets), asked))
         runs.append((m, run, rules))
-    return runs
+    return runs + [(1, run, [(tree, words, sorted({1, len(run) - 1, len(run)} - {0}))]) for tree, run, words in LONG]
 
 
 def model(run, rules):
@@ -231,8 +237,8 @@ def main():
     for title, counts in zip(titles, (kinds, depths, horizons, atom_counts, bits)):
         print(f"{title}: " + ", ".join(f"{key} {counts[key]}" for key in sorted(counts)))
     assert len(lines) >= 300 and set(kinds) == set("a" + SINGLE + DOUBLE) and min(kinds.values()) >= 40
-    assert set(depths) == set(range(1, LARGEST_DEPTH + 1)) and {1, 64} <= set(horizons) and {1, 16} <= set(atom_counts)
-    write_or_check("known/data/spin.txt", "".join(lines))
+    assert set(range(1, LARGEST_DEPTH + 1)) <= set(depths) and {1, 64} <= set(horizons) and {1, 16} <= set(atom_counts)
+    write_or_check("tests/spin.txt", "".join(lines))
 
 
 if __name__ == "__main__":

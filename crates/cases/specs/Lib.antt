@@ -1,4 +1,0 @@
-pub mod Parts
-pub mod Walk
-pub mod Values
-pub mod Signs
