@@ -4,9 +4,11 @@
     python3 tests/must_fail.py            writes the page; needs target/must-fail, which `.ci/run` or `rt must-fail` makes
     python3 tests/must_fail.py --check    says whether the page is what this script makes, and writes nothing
 
-An edit's first line is `# PROMISE: WHAT IT DOES`. What the prover said is the first fact that it misses.
+An edit's first line is `# PROMISE, PROMISE ..: WHAT IT DOES`. What the prover said is the first fact that it misses. Each
+demand and each wrong program of document 01, "The wording of each promise" (c), must have two edits or more.
 """
 
+import itertools
 import re
 
 from data_file import TOP, write_or_check
@@ -19,44 +21,83 @@ longer holds. The gate tries them all (`rt must-fail NAME` tries those of one cr
 edits for the promises of the calls and programs offered to others, for the definitions that must be believed, and for
 what the scope paper's "The wording of each promise" (c) names. Other crates need none: their callers' proofs would break.
 `known` compares nothing inside a proof, so it has none either: the gate compares what it prints.
+
+What (c) names, each in the code and in the definitions:
 """
-MOST = 240  # characters of what the prover says
+NAMED = (
+    "rows left out",
+    "reader that refuses all rules",
+    "judge that passes all figures",
+    "evaluator that writes nothing",
+    "evaluator that repeats slot 1",
+    "row count unrelated to the rows",
+    "judge that names row 0",
+)
+DEMANDS = ("demand 1", "demand 2", "demand 3")
+MOST = 300  # characters of what the prover says
 
 
 def edits():
-    """(crate, name, promise, what it does, what the prover says), in the order of crates.txt."""
+    """(crate, name, promises, what it does, what the prover says), in the order of crates.txt."""
     for line in (TOP / "crates.txt").read_text().splitlines():
         crate = line.partition(":")[0]
         for edit in sorted((TOP / "crates" / crate / "must-fail").glob("*.edit")):
-            promise, _, does = edit.read_text().partition("\n")[0].removeprefix("# ").partition(": ")
-            yield crate, edit.stem, promise, does, fact(crate, edit.stem)
+            promises, _, does = edit.read_text().partition("\n")[0].removeprefix("# ").partition(": ")
+            yield crate, edit.stem, promises.split(", "), does, fact(crate, edit.stem)
 
 
 def fact(crate, name):
-    """The first missing fact, without line numbers."""
-    log = TOP / "target" / "must-fail" / crate / name / ".log"
-    for line in log.read_text().splitlines():
-        found = re.match(rf"(?:note: )?/\S*/must-fail/{crate}/{name}/(\S+?):\d+:\d+: (?:error: )?(.*)", line)
-        if found and "was not admitted" not in found[2] and re.search("error: |it is not proved that", line):
-            words = " ".join(found[2].split())
-            return f"{found[1]}: {words if len(words) <= MOST else words[:MOST].rsplit(' ', 1)[0] + ' ..'}"
+    """The first missing fact, without line numbers; what only follows from it is passed over."""
+    log = (TOP / "target" / "must-fail" / crate / name / ".log").read_text()
+    for message in re.split(rf"^(?:note: )?/\S*/must-fail/{crate}/{name}/(?=\S+?:\d+:\d+: )", log, flags=re.M)[1:]:
+        place, _, _, words = message.split(":", 3)
+        if words.startswith((" error: ", " it is not proved that")) and "was not admitted" not in words:
+            return f"{place}: {shortened(words)}"
     raise SystemExit(f"{crate}/{name}: no missing fact in its log")
 
 
+def shortened(words):
+    """Of a refusal that says how two types differ once they are computed just that; without advice, and cut."""
+    head, *more = [line for line in words.removeprefix(" error:").split("\n") if line.startswith(" ")]
+    label, _, rest = head.strip().partition(": ")
+    computed = re.search(r"computed as far as they go, the two .*?\(found\)", " ".join([head, *more]))
+    if head.startswith(" it is not proved"):
+        words = head
+    elif computed:
+        words = f"{label}: {computed[0]}"
+    elif rest.startswith(("give a proof", "list the missing")) and more:
+        words = " ".join([f"{label}:", *more])
+    else:
+        words = " ".join([head, *more])
+    words = re.sub(r"( \.before){2,}", " ..", " ".join(words.split()))
+    return words if len(words) <= MOST else words[:MOST].rsplit(" ", 1)[0] + " .."
+
+
 def purpose(crate):
-    """The comment at the top of the crate."""
-    return (TOP / "crates" / crate / "src" / "lib.rt").read_text().partition("\n")[0].removeprefix("// ")
+    """The first sentence of the comment at the top of the crate."""
+    lines = (TOP / "crates" / crate / "src" / "lib.rt").read_text().splitlines()
+    comment = " ".join(line.removeprefix("// ") for line in itertools.takewhile(lambda line: line.startswith("//"), lines))
+    return re.match(r".*?\.(?= |$)", comment)[0]
+
+
+def answering(found, promise):
+    names = [f"{crate}/{name}" for crate, name, promises, _, _ in found if promise in promises]
+    if len(names) < 2:
+        raise SystemExit(f"{promise}: {len(names)} edits")
+    return names
 
 
 def main():
     found = list(edits())
-    page = [HEAD, "The edits that answer (c):\n"]
-    page += [f"- `{crate}/{name}`: {does}" for crate, name, promise, does, _ in found if "01 (c)" in promise]
+    for demand in DEMANDS:
+        answering(found, demand)
+    page = [HEAD, "| wrong program | edits |", "|---|---|"]
+    page += [f"| {named} | {', '.join(f'`{name}`' for name in answering(found, f'01 (c) {named}'))} |" for named in NAMED]
     for crate in dict.fromkeys(edit[0] for edit in found):
         page += [f"\n## `{crate}`: {purpose(crate)}\n", "| edit | promise | what it does | the prover says |", "|---|---|---|---|"]
-        for row in found:
-            if row[0] == crate:
-                page.append("| " + " | ".join(cell.replace("|", "\\|") for cell in row[1:]) + " |")
+        for of, name, promises, *rest in found:
+            if of == crate:
+                page.append("| " + " | ".join(cell.replace("|", "\\|") for cell in (name, ", ".join(promises), *rest)) + " |")
     write_or_check("docs/MUST-FAIL.md", "\n".join(page) + "\n")
     print(f"{len(found)} edits in {len({edit[0] for edit in found})} crates")
 

@@ -1,4 +1,8 @@
 // Runs the cases of standard input, one a line.
+mod calls;
+mod cases;
+mod show;
+
 use libc::STDIN_FILENO;
 
 fn run_lines(text: &[u8]) {

@@ -1,0 +1,136 @@
+// The call that a line asks for: made, and printed with its answer and with what the whole lent buffer then holds.
+// Calls go by the first letter of their name. Of a call that writes, the first number is the length of the buffer lent.
+ghost use Prim.Native.Nat.{_≤_};
+use crate::cases;
+use crate::cases::NUMBERS;
+use crate::show;
+use crate::show::FILL;
+use answers::Answer;
+use row::Term;
+use row::Terms;
+
+// The length of a lent buffer's guard, and of all that can be lent.
+const GUARD: usize = 8;
+
+const LARGEST: usize = 4194304;
+
+// read ROOM M:TEXT, evaluate ROOM T M NUMBERS:TABLE, write ROOM T M:TABLE, mps ROOM T M:TABLE
+fn made(call: u8, list: &[usize; NUMBERS], bytes: &[u8], out: &mut [u8]) -> Answer {
+    match call {
+        b'r' => reader::read(bytes, list[2], out),
+        b'e' => evaluated(list, bytes, out),
+        b'w' => rows::write_rows(bytes, list[2], list[3], out),
+        _ => pages::mps_page(bytes, list[2], list[3], out),
+    }
+}
+
+fn evaluated(list: &[usize; NUMBERS], table: &[u8], out: &mut [u8]) -> Answer {
+    let run = cases::run(list);
+    let end = cases::end(list, 4);
+    evaluator::evaluate(table, list[2], list[3], &run[4..end], out)
+}
+
+// Lends all of `out` but its guard, and prints all of it.
+fn lend(call: u8, list: &[usize; NUMBERS], bytes: &[u8], out: &mut [u8]) {
+    if out.len() < GUARD {
+        return;
+    }
+    let room = out.len() - GUARD;
+    let answer = made(call, list, bytes, &mut out[0..room]);
+    show::answer(answer);
+    show::buffer(out, call == b'm');
+}
+
+// A buffer's length with its guard, at most all that there is.
+fn guarded(room: usize, most: usize) -> usize
+    ensures { λ r. ⌜ r ≤ most ⌝ }
+{
+    if room < most {
+        if GUARD < most - room {
+            return room + GUARD;
+        }
+    }
+    most
+}
+
+fn lend_part(call: u8, list: &[usize; NUMBERS], bytes: &[u8], space: &mut [u8]) {
+    let end = guarded(list[1], space.len());
+    lend(call, list, bytes, &mut space[0..end]);
+}
+
+fn write(call: u8, list: &[usize; NUMBERS], bytes: &[u8]) {
+    let mut space = [FILL; LARGEST];
+    lend_part(call, list, bytes, &mut space);
+}
+
+// judge T M E FIGURES:TABLE
+fn judge(list: &[usize; NUMBERS], table: &[u8]) {
+    let figures = cases::figures(list);
+    let end = cases::end(list, 4);
+    let e = cases::signed(list[3]);
+    show::ruling(judge::judge(table, list[1], list[2], &figures[4..end], e));
+}
+
+// list:INPUT, what rowlist prints
+fn list_rows(input: &[u8]) {
+    let mut page = [FILL; 160000];
+    let n = listing::page_of(input, &mut page);
+    show::number(b"value ", n);
+    show::text(b"\n");
+    show::buffer(&page, true);
+}
+
+// sum X Y and terms of a coefficient and a variable, over the figures X and Y
+fn sum(list: &[usize; NUMBERS]) {
+    let figures = cases::figures(list);
+    let sum = sums::row_sum(&figures[1..3], terms(list));
+    show::signed(b"positive ", sum.positive);
+    show::signed(b" whole ", sum.whole);
+    show::text(b"\n");
+}
+
+fn terms(list: &[usize; NUMBERS]) -> Terms {
+    let a = term(list[3], list[4]);
+    let b = term(list[5], list[6]);
+    let c = term(list[7], list[8]);
+    match list[0] {
+        4 => Terms::Single(a),
+        6 => Terms::Pair(a, b),
+        _ => Terms::Triple(a, b, c),
+    }
+}
+
+fn term(coefficient: usize, variable: usize) -> Term {
+    Term {
+        coefficient: cases::signed_byte(coefficient),
+        variable: (variable % 65536) as u16,
+    }
+}
+
+fn call_with(call: u8, list: &[usize; NUMBERS], bytes: &[u8]) {
+    match call {
+        b'j' => judge(list, bytes),
+        b'l' => list_rows(bytes),
+        b's' => sum(list),
+        b'r' | b'e' | b'w' | b'm' => write(call, list, bytes),
+        _ => show::line(b"no such call"),
+    }
+}
+
+fn run(line: &[u8], call: u8) {
+    let list = cases::numbers(line);
+    let mut space = [0u8; cases::BYTES];
+    let n = cases::bytes(line, &mut space);
+    call_with(call, &list, &space[0..n]);
+}
+
+// Prints a line and runs its case; a line with `#` is a note and is printed alone.
+pub fn run_line(line: &[u8]) {
+    show::line(line);
+    if line.len() == 0 {
+        return;
+    }
+    if line[0] != b'#' {
+        run(line, line[0]);
+    }
+}
