@@ -14,6 +14,9 @@ const GUARD: usize = 8;
 
 const LARGEST: usize = 4194304;
 
+// The length of rowlist's page.
+const LISTING: usize = 160000;
+
 // read ROOM M:TEXT, evaluate ROOM T M NUMBERS:TABLE, write ROOM T M:TABLE, mps ROOM T M:TABLE
 fn made(call: u8, list: &[usize; NUMBERS], bytes: &[u8], out: &mut [u8]) -> Answer {
     match call {
@@ -73,7 +76,7 @@ fn judge(list: &[usize; NUMBERS], table: &[u8]) {
 
 // list:INPUT, what rowlist prints
 fn list_rows(input: &[u8]) {
-    let mut page = [FILL; 160000];
+    let mut page = [FILL; LISTING];
     let n = listing::page_of(input, &mut page);
     show::number(b"value ", n);
     show::text(b"\n");

@@ -5,6 +5,9 @@ mod show;
 
 use libc::STDIN_FILENO;
 
+// The most bytes of cases.
+const CASES: usize = 458752;
+
 fn run_lines(text: &[u8]) {
     let mut at: usize = 0;
     while at < text.len() {
@@ -23,6 +26,6 @@ fn read_lines(space: &mut [u8]) {
 }
 
 fn main() {
-    let mut space = [0u8; 458752];
+    let mut space = [0u8; CASES];
     read_lines(&mut space);
 }
