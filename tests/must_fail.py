@@ -22,7 +22,7 @@ edits for the promises of the calls and programs offered to others, for the defi
 what the scope paper's "The wording of each promise" (c) names. Other crates need none: their callers' proofs would break.
 `known` compares nothing inside a proof, so it has none either: the gate compares what it prints.
 
-What (c) names, each in the code and in the definitions:
+What (c) names, each in the code and in what the contracts cite:
 """
 NAMED = (
     "rows left out",
