@@ -37,6 +37,9 @@ from paper import Model, expected_model, expected_page, parse, truth
 PROGRAM = Path(__file__).resolve().parent.parent / "mpspage"
 CLOSE = 1e-5  # how near a solver's figure must be: lp_solve prints six digits
 
+# ------------------------------------------------------------------------------------------------------- the rules
+
+
 def satisfiable(nodes, t, m):
     for bits in itertools.product((False, True), repeat=m * t):
         if truth(nodes, [bits[a * t : (a + 1) * t] for a in range(m)])[-1][0]:
