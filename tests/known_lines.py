@@ -4,8 +4,9 @@
     python3 tests/known_lines.py            writes the files
     python3 tests/known_lines.py --check    says whether the files are what this script makes, and writes nothing
 
-What is expected is written down below, comes from SPIN (tests/spin.txt) or is worked out here from the paper's words;
-nothing of it comes from the program. A new call has a function here that writes its case and what must be printed.
+What is expected is written down below, comes from SPIN (tests/spin.txt) or is worked out here from the paper's words
+(tests/paper.py); nothing of it comes from the program. Tables, truths and rows that are written down must also be what
+the paper's words give. A new call has a function here that writes its case and what must be printed.
 """
 
 import paper
@@ -100,13 +101,27 @@ def read(m, room, expected, text):
         case("read", [room, m], text, said(expected), lent(room, b""))
     else:
         nodes = nodes_of(expected)
+        assert nodes == paper.parse(text.decode())
         case("read", [room, m], text, f"value {len(nodes)}", lent(room, paper.table(nodes)))
+
+
+def nodes_in(records):
+    return [tuple(records[at + 2 : at + 5]) for at in range(0, len(records), 5)]
+
+
+def truths(records, m, run):
+    """The truth of each node at each slot, of the paper's words."""
+    atoms = [[number >> atom & 1 for number in run] for atom in range(m)]
+    return [[int(bit) for bit in truth] for truth in paper.truth(nodes_in(records), atoms)]
 
 
 def evaluate(t, m, room, answer, run, truth, nodes):
     """The truth is a word of 0 and 1 for each node, in node order."""
     truth = bytes(int(bit) for bit in truth.replace(" ", ""))
-    assert answer[0] == "r" and not truth or answer == f"v{truth[-t]}"
+    if answer[0] == "r":
+        assert not truth
+    else:
+        assert answer == f"v{truth[-t]}" and truth == bytes(sum(truths(nodes, m, run), []))
     case("evaluate", [room, t, m, *run], nodes, said(answer), lent(room, truth))
 
 
@@ -118,8 +133,12 @@ def row(text):
 
 def rows(t, m, room, answer, expected, nodes):
     """The rows expected, as rowlist prints them."""
-    assert answer[0] == "r" and not expected or answer == f"n{len(expected)}"
-    case("write", [room, t, m], nodes, said(answer), lent(room, b"".join(paper.record(row(text)) for text in expected)))
+    expected = [row(text) for text in expected]
+    if answer[0] == "r":
+        assert not expected
+    else:
+        assert answer == f"n{len(expected)}" and expected == paper.rows(nodes_in(nodes), t, m)
+    case("write", [room, t, m], nodes, said(answer), lent(room, b"".join(map(paper.record, expected))))
 
 
 def judge(t, m, e, figures, answer, nodes):
@@ -543,8 +562,8 @@ def solution(run, truth):
     return [ONE * bit for bit in atoms + [int(bit) for bit in truth.replace(" ", "")]]
 
 
-def of_the_reference():
-    say("From the reference implementation in bench/: a rule of every kind, `G(a0>Fa1)&!(a2U!a0)|a1`")
+def of_every_kind():
+    say("A rule of every kind, `G(a0>Fa1)&!(a2U!a0)|a1`; its truths are also those of the reference implementation in bench/")
     read(3, 65, MIXED_RULE, "G(a0>Fa1)&!(a2U!a0)|a1")
     read(3, 64, "r11", "G(a0>Fa1)&!(a2U!a0)|a1")
     for run, answer, truth, verdict in (
@@ -638,11 +657,10 @@ def of_spin():
         t, m, run, bits, text = line.split(" ", 4)
         t, m, run, nodes = int(t), int(m), [int(number) for number in run.split(",")], paper.parse(text)
         case("read", [640, m], text.encode(), f"value {len(nodes)}", lent(640, paper.table(nodes)))
-        atoms = [[number >> atom & 1 for number in run] for atom in range(m)]
-        truths = [[int(bit) for bit in truth] for truth in paper.truth(nodes, atoms)]
-        truths[-1] = [own if bit == "-" else int(bit) for own, bit in zip(truths[-1], bits)]
-        words = " ".join("".join(map(str, truth)) for truth in truths)
-        evaluate(t, m, len(nodes) * t, f"v{truths[-1][0]}", run, words, paper.table(nodes))
+        *parts, root = truths(paper.table(nodes), m, run)
+        root = [own if bit == "-" else int(bit) for own, bit in zip(root, bits)]
+        words = " ".join("".join(map(str, truth)) for truth in [*parts, root])
+        evaluate(t, m, len(nodes) * t, f"v{root[0]}", run, words, paper.table(nodes))
 
 
 def largest():
@@ -679,7 +697,7 @@ def main():
     writing_pages()
     listing_rows()
     judging()
-    of_the_reference()
+    of_every_kind()
     of_spin()
     largest()
     summing()

@@ -1,7 +1,10 @@
 """The papers' words in Python, without the toolkit's code: node tables, truth, rows and pages, for the scripts beside it."""
 
 import re
+import sys
 from collections import Counter
+
+sys.setrecursionlimit(10000)  # a bracket takes six calls of `parse`, and a text may have 511 pairs
 
 SINGLE = {"!": 2, "F": 6, "G": 7}
 DOUBLE = {">": 5, "|": 4, "&": 3, "U": 8}  # loosest first

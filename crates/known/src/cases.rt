@@ -169,18 +169,6 @@ fn minus(size: usize) -> i32
     (0 - (size as i64)) as i32
 }
 
-// Where the numbers of a list end that starts at `from`: after the last number.
-pub fn end(list: &[usize; NUMBERS], from: usize) -> usize
-    requires { ⌜ from ≤ 1024 ⌝ }
-    ensures { λ r. ⌜ (from ≤ r) × (r ≤ 1024) ⌝ }
-{
-    let last = list[0];
-    if last < from {
-        return from;
-    }
-    if last < NUMBERS { last + 1 } else { NUMBERS }
-}
-
 // A number of 8 bits likewise.
 pub fn signed_byte(x: usize) -> i8 {
     if x <= 127 {
@@ -194,4 +182,16 @@ fn minus_byte(size: usize) -> i8
     requires { ⌜ size ≤ 128 ⌝ }
 {
     (0 - (size as i16)) as i8
+}
+
+// Where the numbers of a list end that starts at `from`: after the last number.
+pub fn end(list: &[usize; NUMBERS], from: usize) -> usize
+    requires { ⌜ from ≤ 1024 ⌝ }
+    ensures { λ r. ⌜ (from ≤ r) × (r ≤ 1024) ⌝ }
+{
+    let last = list[0];
+    if last < from {
+        return from;
+    }
+    if last < NUMBERS { last + 1 } else { NUMBERS }
 }

@@ -1,31 +1,23 @@
 -- The number fits, as its size less one is below 2 to the power 31.
-use mathlib.Core.Path.{_≡_, subst⁻¹, _∙_, ap}
-use Prim.Native.Nat.{ℕ, zero, suc, _^_, _≤_, _<_}
+use mathlib.Core.Path.{subst⁻¹, _∙_}
 use native.Mathlib.Omega.{arith}
 use borrow.Author.Needs.{needs}
-use lib.IntN.{ℤ, pos, negℤ, _-ℤ_, +ℤ-idl}
-use lib.Signed.{mag}
 use mir.Syntax.{w32, w64}
-use mir.Val.{SFits, toZ}
-use mir.Facts.{toZ-pos, toZ-ofZ}
+use mir.Val.{SFits}
+use mir.Facts.{toZ-ofZ}
+use Rattle.known.proofs.Signs.{small, turned}
 use Rattle.known.proofs.cases.minus.Statement.{statement}
 use Rattle.known.proofs.cases.minus.Tie as tie
 
-small : (n : ℕ) → n ≤ 2147483648 → mag (negℤ (pos n)) < 2147483648
-small zero h = omega arith
-small (suc n) h = omega arith
-
-turned : (n : ℕ) → n ≤ 2147483648 → pos 0 -ℤ toZ w64 n ≡ negℤ (pos n)
-turned n h = let s : n < 2 ^ 63 = omega arith in ap (λ (z : ℤ). pos 0 -ℤ z) (toZ-pos w64 s) ∙ +ℤ-idl (negℤ (pos n))
-
 sub-result : tie.Need-sub-result
 sub-result c =
-    let s = small (c .args .size) (search needs) in subst⁻¹ (SFits w64) (turned (c .args .size) (search needs)) (record { sfits = omega arith })
+    let s = small 2147483648 (c .args .size) (omega arith) (search needs) in
+    subst⁻¹ (SFits w64) (turned w64 (c .args .size) (omega (arith, c .pre))) (record { sfits = omega arith })
 
 cast-result-2 : tie.Need-cast-result-2
 cast-result-2 c =
-    subst⁻¹ (SFits w32) (toZ-ofZ (sub-result c) ∙ turned (c .args .size) (search needs))
-    (record { sfits = small (c .args .size) (search needs) })
+    subst⁻¹ (SFits w32) (toZ-ofZ (sub-result c) ∙ turned w64 (c .args .size) (omega (arith, c .pre)))
+    (record { sfits = small 2147483648 (c .args .size) (omega arith) (search needs) })
 
 pub minus-spec : {M : Type 1} → statement M
 minus-spec = tie.close (tie.spec (λ c. search needs) sub-result cast-result-2 (λ c. search needs))
