@@ -28,11 +28,22 @@ from statistics import median
 LEAST = 2_000_000  # nanoseconds that one timing takes at least
 DECK = 1  # GLP_MPS_DECK, the fixed columns
 OFF = 0  # GLP_OFF
-ROOM = 4_000_000  # more than the bytes of any page
+NODE_BYTES = 7
+ROOM = 25_000_000  # more than the bytes of any page
 SMALL = b"a0Ua1"
 MEDIUM = b"G(a0&!a1>F(a2|a3))&(a4Ua5)Ua2>F(a3&a5)"
-# 128 nodes, all but the first untils: the most rows that a table can have.
-LARGEST = bytes([0x4E, 0x44, 1, 0, 0]) + b"".join(bytes([0x4E, 0x44, 8, node - 1, 0]) for node in range(1, 128))
+MIXED = b"G(a0&!a1>F[0,5](a2|a3))&G[1,12](a4>F[2,9]a5)&a4Ua2>F[3,20](a3|F[0,63]G[0,4]!a1)"
+
+
+def chain(kind, a, b):
+    """128 nodes, all but the first of one kind."""
+    first = bytes([0x4E, 0x44, 1, 0, 0, 0, 0])
+    return first + b"".join(bytes([0x4E, 0x44, kind, node - 1, 0, a, b]) for node in range(1, 128))
+
+
+# Untils: the most rows without windows. The widest windows of G: the most rows and the longest page of all.
+LARGEST = chain(8, 0, 0)
+LARGEST_WINDOWS = chain(10, 0, 63)
 
 
 class Answer(ctypes.Structure):
@@ -72,9 +83,9 @@ def load_glpk():
 
 
 def read(sepia, text, m):
-    table = ctypes.create_string_buffer(640)
+    table = ctypes.create_string_buffer(128 * NODE_BYTES)
     nodes = sepia.sepia_read(text, len(text), m, table, len(table)).result()
-    return table.raw[: 5 * nodes]
+    return table.raw[: NODE_BYTES * nodes]
 
 
 def write_file(path, data):
@@ -155,9 +166,11 @@ def main():
             ("small", read(sepia, SMALL, 2), 8, 2),
             ("medium", read(sepia, MEDIUM, 6), 32, 6),
             ("largest", LARGEST, 64, 16),
+            ("medium with windows", read(sepia, MIXED, 6), 32, 6),
+            ("largest with windows", LARGEST_WINDOWS, 64, 16),
         ):
             line = compare(sepia, glpk, files, table, t, m, rounds)
-            print(f"| {name}: {len(table) // 5} nodes, T {t}, M {m} | {line} |", flush=True)
+            print(f"| {name}: {len(table) // NODE_BYTES} nodes, T {t}, M {m} | {line} |", flush=True)
 
 
 if __name__ == "__main__":

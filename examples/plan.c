@@ -3,20 +3,25 @@
 #include <string.h>
 #include "sepia.h"
 
-enum { T = 4, M = 2, ONE = 1000000 };
+enum { T = 8, M = 2, NODES = 128, NODE_BYTES = 7, ONE = 1000000 };
 
 int main(void) {
-    const char *rule = "G(a0 > F a1)";
-    const uint16_t run[T] = {1, 0, 2, 0}; /* a0 at slot 1, a1 at slot 3 */
-    static uint8_t table[640], rows[14 * (4 * 128 * T + 1)], truth[128 * T], page[1 << 20];
-    static int32_t figures[(M + 128) * T];
+    const char *rule = "G(a0 > F[0,5] a1)"; /* read-back within five slots */
+    const uint16_t run[T] = {1, 0, 0, 0, 0, 2, 0, 0}; /* a0 at slot 1, a1 at slot 6 */
+    /* enough for every table at this T */
+    static uint8_t table[NODE_BYTES * NODES], rows[1 << 17], truth[NODES * T], page[1 << 20];
+    static int32_t figures[(M + NODES) * T];
 
+    if (sepia_version() != SEPIA_VERSION) {
+        printf("the library has another version than the header\n");
+        return 1;
+    }
     sepia_answer read = sepia_read((const uint8_t *)rule, strlen(rule), M, table, sizeof table);
     if (read.refusal) {
         printf("refused %u\n", read.refusal);
         return 1;
     }
-    size_t nodes = read.value, bytes = 5 * nodes;
+    size_t nodes = read.value, bytes = NODE_BYTES * nodes;
     printf("nodes %zu\n", nodes);
 
     sepia_answer written = sepia_rows(table, bytes, T, M, rows, sizeof rows);

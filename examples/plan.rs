@@ -18,6 +18,7 @@ struct Verdict {
 
 #[link(name = "sepia", kind = "static")]
 extern "C" {
+    fn sepia_version() -> u32;
     fn sepia_read(text: *const u8, text_len: usize, m: usize, out: *mut u8, out_len: usize) -> Answer;
     fn sepia_evaluate(table: *const u8, table_len: usize, t: usize, m: usize, run: *const u16, run_len: usize, out: *mut u8, out_len: usize) -> Answer;
     fn sepia_rows(table: *const u8, table_len: usize, t: usize, m: usize, out: *mut u8, out_len: usize) -> Answer;
@@ -51,18 +52,23 @@ fn judge(table: &[u8], t: usize, m: usize, figures: &[i32], e: i32) -> Result<(u
     if v.refusal == 0 { Ok((v.verdict, v.value as usize, v.shortfall)) } else { Err(v.refusal) }
 }
 
-const T: usize = 4;
+const T: usize = 8;
 const M: usize = 2;
+const NODES: usize = 128;
+const NODE_BYTES: usize = 7;
 const ONE: i32 = 1_000_000;
 
+const VERSION: u32 = 4; // of the boundary declared above
+
 fn main() -> Result<(), u32> {
-    let run: [u16; T] = [1, 0, 2, 0]; // a0 at slot 1, a1 at slot 3
-    let mut table = [0u8; 640];
-    let nodes = read(b"G(a0 > F a1)", M, &mut table)?;
-    let table = &table[..5 * nodes];
+    assert_eq!(unsafe { sepia_version() }, VERSION);
+    let run: [u16; T] = [1, 0, 0, 0, 0, 2, 0, 0]; // a0 at slot 1, a1 at slot 6
+    let mut table = [0u8; NODE_BYTES * NODES];
+    let nodes = read(b"G(a0 > F[0,5] a1)", M, &mut table)?; // read-back within five slots
+    let table = &table[..NODE_BYTES * nodes];
     println!("nodes {nodes}");
 
-    let mut records = vec![0u8; 14 * (4 * nodes * T + 1)];
+    let mut records = vec![0u8; 1 << 17]; // enough, as the page below, for every table at this T
     println!("rows {}", rows(table, T, M, &mut records)?);
 
     let mut page = vec![0u8; 1 << 20];

@@ -1,8 +1,8 @@
 /* Bastersepia: timing rules as solver rows. Link with libsepia.a (rt staticlib sepia).
  *
  * Every call copes with every input. On a refusal no byte of a lent buffer changes; on success bytes past the output keep their content.
- * Where several refusals apply, the lowest number is given. Pointers must be valid for the lengths given with them, and a buffer that is
- * written must overlap nothing else that is passed.
+ * Where several refusals apply, the first in this order is given: 1, 2, 3, 4, 5, 12, 6, 7, 8, 9, 10, 11. Pointers must be valid for the
+ * lengths given with them, and a buffer that is written must overlap nothing else that is passed.
  */
 #ifndef SEPIA_H
 #define SEPIA_H
@@ -13,6 +13,13 @@
 #ifdef __cplusplus
 extern "C" {
 #endif
+
+/* The version that this header describes. It rises with each change of the boundary: 4 since rules have windows (node records of 7 bytes, row
+ * records without padding, refusal 12, the order of refusals). */
+#define SEPIA_VERSION 4
+
+/* The version of the library; to be compared with SEPIA_VERSION. */
+uint32_t sepia_version(void);
 
 /* Refusals, by number. */
 enum {
@@ -27,7 +34,8 @@ enum {
     SEPIA_RUN = 8,         /* evaluate: the run is not T numbers, or a bit at M or above is set */
     SEPIA_FIGURES = 9,     /* judge: the figures are not (M + N)*T */
     SEPIA_TOLERANCE = 10,  /* judge: the tolerance is not 0 to 1,000 */
-    SEPIA_ROOM = 11        /* read, evaluate, rows, mps: the output buffer is shorter than the output */
+    SEPIA_ROOM = 11,       /* read, evaluate, rows, mps: the output buffer is shorter than the output */
+    SEPIA_WINDOW = 12      /* read: a window F[a,b] or G[a,b] with a above b or b above 63; comes after 5 and before 6 */
 };
 
 /* refusal 0: value is the result. Otherwise value is 0. */
@@ -54,17 +62,22 @@ typedef struct {
     int64_t shortfall;
 } sepia_verdict;
 
-/* Reads a rule text with atoms below m into its node table, 5 bytes a node (640 bytes are enough for any). The result is the node count. */
+/* Reads a rule text with atoms below m into its node table. The result is the node count.
+ * A node has 7 bytes: 4E 44 (hexadecimal), kind, left, right, and the window's a and b, which are 0 in kinds other than 9 (F[a,b]) and
+ * 10 (G[a,b]). A table has at most 128 nodes, 896 bytes. */
 sepia_answer sepia_read(const uint8_t *text, size_t text_len, size_t m, uint8_t *out, size_t out_len);
 
 /* Evaluates a table over a run of t numbers, bit a of each the truth of atom a; after slot t the run repeats slot t for good.
  * Writes one byte, 0 or 1, for node n and slot s at place n*t + s - 1. The result is the root's truth at slot 1. */
-sepia_answer sepia_evaluate(const uint8_t *table, size_t table_len, size_t t, size_t m, const uint16_t *run, size_t run_len, uint8_t *out, size_t out_len);
+sepia_answer sepia_evaluate(const uint8_t *table, size_t table_len, size_t t, size_t m, const uint16_t *run, size_t run_len,
+                            uint8_t *out, size_t out_len);
 
-/* Writes a table's rows, 14 bytes a row. The result is the row count. */
+/* Writes a table's rows. The result is the row count.
+ * A row ends after its last term: 5 bytes and 3 for each term, at most 65 terms. A table has at most 272,353 rows, 3,763,976 bytes. */
 sepia_answer sepia_rows(const uint8_t *table, size_t table_len, size_t t, size_t m, uint8_t *out, size_t out_len);
 
-/* Writes a table's rows as a fixed-column MPS page, with a bound for each variable: BV for atoms, UP 1 for slacks. The result is the page's length in bytes. */
+/* Writes a table's rows as a fixed-column MPS page, with a bound for each variable: BV for atoms, UP 1 for slacks.
+ * The result is the page's length in bytes, at most 24,984,950. */
 sepia_answer sepia_mps(const uint8_t *table, size_t table_len, size_t t, size_t m, uint8_t *out, size_t out_len);
 
 /* Judges a solver's figures, in millionths, one for each variable, with tolerance e. */

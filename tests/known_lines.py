@@ -5,8 +5,8 @@
     python3 tests/known_lines.py --check    says whether the files are what this script makes, and writes nothing
 
 What is expected is written down below, comes from SPIN (tests/spin.txt) or is worked out here from the paper's words
-(tests/paper.py); nothing of it comes from the program. Tables, truths and rows that are written down must also be what
-the paper's words give. A new call has a function here that writes its case and what must be printed.
+(tests/paper.py); nothing of it comes from the program. Tables, truths, rows, refusals and verdicts that are written down
+must also be what the paper's words give. A new call has a function here that writes its case and what must be printed.
 """
 
 import paper
@@ -19,8 +19,10 @@ Cases made by tests/known_lines.py. A line is a call, numbers, and after a colon
   write ROOM T M:TABLE
   mps ROOM T M:TABLE
   judge T M E FIGURES..:TABLE
-  list:INPUT (what rowlist prints, in a buffer of 160,000 bytes without a guard)
+  list:INPUT (what rowlist prints, in a buffer of 184,000 bytes without a guard)
   sum X Y C V.. (the row sum of terms of coefficient C and variable V, over the figures X and Y)
+  total W X FIGURES.. (the row sum of a window's last row, F's where W is 1 and otherwise G's: the node has the figure X,
+    the part the others)
 ROOM is the length of the buffer lent. It is filled with bytes fe and followed by 8 more of them, its guard.
 After a line stand the answer and what the buffer then holds: what was written, of mps and list as text, otherwise in
 hexadecimal, above 1,000 bytes its length and FNV-1a sum of 64 bits; then ~ and how many bytes fe follow, guard included.
@@ -28,10 +30,11 @@ Above each group stands where the expected values come from."""
 
 FILL = b"\xfe"
 GUARD = 8
-LISTING = 160000
+LISTING = 184000
 LONG = 1000
 NAMES = {"n": "value", "v": "value", "r": "refused", "o": "outside", "b": "not binary", "k": "broken", "p": "passed"}
 KINDS = {**paper.SINGLE, **paper.DOUBLE}
+RECORD = 7
 
 CASES, PRINTED = [], []
 
@@ -74,39 +77,43 @@ def lent(room, written, text=False, guard=GUARD):
 
 
 def nodes_of(postfix):
-    """The nodes of a rule whose parts stand before their operator, as the records do: `a0 a1 U`."""
+    """The nodes of a rule whose parts stand before their operator, as the records do: `a0 a1 U`, `a0 F[0,5]`."""
     nodes, parts = [], []
     for word in postfix.split():
         if word[0] == "a":
-            nodes.append((1, int(word[1:]), 0))
-        elif word in "!FG":
-            nodes.append((KINDS[word], parts.pop(), 0))
-        else:
+            nodes.append((1, int(word[1:]), 0, 0, 0))
+        elif word in paper.DOUBLE:
             right = parts.pop()
-            nodes.append((KINDS[word], parts.pop(), right))
+            nodes.append((KINDS[word], parts.pop(), right, 0, 0))
+        elif word in paper.SINGLE:
+            nodes.append((KINDS[word], parts.pop(), 0, 0, 0))
+        else:
+            nodes.append((paper.WINDOW[word[0]], parts.pop(), 0, *map(int, word[2:-1].split(","))))
         parts.append(len(nodes) - 1)
     assert parts == [len(nodes) - 1]
     return nodes
 
 
 def table(*nodes):
-    """Records of nodes written as kind, left, right."""
-    return paper.table(nodes)
+    """Records of nodes written as kind, left, right and, where it is not 0,0, the window."""
+    return paper.table([(*node, 0, 0)[:5] for node in nodes])
 
 
 def read(m, room, expected, text):
     """Expected is a refusal, or the nodes as nodes_of takes them."""
     text = text.encode() if isinstance(text, str) else text
+    found = paper.reading(text.decode("latin-1"), m, room)
     if expected[0] == "r":
+        assert expected == f"r{found}"
         case("read", [room, m], text, said(expected), lent(room, b""))
     else:
         nodes = nodes_of(expected)
-        assert nodes == paper.parse(text.decode())
+        assert nodes == found
         case("read", [room, m], text, f"value {len(nodes)}", lent(room, paper.table(nodes)))
 
 
 def nodes_in(records):
-    return [tuple(records[at + 2 : at + 5]) for at in range(0, len(records), 5)]
+    return [tuple(records[at + 2 : at + RECORD]) for at in range(0, len(records), RECORD)]
 
 
 def truths(records, m, run):
@@ -118,8 +125,13 @@ def truths(records, m, run):
 def evaluate(t, m, room, answer, run, truth, nodes):
     """The truth is a word of 0 and 1 for each node, in node order."""
     truth = bytes(int(bit) for bit in truth.replace(" ", ""))
-    if answer[0] == "r":
-        assert not truth
+    refusal = paper.refusal(t, m, nodes)
+    if refusal is None and (len(run) != t or any(number >> m for number in run)):
+        refusal = 8
+    if refusal is None and room < len(nodes) // RECORD * t:
+        refusal = 11
+    if refusal is not None:
+        assert answer == f"r{refusal}" and not truth
     else:
         assert answer == f"v{truth[-t]}" and truth == bytes(sum(truths(nodes, m, run), []))
     case("evaluate", [room, t, m, *run], nodes, said(answer), lent(room, truth))
@@ -131,27 +143,63 @@ def row(text):
     return relation, int(right), [(int(term[0] + "1"), int(term[1:])) for term in terms]
 
 
+def row_bytes(found):
+    """How many bytes the records of rows have."""
+    return sum(len(paper.record(row)) for row in found)
+
+
 def rows(t, m, room, answer, expected, nodes):
     """The rows expected, as rowlist prints them."""
     expected = [row(text) for text in expected]
-    if answer[0] == "r":
-        assert not expected
+    refusal = paper.refusal(t, m, nodes)
+    if refusal is not None:
+        assert answer == f"r{refusal}" and not expected
     else:
-        assert answer == f"n{len(expected)}" and expected == paper.rows(nodes_in(nodes), t, m)
+        found = paper.rows(nodes_in(nodes), t, m)
+        fits = row_bytes(found) <= room
+        assert answer == (f"n{len(found)}" if fits else "r11") and expected == (found if fits else [])
     case("write", [room, t, m], nodes, said(answer), lent(room, b"".join(map(paper.record, expected))))
 
 
 def judge(t, m, e, figures, answer, nodes):
+    refusal = paper.refusal(t, m, nodes)
+    if refusal is None and len(figures) != (m + len(nodes) // RECORD) * t:
+        refusal = 9
+    if refusal is None and not 0 <= e <= 1000:
+        refusal = 10
+    assert said(answer) == (f"refused {refusal}" if refusal is not None else paper.verdict(nodes_in(nodes), t, m, figures, e))
     case("judge", [t, m, e, *figures], nodes, said(answer))
 
 
+def page_of(nodes, t, m):
+    return paper.expected_page(paper.expected_model(nodes, t, m))
+
+
 def mps(t, m, room, answer, page, nodes):
-    assert answer[0] == "r" and not page or answer == f"n{len(page)}"
+    """A short page must also be that of the paper's words; long ones are taken from there."""
+    refusal = paper.refusal(t, m, nodes)
+    if answer[0] == "r":
+        assert answer == ("r11" if refusal is None else f"r{refusal}") and not page
+    else:
+        assert answer == f"n{len(page)}" and refusal is None
+        assert len(page) > LONG or page == page_of(nodes_in(nodes), t, m)
     case("mps", [room, t, m], nodes, said(answer), lent(room, page.encode(), text=True))
 
 
 def rowlist(given, printed):
     case("list", [], given.encode(), f"value {len(printed)}", lent(LISTING, printed.encode(), text=True, guard=0))
+
+
+def rowlist_refused(given, number):
+    """The refusal is also what the papers' words give: of T, then the reader's, then of the bytes for rows."""
+    first, _, rest = given.partition("\n")
+    t, m = map(int, first.split(" "))
+    read = paper.reading(rest.partition("\n")[0], m, 128 * RECORD)
+    if 1 <= t <= 64:
+        assert number == (11 if isinstance(read, list) and row_bytes(paper.rows(read, t, m)) > 65536 else read)
+    else:
+        assert number == 1
+    rowlist(given, f"refused {number}\n")
 
 
 def row_sum(figures, *terms):
@@ -173,84 +221,84 @@ NOTS = table((1, 0, 0), *((2, child, 0) for child in range(127)))
 
 def reading():
     say("The paper, refusals: empty; `a0 a1`; `a01`; `a 0`; `a16`, M 16; 128 times `!`; 1,025 spaces; M 0")
-    read(2, 640, "r4", "")
-    read(2, 640, "r4", "a0 a1")
-    read(2, 640, "r4", "a01")
-    read(2, 640, "r4", "a 0")
-    read(16, 640, "r5", "a16")
-    read(1, 645, "r6", "!" * 128 + "a0")
-    read(1, 640, "r3", " " * 1025)
-    read(0, 640, "r2", "a0")
+    read(2, 896, "r4", "")
+    read(2, 896, "r4", "a0 a1")
+    read(2, 896, "r4", "a01")
+    read(2, 896, "r4", "a 0")
+    read(16, 896, "r5", "a16")
+    read(1, 903, "r6", "!" * 128 + "a0")
+    read(1, 896, "r3", " " * 1025)
+    read(0, 896, "r2", "a0")
     say("The paper, accepted: 127 times `!` then `a0`; `a0` followed by 1,022 spaces; its known rules")
-    read(1, 640, "a0" + " !" * 127, "!" * 127 + "a0")
-    read(1, 640, "a0", "a0" + " " * 1022)
-    read(2, 15, "a0 a1 U", "a0 U a1")
-    read(2, 10, "a1 F", "F a1")
-    read(2, 10, "a0 G", "G a0")
-    read(2, 15, "a0 a1 >", "a0>a1")
-    read(2, 15, "a0 F G", "GFa0")
-    read(2, 15, "a0 G F", "FGa0")
-    read(2, 25, "a0 a1 & a0 |", "a0&a1|a0")
-    read(2, 25, "a0 a1 a0 U U", "a0Ua1Ua0")
-    read(2, 20, "a0 ! a1 U", "!a0Ua1")
+    read(1, 896, "a0" + " !" * 127, "!" * 127 + "a0")
+    read(1, 896, "a0", "a0" + " " * 1022)
+    read(2, 21, "a0 a1 U", "a0 U a1")
+    read(2, 14, "a1 F", "F a1")
+    read(2, 14, "a0 G", "G a0")
+    read(2, 21, "a0 a1 >", "a0>a1")
+    read(2, 21, "a0 F G", "GFa0")
+    read(2, 21, "a0 G F", "FGa0")
+    read(2, 35, "a0 a1 & a0 |", "a0&a1|a0")
+    read(2, 35, "a0 a1 a0 U U", "a0Ua1Ua0")
+    read(2, 28, "a0 ! a1 U", "!a0Ua1")
     say("By hand from the paper: limits of M, of the text's length and of the nodes; the buffer")
-    read(17, 640, "r2", "a0")
-    read(257, 640, "r2", "a0")
-    read(65537, 640, "r2", "a0")
-    read(4294967297, 640, "r2", "a0")
-    read(16, 640, "a15", "a15")
-    read(1, 640, "r5", "a1")
-    read(1, 640, "a0", " " * 1022 + "a0")
-    read(1, 640, "a0", " " * 511 + "a0" + " " * 511)
-    read(1, 640, "r3", "a0" + " " * 1023)
-    read(1, 640, "r4", " " * 1024)
-    read(1, 640, "a0 !" + " a0" * 63 + " &" * 63, "!a0" + "&a0" * 63)
-    read(1, 645, "r6", "a0" + "&a0" * 64)
-    read(1, 640, "a0" + " a0" * 63 + " U" * 63, "a0" + "Ua0" * 63)
-    read(1, 640, "a0", "(" * 511 + "a0" + ")" * 511)
-    read(1, 640, "r4", "(" * 1024)
-    read(1, 640, "r4", "!" * 1024)
-    read(1, 640, "r6", "!" * 1022 + "a0")
-    read(1, 5, "a0", "a0")
-    read(1, 6, "a0", "a0")
-    read(1, 4, "r11", "a0")
+    read(17, 896, "r2", "a0")
+    read(257, 896, "r2", "a0")
+    read(65537, 896, "r2", "a0")
+    read(4294967297, 896, "r2", "a0")
+    read(16, 896, "a15", "a15")
+    read(1, 896, "r5", "a1")
+    read(1, 896, "a0", " " * 1022 + "a0")
+    read(1, 896, "a0", " " * 511 + "a0" + " " * 511)
+    read(1, 896, "r3", "a0" + " " * 1023)
+    read(1, 896, "r4", " " * 1024)
+    read(1, 896, "a0 !" + " a0" * 63 + " &" * 63, "!a0" + "&a0" * 63)
+    read(1, 903, "r6", "a0" + "&a0" * 64)
+    read(1, 896, "a0" + " a0" * 63 + " U" * 63, "a0" + "Ua0" * 63)
+    read(1, 896, "a0", "(" * 511 + "a0" + ")" * 511)
+    read(1, 896, "r4", "(" * 1024)
+    read(1, 896, "r4", "!" * 1024)
+    read(1, 896, "r6", "!" * 1022 + "a0")
+    read(1, 7, "a0", "a0")
+    read(1, 8, "a0", "a0")
+    read(1, 6, "r11", "a0")
     read(1, 0, "r11", "a0")
-    read(2, 14, "r11", "a0Ua1")
-    read(2, 15, "a0 a1 U", "a0Ua1")
-    read(1, 639, "r11", "!" * 127 + "a0")
-    say("By hand: the lowest refusal wins, and a fault at the end comes before all that is known earlier")
+    read(2, 20, "r11", "a0Ua1")
+    read(2, 21, "a0 a1 U", "a0Ua1")
+    read(1, 895, "r11", "!" * 127 + "a0")
+    say("By hand: the first refusal in the order of the checks wins, and a fault at the end comes before all that is known earlier")
     read(0, 0, "r2", " " * 1025)
     read(17, 0, "r2", "")
     read(1, 0, "r3", "a9" + ")" * 1023)
-    read(1, 640, "r4", "!" * 200 + ")")
-    read(1, 640, "r4", "!" * 200 + "a0)")
-    read(2, 640, "r4", "a9)")
+    read(1, 896, "r4", "!" * 200 + ")")
+    read(1, 896, "r4", "!" * 200 + "a0)")
+    read(2, 896, "r4", "a9)")
     read(2, 0, "r4", "a0&")
-    read(1, 640, "r5", "!" * 128 + "a9")
+    read(1, 896, "r5", "!" * 128 + "a9")
     read(1, 0, "r5", "a1")
     read(1, 0, "r6", "!" * 128 + "a0")
     say("By hand: atom numbers of any length, no leading zeros, no space within")
-    read(16, 640, "r4", "a00")
-    read(16, 640, "r4", "a01")
-    read(16, 640, "r4", "a015")
-    read(16, 640, "r4", "a")
-    read(16, 640, "r4", "aa0")
-    read(16, 640, "r4", "a1 5")
-    read(16, 640, "a10", "a10")
+    read(16, 896, "r4", "a00")
+    read(16, 896, "r4", "a01")
+    read(16, 896, "r4", "a015")
+    read(16, 896, "r4", "a")
+    read(16, 896, "r4", "aa0")
+    read(16, 896, "r4", "a1 5")
+    read(16, 896, "a10", "a10")
     for power in (8, 16, 32, 64, 128):
-        read(16, 640, "r5", f"a{2**power}")
-    read(16, 640, "r5", f"a{2**64 + 1}&a0")
-    read(16, 640, "r5", "a" + "1" * 1023)
-    read(16, 640, "r5", "a" + "9" * 1023)
-    read(16, 640, "r4", "a" + "0" * 1023)
-    read(16, 640, "r3", "a" + "1" * 1024)
+        read(16, 896, "r5", f"a{2**power}")
+    read(16, 896, "r5", f"a{2**64 + 1}&a0")
+    read(16, 896, "r5", "a" + "1" * 1023)
+    read(16, 896, "r5", "a" + "9" * 1023)
+    read(16, 896, "r4", "a" + "0" * 1023)
+    read(16, 896, "r3", "a" + "1" * 1024)
     say("By hand: bytes that the grammar does not use, at the start, in the middle and at the end")
     for byte in (0x00, 0x09, 0x0A, 0x0D, 0x80, 0xA0, 0xFF):
         other = bytes([byte])
-        read(2, 640, "r4", other + b"a0&a1")
-        read(2, 640, "r4", b"a0" + other + b"&a1")
-        read(2, 640, "r4", b"a0&a1" + other)
-        read(2, 640, "r4", other)
+        read(2, 896, "r4", other + b"a0&a1")
+        read(2, 896, "r4", b"a0" + other + b"&a1")
+        read(2, 896, "r4", b"a0&a1" + other)
+        read(2, 896, "r4", other)
     say("By hand: outside the grammar")
     for text in (
         "a0U", "Ua0", "a0>", ">a0", "a0&", "&a0", "a0|", "|a0", "!", "F", "G", "(", ")", "()", "(a0", "a0)", "((a0)",
@@ -258,16 +306,104 @@ def reading():
         "ga0", "Xa0", "a-1", "a+1", "a0.", "a0->a1", "a0&&a1", "a0||a1", "a0U a1 a0", "a0 0", "!(a0", ")a0(", "a0[]",
         "a0,a1",
     ):
-        read(2, 640, "r4", text)
+        read(2, 896, "r4", text)
     say("By hand: spaces and brackets make no node")
-    read(2, 640, "a0 a1 U", "  a0  U  a1  ")
-    read(2, 640, "a0 a1 U", "( ( a0 ) U ( ( a1 ) ) )")
-    read(2, 640, "a0 !", " ! ( a0 ) ")
-    read(2, 640, "a0 a1 U !", "!(a0Ua1)")
-    read(2, 640, "a0 a1 F > G a0 ! |", "G(a0>Fa1)|!a0")
-    read(2, 640, "a0 a1 a0 > >", "a0 > a1 > a0")
-    read(2, 640, "a0 a1 > a0 a1 | U a0 &", "(a0>a1)U(a0|a1)&a0")
-    read(2, 640, "a0 a1 & F a0 ! U a0 a1 > G |", "F(a0&a1)U!a0|G(a0>a1)")
+    read(2, 896, "a0 a1 U", "  a0  U  a1  ")
+    read(2, 896, "a0 a1 U", "( ( a0 ) U ( ( a1 ) ) )")
+    read(2, 896, "a0 !", " ! ( a0 ) ")
+    read(2, 896, "a0 a1 U !", "!(a0Ua1)")
+    read(2, 896, "a0 a1 F > G a0 ! |", "G(a0>Fa1)|!a0")
+    read(2, 896, "a0 a1 a0 > >", "a0 > a1 > a0")
+    read(2, 896, "a0 a1 > a0 a1 | U a0 &", "(a0>a1)U(a0|a1)&a0")
+    read(2, 896, "a0 a1 & F a0 ! U a0 a1 > G |", "F(a0&a1)U!a0|G(a0>a1)")
+
+
+# What may stand wrong in a window.
+NOT_WINDOWS = (
+    "F[01,2]a0", "F[0,02]a0", "F[00,1]a0", "F[0,00]a0", "F[1 0,5]a0", "F[1,1 0]a0", "F[0 5]a0", "F[,5]a0", "F[0,]a0",
+    "F[,]a0", "F[]a0", "F[0]a0", "F[0,5a0", "F0,5]a0", "F[0,5]", "F[0,5", "F[0,", "F[0", "F[", "F]0,5[a0", "F[-1,5]a0",
+    "F[+1,5]a0", "F[0,-5]a0", "F[0,5,6]a0", "F[0,,5]a0", "F[0,5]]a0", "F[[0,5]a0", "F[[0,5]]a0", "F[0,5][0,5]a0",
+    "F[0,5)a0", "F(0,5]a0", "F(0,5)a0", "F{0,5}a0", "F[(0),5]a0", "F[(0,5)]a0", "F([0,5])a0", "F[a0,5]a0", "F[0,a1]a0",
+    "F[0.5]a0", "F[0;5]a0", "F[0:5]a0", "F[x,5]a0", "F[0x1,5]a0", "F0,5a0", "F 0 5 a0", "F5a0", "G[0,5]", "G[0,5a0",
+    "G[05,6]a0", "G[0 5]a0", "![0,1]a0", "U[0,1]a0", "a0U[0,1]a1", "a0&[0,1]a1", "a0|[0,1]a1", "a0>[0,1]a1", "a[0,1]",
+    "a0[0,1]", "a0 [0,1] a1", "[0,1]a0", "[0,1]", "([0,1])a0", "f[0,1]a0", "g[0,1]a0", "X[0,1]a0", "F[0,5]&a0",
+    "F[0,5]Ua0", "F[0,5]5a0", "F[0,5]a0 a1", "F[0,5]a0]", "(F[0,5])a0", "F([0,5]a0)", "F!([0,5]a0)", "(F)[0,5]a0",
+)
+
+
+def reading_windows():
+    say("The request (N4): windows before a Single, with spaces before and after each token")
+    read(1, 14, "a0 F[0,5]", "F[0,5]a0")
+    read(1, 14, "a0 G[0,5]", "G[0,5]a0")
+    read(1, 14, "a0 F[0,5]", "F [ 0 , 5 ] a0")
+    read(1, 14, "a0 G[10,63]", "   G   [   10   ,   63   ]   a0   ")
+    read(1, 14, "a0 F[0,0]", "F[0,0]a0")
+    read(1, 14, "a0 G[63,63]", "G[63,63](a0)")
+    read(1, 14, "a0 F[0,63]", "(F[0,63]((a0)))")
+    read(1, 14, "a0 F[9,10]", "F[9, 10]a0")
+    read(2, 21, "a1 G[1,2] F[0,3]", "F[0,3]G[1,2]a1")
+    read(1, 35, "a0 F[2,2] ! G F[0,1]", "F[0,1]G!F[2,2]a0")
+    read(1, 21, "a0 F F[0,1]", "F[0,1]Fa0")
+    read(1, 21, "a0 F[0,1] F", "FF[0,1]a0")
+    read(1, 21, "a0 G[0,0] !", "!G[0,0]a0")
+    read(2, 28, "a0 F[0,1] a1 U", "F[0,1]a0Ua1")
+    read(2, 28, "a0 a1 U F[0,1]", "F[0,1](a0Ua1)")
+    read(2, 28, "a0 a1 G[0,1] U", "a0UG[0,1]a1")
+    read(2, 49, "a0 F[0,1] a1 G[2,3] & a0 >", "F[0,1]a0&G[2,3]a1>a0")
+    read(2, 35, "a0 a1 F[1,5] > G", "G(a0>F[1,5]a1)")
+    say("By hand: 128 nodes of windows, and the buffer")
+    read(1, 896, "a0" + " G[0,63]" * 127, "G[0,63]" * 127 + "a0")
+    read(1, 895, "r11", "G[0,63]" * 127 + "a0")
+    read(1, 897, "a0" + " F[1,2]" * 127, "F[1,2]" * 127 + "a0")
+    read(1, 903, "r6", "F[0,1]" * 128 + "a0")
+    read(1, 0, "r6", "F[0,1]" * 128 + "a0")
+    read(1, 13, "r11", "F[0,5]a0")
+    read(1, 15, "a0 F[0,5]", "F[0,5]a0")
+    read(1, 0, "r11", "F[0,5]a0")
+    say("By hand: outside the grammar, a window among it")
+    for text in NOT_WINDOWS:
+        read(2, 896, "r4", text)
+    for byte in (0x00, 0x09, 0x0A, 0x0D, 0x80, 0xA0, 0xFF):
+        other = bytes([byte])
+        read(1, 896, "r4", b"F" + other + b"[0,5]a0")
+        read(1, 896, "r4", b"F[0" + other + b",5]a0")
+        read(1, 896, "r4", b"F[0,5" + other + b"]a0")
+        read(1, 896, "r4", b"F[0,5]" + other + b"a0")
+    read(1, 896, "r4", "F[" + "0" * 1000 + ",5]a0")
+    read(1, 896, "r4", "F[0,0" + "1" * 1000 + "]a0")
+
+
+def refusing_windows():
+    say("The request (N4): 12 when a is above b or b above 63, numbers of any length")
+    for window in (
+        "1,0", "63,62", "64,63", "0,64", "64,64", "63,64", "0,100", "256,0", "0,256", "256,256", "0,319", "256,319",
+        "65536,65536", "0,65599", "4294967296,4294967296", "0,4294967359", "18446744073709551616,0",
+        "0,18446744073709551616", "0,18446744073709551679", "18446744073709551616,18446744073709551616",
+        "1" + "0" * 999 + ",63", "0," + "9" * 1000, "9" * 500 + "," + "9" * 500,
+    ):
+        read(1, 896, "r12", f"F[{window}]a0")
+        read(1, 896, "r12", f"G[{window}]a0")
+    say("By hand: such a window at another place than the top")
+    for text in (
+        "a0&F[1,0]a1", "F[1,0]a0&a1", "G(a0>F[5,4]a1)", "F[0,1]F[1,0]a0", "F[1,0]F[0,1]a0", "!G[0,64]!a0", "a0U(a1UG[2,1]a0)",
+    ):
+        read(2, 896, "r12", text)
+    say("By hand: the first in the order of the checks, 2, 3, 4, 5, 12, 6, 11")
+    read(0, 896, "r2", "F[1,0]a0")
+    read(17, 0, "r2", "F[1,0]a0")
+    read(1, 896, "r3", "F[1,0]a0" + " " * 1017)
+    read(1, 896, "r12", "F[1,0]a0" + " " * 1016)
+    for text in ("F[1,0]a0)", "F[1,0]", "F[1,0]a0 a0", "(F[1,0]a0", "F[1,0]a9)", "F[1,0]F[01,2]a0", "!" * 200 + "F[1,0]"):
+        read(2, 896, "r4", text)
+    read(2, 896, "r5", "F[1,0]a9")
+    read(2, 0, "r5", "F[0,64]a0&a2")
+    read(2, 896, "r5", "!" * 200 + "F[1,0]a9")
+    read(2, 896, "r12", "!" * 198 + "F[1,0]a0")
+    read(2, 896, "r12", "F[1,0]a0" + "&a0" * 99)
+    read(1, 896, "r12", "F[0,1]" * 127 + "G[0,64]a0")
+    read(1, 0, "r12", "F[1,0]a0")
+    read(1, 13, "r12", "F[0,64]a0")
+    read(1, 903, "r12", "G[1,0]" * 128 + "a0")
 
 
 def evaluating():
@@ -333,8 +469,8 @@ def evaluating():
     evaluate(2, 2, 0, "r11", [0, 0], "", UNTIL)
     say("By hand: tables that are not good")
     for nodes in (
-        ATOM[:4], ATOM + b"\x4e", ATOM + ATOM[:4], NOTS + b"\x4e", NOTS + ATOM, b"\x4e\x45\x01\x00\x00",
-        b"\x4f\x44\x01\x00\x00", b"\x44\x4e\x01\x00\x00", table((0, 0, 0)), table((9, 0, 0)), table((255, 0, 0)),
+        ATOM[:5], ATOM[:6], ATOM + b"\x4e", ATOM + ATOM[:6], NOTS + b"\x4e", NOTS + ATOM, b"\x4e\x45" + ATOM[2:],
+        b"\x4f\x44" + ATOM[2:], b"\x44\x4e" + ATOM[2:], table((0, 0, 0)), table((11, 0, 0)), table((255, 0, 0)),
         table((2, 0, 0)), table((3, 0, 0)), table((1, 2, 0)), table((1, 255, 0)), table((1, 0, 1)),
         *(table((1, 0, 0), second) for second in (
             (2, 1, 0), (2, 0, 1), (6, 2, 0), (6, 0, 1), (7, 1, 0), (7, 0, 255),
@@ -343,11 +479,81 @@ def evaluating():
         table((8, 0, 0), (1, 0, 0)),
     ):
         evaluate(1, 2, 200, "r7", [0], "", nodes)
-    say("By hand: the lowest refusal wins")
+    say("By hand: the first refusal in the order of the checks wins")
     evaluate(65, 0, 0, "r1", [], "", b"")
     evaluate(64, 0, 0, "r2", [], "", b"")
     evaluate(64, 1, 0, "r7", [], "", b"")
     evaluate(64, 1, 0, "r8", [], "", ATOM)
+
+
+def window(kind, a, b, atom=0):
+    """The table of F[a,b] or G[a,b] of an atom."""
+    return table((1, atom, 0), (paper.WINDOW[kind], 0, 0, a, b))
+
+
+def evaluating_windows():
+    say("By hand from the request (N4): windows with T 1, 2 and 3; a slot after T counts as T")
+    for kind in "FG":
+        for a, b in (0, 0), (0, 63), (1, 1), (63, 63):
+            evaluate(1, 1, 2, "v1", [1], "1 1", window(kind, a, b))
+            evaluate(1, 1, 2, "v0", [0], "0 0", window(kind, a, b))
+    evaluate(2, 1, 4, "v1", [0, 1], "01 11", window("F", 0, 1))
+    evaluate(2, 1, 4, "v1", [1, 0], "10 10", window("F", 0, 1))
+    evaluate(2, 1, 4, "v0", [0, 1], "01 01", window("G", 0, 1))
+    evaluate(2, 1, 4, "v0", [1, 0], "10 00", window("G", 0, 1))
+    evaluate(2, 1, 4, "v1", [0, 1], "01 11", window("F", 1, 1))
+    evaluate(2, 1, 4, "v0", [1, 0], "10 00", window("F", 1, 63))
+    evaluate(2, 1, 4, "v1", [0, 1], "01 11", window("G", 1, 63))
+    for run, truth in ([1, 0, 0], "100 000"), ([0, 1, 0], "010 100"), ([0, 0, 1], "001 111"):
+        evaluate(3, 1, 6, f"v{truth[4]}", run, truth, window("F", 1, 2))
+    for run, truth in ([0, 1, 1], "011 111"), ([1, 1, 0], "110 000"), ([1, 0, 1], "101 011"):
+        evaluate(3, 1, 6, f"v{truth[4]}", run, truth, window("G", 1, 2))
+    for kind in "FG":
+        evaluate(3, 1, 6, "v0", [0, 1, 0], "010 010", window(kind, 0, 0))
+        evaluate(3, 1, 6, "v1", [0, 0, 1], "001 111", window(kind, 2, 2))
+        evaluate(3, 1, 6, "v0", [1, 1, 0], "110 000", window(kind, 3, 5))
+        evaluate(3, 1, 7, "v1", [0, 0, 1], "001 111", window(kind, 62, 63))
+    say("By hand: windows with T 5, some within others")
+    evaluate(5, 1, 10, "v1", [0, 1, 1, 0, 1], "01101 10011", window("G", 1, 2))
+    evaluate(5, 1, 10, "v0", [1, 0, 0, 1, 0], "10010 01100", window("F", 1, 2))
+    evaluate(5, 1, 10, "v1", [1, 0, 0, 1, 0], "10010 11110", window("F", 0, 2))
+    evaluate(5, 1, 10, "v1", [1, 1, 1, 0, 1], "11101 10001", window("G", 0, 2))
+    evaluate(5, 1, 10, "v1", [0, 0, 0, 1, 0], "00010 11000", window("F", 2, 3))
+    evaluate(5, 1, 15, "v1", [0, 1, 1, 0, 1], "01101 01001 10011", table((1, 0, 0), (10, 0, 0, 0, 1), (9, 1, 0, 1, 1)))
+    evaluate(5, 1, 15, "v0", [1, 0, 0, 1, 0], "10010 10110 00000", table((1, 0, 0), (9, 0, 0, 0, 1), (7, 1, 0)))
+    evaluate(3, 2, 12, "v1", [0, 1, 2], "010 110 001 111", table((1, 0, 0), (9, 0, 0, 0, 1), (1, 1, 0), (8, 1, 2)))
+    evaluate(3, 1, 9, "v1", [1, 0, 0], "100 000 100", table((1, 0, 0), (9, 0, 0, 1, 2), (1, 0, 0)))
+    say("By hand: windows with T 64")
+    first, last, both = "1" + "0" * 63, "0" * 63 + "1", "0" + "1" * 63
+    evaluate(64, 1, 128, "v1", [0] * 63 + [1], last + "1" * 64, window("F", 0, 63))
+    evaluate(64, 1, 128, "v1", [1] + [0] * 63, first + first, window("F", 0, 63))
+    evaluate(64, 1, 128, "v0", [1] * 63 + [0], "1" * 63 + "0" + "0" * 64, window("G", 0, 63))
+    evaluate(64, 1, 128, "v0", [0] + [1] * 63, both + both, window("G", 0, 63))
+    evaluate(64, 1, 128, "v0", [0] * 63 + [1], last + "0" + "1" * 63, window("F", 0, 62))
+    evaluate(64, 1, 128, "v1", [0] * 63 + [1], last + "1" * 64, window("F", 63, 63))
+    evaluate(64, 1, 128, "v0", [0] * 62 + [1, 0], "0" * 62 + "10" + "0" * 64, window("G", 63, 63))
+    evaluate(64, 1, 128, "v1", [0] * 62 + [1, 0], "0" * 62 + "10" + first, window("F", 62, 62))
+    evaluate(64, 1, 128, "v1", [0] * 31 + [1] + [0] * 32, "0" * 31 + "1" + "0" * 32 + "1" * 32 + "0" * 32, window("F", 0, 31))
+    evaluate(64, 1, 128, "v0", [0] * 32 + [1] + [0] * 31, "0" * 32 + "1" + "0" * 31 + "0" + "1" * 32 + "0" * 31, window("F", 0, 31))
+    evaluate(64, 1, 128, "v0", [1] * 9 + [0] + [1] * 54, "1" * 9 + "0" + "1" * 54 + "0" * 5 + "1" * 59, window("G", 5, 9))
+    say("By hand: the buffer, and a window's record in a table that is not good")
+    evaluate(3, 1, 5, "r11", [0, 0, 1], "", window("F", 1, 2))
+    evaluate(3, 1, 0, "r11", [0, 0, 1], "", window("G", 1, 2))
+    for nodes in (
+        table((9, 0, 0, 0, 1)), table((10, 0, 0, 0, 1)), table((1, 0, 0, 0, 1)), table((1, 0, 0, 1, 1)), table((1, 0, 0, 1, 0)),
+        *(table((1, 0, 0), second) for second in (
+            (9, 0, 0, 1, 0), (10, 0, 0, 1, 0), (9, 0, 0, 63, 62), (10, 0, 0, 63, 0), (9, 0, 0, 255, 0), (10, 0, 0, 64, 63),
+            (9, 0, 0, 0, 64), (10, 0, 0, 0, 64), (9, 0, 0, 64, 64), (10, 0, 0, 63, 64), (9, 0, 0, 0, 255), (10, 0, 0, 255, 255),
+            (9, 0, 1, 0, 1), (10, 0, 1, 0, 1), (9, 0, 255, 0, 1), (10, 0, 128, 63, 63),
+            (9, 1, 0, 0, 1), (10, 1, 0, 0, 1), (9, 2, 0, 0, 1), (10, 255, 0, 0, 1),
+            (0, 0, 0, 0, 1), (11, 0, 0, 0, 1), (255, 0, 0, 0, 1),
+            *((kind, 0, 0, *window) for kind in range(2, 9) for window in ((0, 1), (1, 1), (1, 0), (0, 255))),
+        )),
+        table((1, 0, 0), (9, 0, 0, 1, 0), (1, 0, 0)), window("F", 0, 1)[:-1], window("F", 0, 1)[:-2], window("G", 0, 1) + b"\x4e",
+    ):
+        evaluate(1, 1, 200, "r7", [0], "", nodes)
+    evaluate(1, 1, 0, "r7", [], "", window("F", 1, 0))
+    evaluate(1, 1, 0, "r8", [], "", window("F", 1, 1))
 
 
 # What rowlist prints for `2 2` and `a0Ua1`, word for word.
@@ -367,7 +573,7 @@ PAGE = """\
 def writing_rows():
     page = [line.split(" ", 1)[1] for line in PAGE.split("\n")]
     say("The paper: rowlist's example, `a0Ua1` with T 2 and M 2")
-    rows(2, 2, 140, "n10", page, UNTIL)
+    rows(2, 2, 116, "n10", page, UNTIL)
     rows(2, 2, 999, "n10", page, UNTIL)
     say("The paper, refusals: T 65; M 0; no records; 13 bytes for rows")
     rows(65, 2, 9999, "r1", [], UNTIL)
@@ -375,11 +581,11 @@ def writing_rows():
     rows(2, 2, 9999, "r7", [], b"")
     rows(1, 1, 13, "r11", [], ATOM)
     rows(2, 2, 13, "r11", [], UNTIL)
-    say("By hand: the buffer, other limits, the lowest refusal wins")
-    rows(1, 1, 27, "r11", [], ATOM)
-    rows(1, 1, 28, "n2", ["= 0 +1 -0", "= 1 +1"], ATOM)
-    rows(1, 1, 29, "n2", ["= 0 +1 -0", "= 1 +1"], ATOM)
-    rows(2, 2, 139, "r11", [], UNTIL)
+    say("By hand: the buffer, other limits, the first refusal in the order of the checks wins")
+    rows(1, 1, 18, "r11", [], ATOM)
+    rows(1, 1, 19, "n2", ["= 0 +1 -0", "= 1 +1"], ATOM)
+    rows(1, 1, 20, "n2", ["= 0 +1 -0", "= 1 +1"], ATOM)
+    rows(2, 2, 115, "r11", [], UNTIL)
     rows(2, 2, 0, "r11", [], UNTIL)
     rows(0, 1, 999, "r1", [], ATOM)
     rows(4294967297, 1, 999, "r1", [], ATOM)
@@ -394,41 +600,41 @@ def writing_rows():
     say("By hand from the paper's table of rows: each kind with T 2")
     a0_t2_m1 = ["= 0 +2 -0", "= 0 +3 -1"]
     both_t2_m2 = ["= 0 +4 -0", "= 0 +5 -1", "= 0 +6 -2", "= 0 +7 -3"]
-    rows(2, 1, 70, "n5", a0_t2_m1 + ["= 1 +4 +2", "= 1 +5 +3", "= 1 +4"], table((1, 0, 0), (2, 0, 0)))
-    rows(2, 2, 154, "n11", both_t2_m2 + [
+    rows(2, 1, 52, "n5", a0_t2_m1 + ["= 1 +4 +2", "= 1 +5 +3", "= 1 +4"], table((1, 0, 0), (2, 0, 0)))
+    rows(2, 2, 124, "n11", both_t2_m2 + [
         ">= 0 +4 -8", ">= 0 +6 -8", ">= -1 +8 -4 -6", ">= 0 +5 -9", ">= 0 +7 -9", ">= -1 +9 -5 -7", "= 1 +8",
     ], table((1, 0, 0), (1, 1, 0), (3, 0, 1)))
-    rows(2, 2, 154, "n11", both_t2_m2 + [
+    rows(2, 2, 124, "n11", both_t2_m2 + [
         ">= 0 +8 -4", ">= 0 +8 -6", ">= 0 +4 +6 -8", ">= 0 +9 -5", ">= 0 +9 -7", ">= 0 +5 +7 -9", "= 1 +8",
     ], table((1, 0, 0), (1, 1, 0), (4, 0, 1)))
-    rows(2, 2, 154, "n11", both_t2_m2 + [
+    rows(2, 2, 124, "n11", both_t2_m2 + [
         ">= 1 +8 +4", ">= 0 +8 -6", ">= -1 +6 -4 -8", ">= 1 +9 +5", ">= 0 +9 -7", ">= -1 +7 -5 -9", "= 1 +8",
     ], IMPLIES)
-    rows(2, 1, 98, "n7", a0_t2_m1 + [
+    rows(2, 1, 77, "n7", a0_t2_m1 + [
         ">= 0 +4 -2", ">= 0 +4 -5", ">= 0 +2 +5 -4", "= 0 +5 -3", "= 1 +4",
     ], table((1, 0, 0), (6, 0, 0)))
-    rows(2, 1, 98, "n7", a0_t2_m1 + [
+    rows(2, 1, 77, "n7", a0_t2_m1 + [
         ">= 0 +2 -4", ">= 0 +5 -4", ">= -1 +4 -2 -5", "= 0 +5 -3", "= 1 +4",
     ], G_A0)
     say("By hand: F, G and U with T 1 have their last row alone")
-    rows(1, 2, 42, "n3", ["= 0 +2 -1", "= 0 +3 -2", "= 1 +3"], F_A1)
-    rows(1, 1, 42, "n3", ["= 0 +1 -0", "= 0 +2 -1", "= 1 +2"], G_A0)
-    rows(1, 2, 56, "n4", ["= 0 +2 -0", "= 0 +3 -1", "= 0 +4 -3", "= 1 +4"], UNTIL)
+    rows(1, 2, 30, "n3", ["= 0 +2 -1", "= 0 +3 -2", "= 1 +3"], F_A1)
+    rows(1, 1, 30, "n3", ["= 0 +1 -0", "= 0 +2 -1", "= 1 +2"], G_A0)
+    rows(1, 2, 41, "n4", ["= 0 +2 -0", "= 0 +3 -1", "= 0 +4 -3", "= 1 +4"], UNTIL)
     say("By hand: left equal to right, terms neither merged nor dropped")
-    rows(1, 1, 70, "n5", [
+    rows(1, 1, 55, "n5", [
         "= 0 +1 -0", ">= 0 +1 -2", ">= 0 +1 -2", ">= -1 +2 -1 -1", "= 1 +2",
     ], table((1, 0, 0), (3, 0, 0)))
-    rows(1, 1, 70, "n5", [
+    rows(1, 1, 55, "n5", [
         "= 0 +1 -0", ">= 0 +2 -1", ">= 0 +2 -1", ">= 0 +1 +1 -2", "= 1 +2",
     ], table((1, 0, 0), (4, 0, 0)))
-    rows(1, 1, 70, "n5", [
+    rows(1, 1, 55, "n5", [
         "= 0 +1 -0", ">= 1 +2 +1", ">= 0 +2 -1", ">= -1 +1 -1 -2", "= 1 +2",
     ], table((1, 0, 0), (5, 0, 0)))
-    rows(2, 1, 112, "n8", a0_t2_m1 + [
+    rows(2, 1, 94, "n8", a0_t2_m1 + [
         ">= 0 +4 -2", ">= 0 +2 +2 -4", ">= 0 +2 +5 -4", ">= -1 +4 -2 -5", "= 0 +5 -3", "= 1 +4",
     ], table((1, 0, 0), (8, 0, 0)))
     say("By hand: `G(a0>Fa1)`, T 3, M 2")
-    rows(3, 2, 420, "n30", [
+    rows(3, 2, 348, "n30", [
         "= 0 +6 -0", "= 0 +7 -1", "= 0 +8 -2", "= 0 +9 -3", "= 0 +10 -4", "= 0 +11 -5",
         ">= 0 +12 -9", ">= 0 +12 -13", ">= 0 +9 +13 -12", ">= 0 +13 -10", ">= 0 +13 -14", ">= 0 +10 +14 -13",
         "= 0 +14 -11",
@@ -440,8 +646,70 @@ def writing_rows():
     ], table((1, 0, 0), (1, 1, 0), (6, 1, 0), (5, 0, 2), (7, 3, 0)))
     say("By hand: variables of two bytes, T 64 and M 16; nodes that the root does not use")
     a15 = [f"= 0 +{1024 + slot} -{960 + slot}" for slot in range(64)]
-    rows(64, 16, 910, "n65", a15 + ["= 1 +1024"], table((1, 15, 0)))
-    rows(1, 1, 56, "n4", ["= 0 +1 -0", "= 1 +2 +1", "= 0 +3 -0", "= 1 +3"], table((1, 0, 0), (2, 0, 0), (1, 0, 0)))
+    rows(64, 16, 712, "n65", a15 + ["= 1 +1024"], table((1, 15, 0)))
+    rows(1, 1, 41, "n4", ["= 0 +1 -0", "= 1 +2 +1", "= 0 +3 -0", "= 1 +3"], table((1, 0, 0), (2, 0, 0), (1, 0, 0)))
+
+
+def writing_window_rows():
+    say("By hand from the request (N4): F[a,b] and G[a,b] of a0 with T 1 and 2, M 1; the buffer")
+    atom = ["= 0 +2 -0", "= 0 +3 -1"]
+    within = atom + [">= 0 +4 -2", ">= 0 +4 -3", ">= 0 +2 +3 -4", ">= 0 +5 -3", ">= 0 +3 -5", "= 1 +4"]
+    throughout = atom + [">= 0 +2 -4", ">= 0 +3 -4", ">= -1 +4 -2 -3", ">= 0 +3 -5", ">= 0 +5 -3", "= 1 +4"]
+    rows(2, 1, 88, "n8", within, window("F", 0, 1))
+    rows(2, 1, 90, "n8", within, window("F", 0, 1))
+    rows(2, 1, 87, "r11", [], window("F", 0, 1))
+    rows(2, 1, 88, "n8", throughout, window("G", 0, 1))
+    rows(2, 1, 87, "r11", [], window("G", 0, 1))
+    rows(2, 1, 88, "n8", within, window("F", 0, 63))
+    rows(2, 1, 74, "n7", atom + [">= 0 +4 -2", ">= 0 +2 -4", ">= 0 +5 -3", ">= 0 +3 -5", "= 1 +4"], window("F", 0, 0))
+    rows(2, 1, 74, "n7", atom + [">= 0 +2 -4", ">= 0 +4 -2", ">= 0 +3 -5", ">= 0 +5 -3", "= 1 +4"], window("G", 0, 0))
+    rows(2, 1, 74, "n7", atom + [">= 0 +4 -3", ">= 0 +3 -4", ">= 0 +5 -3", ">= 0 +3 -5", "= 1 +4"], window("F", 1, 1))
+    rows(2, 1, 73, "r11", [], window("F", 0, 0))
+    rows(1, 1, 41, "n4", ["= 0 +1 -0", ">= 0 +2 -1", ">= 0 +1 -2", "= 1 +2"], window("F", 0, 63))
+    rows(1, 1, 41, "n4", ["= 0 +1 -0", ">= 0 +1 -2", ">= 0 +2 -1", "= 1 +2"], window("G", 63, 63))
+    rows(1, 1, 40, "r11", [], window("G", 63, 63))
+    say("By hand: windows that end at T and after it, T 3 and 4; a window of a window")
+    atom = ["= 0 +3 -0", "= 0 +4 -1", "= 0 +5 -2"]
+    ends = [">= 0 +7 -5", ">= 0 +5 -7", ">= 0 +8 -5", ">= 0 +5 -8", "= 1 +6"]
+    rows(3, 1, 121, "n11", atom + [">= 0 +6 -4", ">= 0 +6 -5", ">= 0 +4 +5 -6"] + ends, window("F", 1, 2))
+    rows(3, 1, 107, "n10", atom + [">= 0 +6 -5", ">= 0 +5 -6"] + ends, window("F", 3, 5))
+    rows(4, 2, 210, "n18", [
+        "= 0 +8 -4", "= 0 +9 -5", "= 0 +10 -6", "= 0 +11 -7",
+        ">= 0 +8 -12", ">= 0 +9 -12", ">= 0 +10 -12", ">= -2 +12 -8 -9 -10",
+        ">= 0 +9 -13", ">= 0 +10 -13", ">= 0 +11 -13", ">= -2 +13 -9 -10 -11",
+        ">= 0 +10 -14", ">= 0 +11 -14", ">= -1 +14 -10 -11",
+        ">= 0 +11 -15", ">= 0 +15 -11",
+        "= 1 +12",
+    ], window("G", 0, 2, atom=1))
+    rows(2, 1, 132, "n12", [
+        "= 0 +2 -0", "= 0 +3 -1",
+        ">= 0 +3 -4", ">= 0 +4 -3", ">= 0 +3 -5", ">= 0 +5 -3",
+        ">= 0 +6 -4", ">= 0 +6 -5", ">= 0 +4 +5 -6", ">= 0 +7 -5", ">= 0 +5 -7",
+        "= 1 +6",
+    ], table((1, 0, 0), (10, 0, 0, 1, 1), (9, 1, 0, 0, 1)))
+    say("By hand: [0,63] with T 64, rows of up to 65 terms and right sides down to -63; variables of two bytes with M 16")
+    rows(64, 1, 30344, "n2209", widest("G", 64), window("G", 0, 63))
+    rows(64, 1, 30343, "r11", [], window("G", 0, 63))
+    rows(64, 16, 30344, "n2209", widest("F", 1024), window("F", 0, 63, atom=15))
+    rows(64, 16, 30343, "r11", [], window("F", 0, 63, atom=15))
+    say("By hand: a window's record in a table that is not good")
+    rows(2, 1, 999, "r7", [], window("F", 1, 0))
+    rows(2, 1, 0, "r7", [], window("G", 0, 64))
+    rows(2, 1, 999, "r7", [], table((1, 0, 0), (6, 0, 0, 0, 1)))
+
+
+def widest(kind, first):
+    """The rows of the window [0,63] of the last atom with T 64: the atom's node has the variables from `first` on."""
+    found = [f"= 0 +{first + slot} -{first - 64 + slot}" for slot in range(64)]
+    for slot in range(64):
+        own, parts = first + 64 + slot, range(first + slot, first + 64)
+        if kind == "F":
+            found += [f">= 0 +{own} -{part}" for part in parts]
+            found += [">= 0 " + " ".join(f"+{part}" for part in parts) + f" -{own}"]
+        else:
+            found += [f">= 0 +{part} -{own}" for part in parts]
+            found += [f">= -{63 - slot} +{own} " + " ".join(f"-{part}" for part in parts)]
+    return [*found, f"= 1 +{first + 64}"]
 
 
 ONE = 1000000
@@ -472,7 +740,7 @@ def judging():
     judge(1, 1, -2147483648, [ONE, ONE], "r10", ATOM)
     judge(1, 1, 1000, [ONE, ONE], "p2", ATOM)
     judge(1, 1, 0, [ONE, ONE], "p2", ATOM)
-    say("By hand: the lowest refusal wins")
+    say("By hand: the first refusal in the order of the checks wins")
     judge(65, 0, -1, [], "r1", b"")
     judge(64, 0, -1, [], "r2", b"")
     judge(64, 1, -1, [], "r7", b"")
@@ -551,6 +819,67 @@ def judging():
     judge(1, 2, 1000, [0, 0, -1000, 0, 1], "k2,1001", both)
 
 
+def judging_windows():
+    say("By hand from the request (N4): `F[0,1]a0`, T 2, M 1: atoms, part, node; rows numbered as rowlist prints them")
+    within = window("F", 0, 1)
+    judge(2, 1, 0, [0, ONE, 0, ONE, ONE, ONE], "p8", within)
+    judge(2, 1, 0, [ONE, 0, ONE, 0, ONE, 0], "p8", within)
+    judge(2, 1, 0, [ONE, 0, ONE, 0, 0, 0], "k2,1000000", within)
+    judge(2, 1, 0, [0, ONE, 0, ONE, 0, ONE], "k3,1000000", within)
+    judge(2, 1, 0, [0, 0, 0, 0, ONE, 0], "k4,1000000", within)
+    judge(2, 1, 0, [0, ONE, 0, ONE, ONE, 0], "k5,1000000", within)
+    judge(2, 1, 0, [ONE, 0, ONE, 0, ONE, ONE], "k6,1000000", within)
+    judge(2, 1, 0, [0] * 6, "k7,1000000", within)
+    judge(2, 1, 0, [0, ONE, 0, ONE, 999999, ONE], "k3,1", within)
+    judge(2, 1, 1, [0, ONE, 0, ONE, 999999, ONE], "p8", within)
+    judge(2, 1, 1, [0, ONE, 0, ONE, 999998, ONE], "k3,2", within)
+    judge(2, 1, 1000, [0, 0, -1000, -1000, 0, -1000], "k4,2000", within)
+    judge(2, 1, 1000, [0, 0, -1000, -1000, -1000, -1000], "k7,1001000", within)
+    judge(2, 1, 0, [0, 500000, 0, ONE, ONE, ONE], "b1", within)
+    judge(2, 1, 0, [0, ONE, 0, ONE, ONE + 1, ONE], "o4", within)
+    judge(2, 1, 0, [0, ONE, 0, ONE, ONE, -1], "o5", within)
+    say("By hand: `G[0,1]a0`, T 2, M 1")
+    throughout = window("G", 0, 1)
+    judge(2, 1, 0, [ONE] * 6, "p8", throughout)
+    judge(2, 1, 0, [0, ONE, 0, ONE, ONE, ONE], "k2,1000000", throughout)
+    judge(2, 1, 0, [ONE, 0, ONE, 0, ONE, 0], "k3,1000000", throughout)
+    judge(2, 1, 0, [ONE, ONE, ONE, ONE, 0, ONE], "k4,1000000", throughout)
+    judge(2, 1, 0, [ONE, 0, ONE, 0, 0, ONE], "k5,1000000", throughout)
+    judge(2, 1, 0, [ONE, ONE, ONE, ONE, ONE, 0], "k6,1000000", throughout)
+    judge(2, 1, 0, [ONE, 0, ONE, 0, 0, 0], "k7,1000000", throughout)
+    judge(2, 1, 0, [ONE, ONE, ONE, ONE, 999999, ONE], "k4,1", throughout)
+    judge(2, 1, 1, [ONE, ONE, ONE, ONE, 999999, ONE], "p8", throughout)
+    judge(2, 1, 1, [ONE, ONE, ONE, ONE, 999998, ONE], "k4,2", throughout)
+    judge(2, 1, 1000, [ONE, ONE, ONE + 1000, ONE + 1000, ONE, ONE], "k4,2000", throughout)
+    judge(2, 1, 1000, [ONE, ONE, ONE + 1000, ONE + 1000, ONE + 1000, ONE], "p8", throughout)
+    judge(2, 1, 0, [ONE, 1, ONE, ONE, ONE, ONE], "b1", throughout)
+    judge(2, 1, 0, [ONE, ONE, ONE, -1, ONE, ONE], "o3", throughout)
+    say("By hand: `F[0,0]a0` and `G[0,2]a0`; windows all after T; refusals")
+    judge(1, 1, 0, [ONE, ONE, ONE], "p4", window("F", 0, 0))
+    judge(1, 1, 0, [ONE, ONE, 0], "k1,1000000", window("F", 0, 0))
+    judge(1, 1, 0, [0, 0, ONE], "k2,1000000", window("F", 0, 0))
+    judge(1, 1, 0, [ONE, ONE, 0], "k2,1000000", window("G", 0, 0))
+    judge(1, 1, 0, [0, 0, ONE], "k1,1000000", window("G", 0, 0))
+    judge(1, 1, 0, [ONE, ONE, ONE], "p4", window("G", 63, 63))
+    judge(3, 1, 0, [ONE] * 9, "p13", window("G", 0, 2))
+    judge(3, 1, 0, [ONE] * 6 + [0, ONE, ONE], "k6,1000000", window("G", 0, 2))
+    judge(3, 1, 0, [ONE, ONE, 0] * 2 + [ONE, 0, 0], "k5,1000000", window("G", 0, 2))
+    judge(3, 1, 0, [0, 0, ONE] + [0, 0, ONE] + [ONE, ONE, ONE], "p10", window("F", 3, 5))
+    judge(2, 1, 0, [0] * 5, "r9", within)
+    judge(2, 1, 1001, [0] * 6, "r10", within)
+    judge(2, 1, 0, [0] * 6, "r7", window("F", 1, 0))
+    judge(2, 1, 0, [0] * 6, "r7", window("G", 0, 64))
+    judge(2, 1, -1, [], "r7", table((1, 0, 0), (7, 0, 0, 0, 1)))
+    say("By hand: [0,63] with T 64, the row of 65 terms at slot 1 being row 128")
+    judge(64, 1, 0, [ONE] * 192, "p2209", window("G", 0, 63))
+    judge(64, 1, 0, [ONE] * 128 + [0] + [ONE] * 63, "k128,1000000", window("G", 0, 63))
+    judge(64, 1, 1000, [ONE] * 64 + [ONE + 1000] * 64 + [ONE] * 64, "k128,64000", window("G", 0, 63))
+    judge(64, 1, 0, [0] * 63 + [ONE] + [0] * 63 + [ONE] + [ONE] * 64, "p2209", window("F", 0, 63))
+    judge(64, 1, 0, [0] * 128 + [ONE] + [0] * 63, "k128,1000000", window("F", 0, 63))
+    judge(64, 1, 1000, [0] * 64 + [-1000] * 64 + [ONE] + [0] * 63, "k128,1064000", window("F", 0, 63))
+    judge(64, 1, 0, [0] * 63 + [ONE] + [0] * 63 + [ONE] + [0] + [ONE] * 63, "k127,1000000", window("F", 0, 63))
+
+
 # A rule of every kind: `G(a0>Fa1)&!(a2U!a0)|a1`, T 4, M 3.
 MIXED_RULE = "a0 a1 F > G a2 a0 ! U ! & a1 |"
 MIXED = paper.table(nodes_of(MIXED_RULE))
@@ -564,8 +893,8 @@ def solution(run, truth):
 
 def of_every_kind():
     say("A rule of every kind, `G(a0>Fa1)&!(a2U!a0)|a1`; its truths are also those of the reference implementation in bench/")
-    read(3, 65, MIXED_RULE, "G(a0>Fa1)&!(a2U!a0)|a1")
-    read(3, 64, "r11", "G(a0>Fa1)&!(a2U!a0)|a1")
+    read(3, 91, MIXED_RULE, "G(a0>Fa1)&!(a2U!a0)|a1")
+    read(3, 90, "r11", "G(a0>Fa1)&!(a2U!a0)|a1")
     for run, answer, truth, verdict in (
         ([0, 1, 2, 4], "v0", "0100 0010 1110 1111 1111 0001 0100 1011 1011 0100 0100 0010 0110", "k97,1000000"),
         ([5, 7, 4, 1], "v0", "1101 0100 1100 1110 0000 1110 1101 0010 1110 0001 0000 0100 0100", "k97,1000000"),
@@ -577,10 +906,28 @@ def of_every_kind():
         judge(4, 3, 0, solution(run, truth), verdict, MIXED)
 
 
+# A rule of both windows among others: `G(a0>F[1,2]a1)|!(a2UG[0,1]!a0)`.
+WINDOWED_RULE = "a0 a1 F[1,2] > G a2 a0 ! G[0,1] U ! |"
+WINDOWED = paper.table(nodes_of(WINDOWED_RULE))
+
+
+def of_windows():
+    say("By hand: a rule of both windows among others, `G(a0>F[1,2]a1)|!(a2UG[0,1]!a0)`, T 4, M 3")
+    read(3, 84, WINDOWED_RULE, "G(a0>F[1,2]a1)|!(a2UG[0,1]!a0)")
+    read(3, 83, "r11", "G ( a0 > F [ 1 , 2 ] a1 ) | ! ( a2 U G [ 0 , 1 ] ! a0 )")
+    for run, answer, truth, verdict in (
+        ([1, 4, 2, 0], "v1", "1000 0010 1100 1111 1111 0100 1000 0111 0111 0111 1000 1111", "p93"),
+        ([5, 5, 0, 0], "v0", "1100 0000 0000 0011 0011 1100 1100 0011 0011 1111 0000 0011", "k92,1000000"),
+        ([5, 4, 1, 1], "v1", "1011 0000 0000 0100 0000 1100 1011 0100 0000 0000 1111 1111", "p93"),
+    ):
+        evaluate(4, 3, 48, answer, run, truth, WINDOWED)
+        judge(4, 3, 0, solution(run, truth), verdict, WINDOWED)
+
+
 def writing_pages():
     say("The request: `a0Ua1`, T 2, M 2, of the page's words; the buffer as long as the page, longer, and a byte too short")
     nodes = nodes_of("a0 a1 U")
-    page = paper.expected_page(paper.expected_model(nodes, 2, 2))
+    page = page_of(nodes, 2, 2)
     size = len(page)
     mps(2, 2, size, f"n{size}", page, UNTIL)
     mps(2, 2, size + 3, f"n{size}", page, UNTIL)
@@ -619,7 +966,8 @@ ENDATA
         lines += ["BOUNDS", " BV BND       X0", " UP BND       X1        1", " UP BND       X2        1", "ENDATA"]
         page = "".join(line + "\n" for line in lines)
         mps(1, 1, len(page), f"n{len(page)}", page, table((1, 0, 0), (kind, 0, 0)))
-    say("By hand: the row writer's refusals, the lowest wins")
+    writing_window_pages()
+    say("By hand: the row writer's refusals; the first in the order of the checks wins")
     mps(65, 2, 9999, "r1", "", UNTIL)
     mps(0, 0, 0, "r1", "", b"")
     mps(2, 0, 9999, "r2", "", ATOM)
@@ -629,26 +977,96 @@ ENDATA
     mps(1, 1, 9999, "r7", "", table((1, 1, 0)))
     say("Of the page's words: a rule of every kind, `G(a0>Fa1)&!(a2U!a0)|a1`, T 4, M 3; 128 nodes, T 3, M 1")
     for nodes, t, m in (nodes_of(MIXED_RULE), 4, 3), (nodes_of("a0" + " !" * 127), 3, 1):
-        page = paper.expected_page(paper.expected_model(nodes, t, m))
+        page = page_of(nodes, t, m)
         mps(t, m, len(page), f"n{len(page)}", page, paper.table(nodes))
+
+
+def writing_window_pages():
+    say("By hand: pages in full, `F[0,1]a0` and `G[0,1]a0` with T 2 and M 1")
+    atoms = "X0 R0 -1, X1 R1 -1, "
+    for kind, rights, columns in (
+        ("F", "R7 1", "X2 R0 1, X2 R2 -1, X2 R4 1, X3 R1 1, X3 R3 -1, X3 R4 1, X3 R5 -1, X3 R6 1, "
+            "X4 R2 1, X4 R3 1, X4 R4 -1, X4 R7 1, X5 R5 1, X5 R6 -1"),
+        ("G", "R4 -1, R7 1", "X2 R0 1, X2 R2 1, X2 R4 -1, X3 R1 1, X3 R3 1, X3 R4 -1, X3 R5 1, X3 R6 -1, "
+            "X4 R2 -1, X4 R3 -1, X4 R4 1, X4 R7 1, X5 R5 -1, X5 R6 1"),
+    ):
+        lines = ["NAME", "ROWS", " N  COST", " E  R0", " E  R1"]
+        lines += [" G  R2", " G  R3", " G  R4", " G  R5", " G  R6", " E  R7", "COLUMNS"]
+        lines += ["    {:10}{:10}{}".format(*entry.split()) for entry in (atoms + columns).split(", ")]
+        lines += ["RHS", *("    RHS       {:10}{}".format(*entry.split()) for entry in rights.split(", "))]
+        lines += ["BOUNDS", " BV BND       X0", " BV BND       X1"]
+        lines += [f" UP BND       X{number}        1" for number in range(2, 6)]
+        page = "".join(line + "\n" for line in [*lines, "ENDATA"])
+        mps(2, 1, len(page), f"n{len(page)}", page, window(kind, 0, 1))
+        mps(2, 1, len(page) - 1, "r11", "", window(kind, 0, 1))
+    say("Of the page's words: windows alone, after T, in one another and among others")
+    for rule, t, m in (
+        ("a0 F[0,0]", 1, 1), ("a0 G[63,63]", 1, 1), ("a0 F[3,5]", 3, 1), ("a1 G[0,2]", 4, 2), ("a0 F[1,2] G[0,3]", 5, 2),
+        (WINDOWED_RULE, 4, 3), ("a15 G[0,63]", 64, 16), ("a0" + " F[1,2] G[0,1]" * 63, 4, 1),
+    ):
+        nodes = nodes_of(rule)
+        page = page_of(nodes, t, m)
+        mps(t, m, len(page), f"n{len(page)}", page, paper.table(nodes))
+    mps(2, 1, 9999, "r7", "", window("F", 1, 0))
+    mps(2, 1, 0, "r7", "", window("G", 0, 64))
+
+
+def listing_windows():
+    say("By hand from the request (N4): `F[0,1]a0` and `G[0,1]a0`; `F[0,0]a0` has two rows of >=")
+    atom = "0 = 0 +2 -0\n1 = 0 +3 -1\n"
+    within = "rows 8 vars 6\n" + atom + "2 >= 0 +4 -2\n3 >= 0 +4 -3\n4 >= 0 +2 +3 -4\n5 >= 0 +5 -3\n6 >= 0 +3 -5\n7 = 1 +4\n"
+    throughout = "rows 8 vars 6\n" + atom + "2 >= 0 +2 -4\n3 >= 0 +3 -4\n4 >= -1 +4 -2 -3\n5 >= 0 +3 -5\n6 >= 0 +5 -3\n7 = 1 +4\n"
+    rowlist("2 1\nF[0,1]a0\n", within)
+    rowlist("2 1\n F [ 0 , 1 ] a0 ", within)
+    rowlist("2 1\nF[0,63]a0", within)
+    rowlist("2 1\nG[0,1]a0\n", throughout)
+    rowlist("1 1\nF[0,0]a0", "rows 4 vars 3\n0 = 0 +1 -0\n1 >= 0 +2 -1\n2 >= 0 +1 -2\n3 = 1 +2\n")
+    say("By hand: refusals, the first in the order of the checks; 12 comes before 6")
+    for given, number in (
+        ("2 1\nF[1,0]a0", 12), ("2 1\nG[0,64]a0", 12), ("2 1\nF[18446744073709551616,0]a0", 12),
+        ("2 2\n" + "!" * 198 + "F[1,0]a0", 12), ("64 1\n" + "G[1,0]" * 128 + "a0", 12), ("2 2\nF[1,0]a9", 5),
+        ("65 1\nF[1,0]a0", 1), ("2 0\nF[1,0]a0", 2), ("1 1\nF[1,0]a0" + " " * 1017, 3), ("1 1\nF[1,0]a0" + " " * 1016, 12),
+        ("2 2\nF[1,0]", 4), ("2 2\nF[01,2]a0", 4), ("2 2\n![0,1]a0", 4), ("1 1\n" + "F[0,1]" * 128 + "a0", 6),
+        ("64 1\n!!" + "F[0,1]" * 28 + "a0", 11), ("64 1\n" + "G[0,63]" * 3 + "a0", 11), ("64 16\n" + "F[0,63]" * 127 + "a15", 11),
+    ):
+        rowlist_refused(given, number)
+    say("Of the paper's words: rules whose rows take all 65,536 bytes of rowlist, and others")
+    for given, rule, t, m, size in (
+        ("64 1\n!" + "F[0,1]" * 28 + "a0", "a0" + " F[0,1]" * 28 + " !", 64, 1, 65536),
+        ("64 1\n" + "!" * 11 + "G[0,51]" * 2 + "a0", "a0" + " G[0,51]" * 2 + " !" * 11, 64, 1, 65536),
+        ("61 1\n" + "!" * 7 + "F[0,2]" * 20 + "a0", "a0" + " F[0,2]" * 20 + " !" * 7, 61, 1, 65536),
+        ("64 16\n" + "G[0,63]" * 2 + "a15", "a15" + " G[0,63]" * 2, 64, 16, 59976),
+        ("4 3\nG(a0>F[1,2]a1)|!(a2UG[0,1]!a0)", WINDOWED_RULE, 4, 3, 1095),
+    ):
+        assert row_bytes(paper.rows(nodes_of(rule), t, m)) == size
+        rowlist(given, paper.listing(nodes_of(rule), t, m))
 
 
 def listing_rows():
     say("The paper: rowlist's example; the last line may lack its line feed, and what follows line 2 is ignored")
     for given in "2 2\na0Ua1\n", "2 2\na0Ua1", "2 2\na0Ua1\na0\n\n", "002 2\na0Ua1":
         rowlist(given, "rows 10 vars 10\n" + PAGE + "\n")
-    say("By hand: each refusal of reader and row writer; the lowest wins")
+    say("By hand: each refusal of reader and row writer; the first in the order of the checks wins")
     for given, number in (
         ("65 1\na0", 1), ("0 0\n)", 1), ("18446744073709551618 1\na0", 1), ("2 0\n)", 2), ("2 17\na0", 2),
         ("1 1\n" + " " * 1025, 3), ("2 2", 4), ("2 2\n", 4), ("2 2\n\na0", 4), ("2 2\na0\r\n", 4), ("1 1\na1", 5),
-        ("1 1\n" + "!" * 128 + "a0", 6), ("31 1\n" + "!" * 54 + "(a0" + "&a0" * 24 + ")", 11),
+        ("1 1\n" + "!" * 128 + "a0", 6), ("27 1\n" + "!" * 6 + "(a0" + "&a0" * 50 + ")", 11),
     ):
-        rowlist(given, f"refused {number}\n")
+        rowlist_refused(given, number)
     say("By hand: a first line of another shape")
     for given in "", "\n", "2", "2 ", " 2 2", "2  2", "2 2 ", "2 2 2", "2\t2", "2 2\r\na0", "-2 2", "2,2", "a0", "65 x\na0":
         rowlist(given, "bad input\n")
-    say("Of the paper's words: 4,681 rows, the most that rowlist holds, with T 60 and 77 times `!` then `a0`")
+    say("Of the paper's words: rules of 4,681 and of 4,682 rows, which records of 14 bytes let rowlist hold and not hold")
     rowlist("60 1\n" + "!" * 77 + "a0", paper.listing(nodes_of("a0" + " !" * 77), 60, 1))
+    ands = nodes_of("a0" + " a0" * 24 + " &" * 24 + " !" * 54)
+    rowlist("31 1\n" + "!" * 54 + "(a0" + "&a0" * 24 + ")", paper.listing(ands, 31, 1))
+
+
+def window_total(is_within, x, *figures):
+    """The row sum of a window's last row: F has the figures' sum less x, and G x less the figures' sum."""
+    total = sum(figures)
+    sums = (total, total - x) if is_within else (x, x - total)
+    case("total", [int(is_within), x, *figures], None, "positive {} whole {}".format(*sums))
 
 
 def of_spin():
@@ -656,7 +1074,7 @@ def of_spin():
     for line in (TOP / "tests" / "spin.txt").read_text().splitlines():
         t, m, run, bits, text = line.split(" ", 4)
         t, m, run, nodes = int(t), int(m), [int(number) for number in run.split(",")], paper.parse(text)
-        case("read", [640, m], text.encode(), f"value {len(nodes)}", lent(640, paper.table(nodes)))
+        case("read", [896, m], text.encode(), f"value {len(nodes)}", lent(896, paper.table(nodes)))
         *parts, root = truths(paper.table(nodes), m, run)
         root = [own if bit == "-" else int(bit) for own, bit in zip(root, bits)]
         words = " ".join("".join(map(str, truth)) for truth in [*parts, root])
@@ -665,16 +1083,29 @@ def of_spin():
 
 def largest():
     say("Of the paper's words: 128 nodes, an atom and then until over the node before on both sides, T 64 and M 16")
-    nodes = [(1, 0, 0)] + [(8, child, child) for child in range(127)]
+    nodes = [(1, 0, 0, 0, 0)] + [(8, child, child, 0, 0) for child in range(127)]
     run = [int(slot % 3 == 0) for slot in range(64)]
     texts = [paper.row_text(row) for row in paper.rows(nodes, 64, 16)]
-    rows(64, 16, 450744, "n32196", texts, paper.table(nodes))
-    rows(64, 16, 450743, "r11", [], paper.table(nodes))
+    rows(64, 16, 426162, "n32196", texts, paper.table(nodes))
+    rows(64, 16, 426161, "r11", [], paper.table(nodes))
     evaluate(64, 16, 8192, "v1", run, "".join(map(str, run)) * 128, paper.table(nodes))
     evaluate(64, 16, 8191, "r11", run, "", paper.table(nodes))
-    page = paper.expected_page(paper.expected_model(nodes, 64, 16))
+    page = page_of(nodes, 64, 16)
     mps(64, 16, len(page), f"n{len(page)}", page, paper.table(nodes))
     mps(64, 16, len(page) - 1, "r11", "", paper.table(nodes))
+    say("Of the paper's words: 128 nodes, an atom and then the window [0,63] of the node before, T 64 and M 16: no table has\n"
+        "more rows. Its page (of F 24,506,033 bytes, of G 24,984,950) is longer than what can be lent here: that of 22 nodes fits")
+    for kind in 9, 10:
+        nodes = [(1, 15, 0, 0, 0)] + [(kind, child, 0, 0, 63) for child in range(127)]
+        texts = [paper.row_text(row) for row in paper.rows(nodes, 64, 16)]
+        rows(64, 16, 3763976, "n272353", texts, paper.table(nodes))
+        rows(64, 16, 3763975, "r11", [], paper.table(nodes))
+    run = [0] * 63 + [32768]
+    evaluate(64, 16, 8192, "v0", run, ("0" * 63 + "1") * 128, paper.table(nodes))
+    page = page_of(nodes[:22], 64, 16)
+    mps(64, 16, len(page), f"n{len(page)}", page, paper.table(nodes[:22]))
+    mps(64, 16, len(page) - 1, "r11", "", paper.table(nodes[:22]))
+    mps(64, 16, 4194296, "r11", "", paper.table(nodes))
 
 
 def summing():
@@ -687,17 +1118,32 @@ def summing():
             row_sum(figures, first, second)
             for third in terms:
                 row_sum(figures, first, second, third)
+    say("By own arithmetic (request N4): the last rows of windows, of up to 65 terms, with the ends of a figure's type for figures")
+    most, least = figures
+    for is_within in True, False:
+        for x in most, least, 0, ONE:
+            for part in (), (most,), (least,), (most, least), (most, most, 1), (least, least, most, 1):
+                window_total(is_within, x, *part)
+            for part in (least,) * 63, (most,) * 64, (least,) * 64, range(-3 * ONE, 3 * ONE, 97003):
+                window_total(is_within, x, *part)
 
 
 def main():
     say(HEAD)
     reading()
+    reading_windows()
+    refusing_windows()
     evaluating()
+    evaluating_windows()
     writing_rows()
+    writing_window_rows()
     writing_pages()
     listing_rows()
+    listing_windows()
     judging()
+    judging_windows()
     of_every_kind()
+    of_windows()
     of_spin()
     largest()
     summing()

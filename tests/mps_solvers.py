@@ -51,8 +51,8 @@ def random_rule(rng, nodes, m):
     """A text of that many nodes. Brackets stand where chance puts them; every such text is in the grammar."""
     if nodes == 1:
         return f"a{rng.randrange(m)}"
-    if nodes == 2 or rng.random() < 0.3:
-        text = rng.choice("!FG") + random_rule(rng, nodes - 1, m)
+    if nodes == 2 or rng.random() < 0.4:
+        text = random_single(rng) + random_rule(rng, nodes - 1, m)
     else:
         left = rng.randint(1, nodes - 2)
         if nodes % 2 == 1 and rng.random() < 0.2:  # two equal parts
@@ -63,16 +63,26 @@ def random_rule(rng, nodes, m):
     return f"({text})" if rng.random() < 0.6 else text
 
 
+def random_single(rng):
+    """`!`, F or G, or a window, of which some reach past every horizon used here."""
+    operator = rng.choice("!FGFG")
+    if operator == "!" or rng.random() < 0.4:
+        return operator
+    last = rng.choice([0, 1, 1, 2, 2, 3, 4, 63])
+    return f"{operator}[{rng.randint(0, last)},{last}]"
+
+
 def random_case(rng):
     t = rng.randint(1, 4)
     m = rng.randint(1, 8 // t)
     if rng.random() < 0.2:  # no run satisfies these
         part = f"({random_rule(rng, rng.randint(1, 4), m)})"
-        text = rng.choice(["{0}&!{0}", "G({0}&F!{0})", "!({0}>{0})", "F{0}&G!{0}"]).format(part)
+        unmet = ["{0}&!{0}", "G({0}&F!{0})", "!({0}>{0})", "F{0}&G!{0}", "F[0,2]{0}&G[0,2]!{0}", "G[1,1]{0}&F[1,1]!{0}"]
+        text = rng.choice(unmet).format(part)
     else:
         text = random_rule(rng, rng.randint(1, 12), m)
     if rng.random() < 0.3:
-        text = "".join(token + " " * rng.randint(0, 2) for token in re.findall(r"a\d+|.", text))
+        text = "".join(token + " " * rng.randint(0, 2) for token in re.findall(r"a?\d+|.", text))
     return t, m, text
 
 
@@ -229,7 +239,7 @@ def main():
     for _ in range(options.rules):
         t, m, text = random_case(rng)
         nodes = parse(text)
-        kinds.update({kind for kind, _, _ in nodes})
+        kinds.update({kind for kind, *_ in nodes})
         model = expected_model(nodes, t, m)
         who = "mpspage"
         try:
@@ -254,7 +264,7 @@ def main():
                 counts[solver]["found" if exists else "none"] += 1
         except Difference as difference:
             sys.exit(f"{who} differs for T {t}, M {m}, rule {text!r}: {difference}")
-    print(f"seed {options.seed}: {options.rules} rules; " + ", ".join(f"{kinds[n]} with kind {n}" for n in range(1, 9)))
+    print(f"seed {options.seed}: {options.rules} rules; " + ", ".join(f"{kinds[n]} with kind {n}" for n in range(1, 11)))
     print(f"mpspage: {options.rules} pages as expected, byte for byte")
     for solver, count in counts.items():
         outcomes = f"{count['found']} schedules found, {count['none']} with none"

@@ -5,7 +5,8 @@
     python3 tests/must_fail.py --check    says whether the page is what this script makes, and writes nothing
 
 An edit's first line is `# PROMISE, PROMISE ..: WHAT IT DOES`. What the prover said is the first fact that it misses. Each
-demand and each wrong program of document 01, "The wording of each promise" (c), must have two edits or more.
+demand and each wrong program that document 01, "The wording of each promise" (c), or a request names must have two edits or
+more.
 """
 
 import itertools
@@ -19,20 +20,30 @@ HEAD = """\
 Made by tests/must_fail.py. Each edit changes an operand and keeps the shape; the prover must refuse it because a fact no
 longer holds. The gate tries them all (`rt must-fail NAME` tries those of one crate and of what it depends on). There are
 edits for the promises of the calls and programs offered to others, for the definitions that must be believed, and for
-what the scope paper's "The wording of each promise" (c) names. Other crates need none: their callers' proofs would break.
-`known` compares nothing inside a proof, so it has none either: the gate compares what it prints.
+what the scope paper's "The wording of each promise" (c) and the requests name. Other crates need none: their callers'
+proofs would break. `known` compares nothing inside a proof, so it has none either: the gate compares what it prints.
 
-What (c) names, each in the code and in what the contracts cite:
+What (c) and the requests name, each in the code and in what the contracts cite:
 """
-NAMED = (
-    "rows left out",
-    "reader that refuses all rules",
-    "judge that passes all figures",
-    "evaluator that writes nothing",
-    "evaluator that repeats slot 1",
-    "row count unrelated to the rows",
-    "judge that names row 0",
-)
+NAMED = {
+    "01 (c)": (
+        "rows left out",
+        "reader that refuses all rules",
+        "judge that passes all figures",
+        "evaluator that writes nothing",
+        "evaluator that repeats slot 1",
+        "row count unrelated to the rows",
+        "judge that names row 0",
+    ),
+    "N4": (
+        "a slot after T left out",
+        "the sum row left out",
+        "right side −k",
+        "terms not lowest first",
+        "12 after 6",
+        "a above b taken as good",
+    ),
+}
 DEMANDS = ("demand 1", "demand 2", "demand 3")
 MOST = 300  # characters of what the prover says
 
@@ -91,8 +102,11 @@ def main():
     found = list(edits())
     for demand in DEMANDS:
         answering(found, demand)
-    page = [HEAD, "| wrong program | edits |", "|---|---|"]
-    page += [f"| {named} | {', '.join(f'`{name}`' for name in answering(found, f'01 (c) {named}'))} |" for named in NAMED]
+    page = [HEAD, "| named by | wrong program | edits |", "|---|---|---|"]
+    for paper, programs in NAMED.items():
+        for program in programs:
+            names = ", ".join(f"`{name}`" for name in answering(found, f"{paper} {program}"))
+            page.append(f"| {paper} | {program} | {names} |")
     for crate in dict.fromkeys(edit[0] for edit in found):
         page += [f"\n## `{crate}`: {purpose(crate)}\n", "| edit | promise | what it does | the prover says |", "|---|---|---|---|"]
         for of, name, promises, *rest in found:

@@ -4,20 +4,31 @@ import re
 import sys
 from collections import Counter
 
-sys.setrecursionlimit(10000)  # a bracket takes six calls of `parse`, and a text may have 511 pairs
+sys.setrecursionlimit(10000)  # a bracket takes six calls of `parse`, and a text may open 1,024
 
 SINGLE = {"!": 2, "F": 6, "G": 7}
+WINDOW = {"F": 9, "G": 10}
 DOUBLE = {">": 5, "|": 4, "&": 3, "U": 8}  # loosest first
-ATOM, NOT, AND, OR, IMPLIES, EVENTUALLY, ALWAYS, UNTIL = range(1, 9)
+ATOM, NOT, AND, OR, IMPLIES, EVENTUALLY, ALWAYS, UNTIL, WITHIN, THROUGHOUT = range(1, 11)
+NUMBER = "0|[1-9][0-9]*"
+
+
+class Fault(Exception):
+    """The text is outside the grammar."""
 
 
 def parse(text):
-    """The nodes of a rule as (kind, left, right), in the order of the node table."""
-    tokens = re.findall(r"a\d+|\S", text)
+    """The nodes of a rule as (kind, left, right, a, b), in the order of the node table; a and b are of a window."""
+    tokens = re.findall(r"a?[0-9]+|[^ ]", text)
     nodes = []
 
-    def node(kind, left, right=0):
-        nodes.append((kind, left, right))
+    def take(form):
+        if not tokens or not re.fullmatch(form, tokens[0]):
+            raise Fault(text)
+        return tokens.pop(0)
+
+    def node(kind, left, right=0, a=0, b=0):
+        nodes.append((kind, left, right, a, b))
         return len(nodes) - 1
 
     def level(operators):
@@ -30,16 +41,44 @@ def parse(text):
         return left
 
     def single():
-        token = tokens.pop(0)
+        token = take(rf"[!FG(]|a({NUMBER})")
         if token == "(":
             inner = level("".join(DOUBLE))
-            assert tokens.pop(0) == ")"
+            take(r"\)")
             return inner
+        if token in WINDOW and tokens and tokens[0] == "[":
+            _, a, _, b, _ = map(take, (r"\[", NUMBER, ",", NUMBER, r"\]"))
+            return node(WINDOW[token], single(), 0, int(a), int(b))
         return node(SINGLE[token], single()) if token in SINGLE else node(ATOM, int(token[1:]))
 
     level("".join(DOUBLE))
-    assert not tokens
+    if tokens:
+        raise Fault(text)
     return nodes
+
+
+def reading(text, m, room):
+    """The reader's refusal, the first that applies in the order of the checks, or the nodes."""
+    if not 1 <= m <= 16:
+        return 2
+    if len(text) > 1024:
+        return 3
+    try:
+        nodes = parse(text)
+    except Fault:
+        return 4
+    checks = (
+        (5, any(kind == ATOM and left >= m for kind, left, *_ in nodes)),
+        (12, any(a > b or b > 63 for *_, a, b in nodes)),
+        (6, len(nodes) > 128),
+        (11, room < 7 * len(nodes)),
+    )
+    return next((number for number, applies in checks if applies), nodes)
+
+
+def window_slots(t, slot, a, b):
+    """The different slots that a window looks at, lowest first, counted from 0: one after the last counts as the last."""
+    return sorted({min(slot + offset, t - 1) for offset in range(a, b + 1)})
 
 
 def truth(nodes, atoms):
@@ -47,7 +86,7 @@ def truth(nodes, atoms):
     what holds at some or at every later slot is found among the slots up to the last."""
     slots = range(len(atoms[0]))
     truths = []
-    for kind, left, right in nodes:
+    for kind, left, right, a, b in nodes:
         p = atoms[left] if kind == ATOM else truths[left]
         q = None if kind == ATOM else truths[right]
         holds = {
@@ -59,6 +98,8 @@ def truth(nodes, atoms):
             EVENTUALLY: lambda t: any(p[k] for k in slots[t:]),
             ALWAYS: lambda t: all(p[k] for k in slots[t:]),
             UNTIL: lambda t: any(q[k] and all(p[j] for j in slots[t:k]) for k in slots[t:]),
+            WITHIN: lambda t: any(p[k] for k in window_slots(len(slots), t, a, b)),
+            THROUGHOUT: lambda t: all(p[k] for k in window_slots(len(slots), t, a, b)),
         }[kind]
         truths.append([holds(t) for t in slots])
     return truths
@@ -67,6 +108,31 @@ def truth(nodes, atoms):
 def table(nodes):
     """The records of nodes."""
     return b"".join(bytes([0x4E, 0x44, *node]) for node in nodes)
+
+
+def good_record(record, number, m):
+    if len(record) != 7 or record[:2] != b"ND":
+        return False
+    kind, left, right, a, b = record[2:]
+    if kind in (WITHIN, THROUGHOUT):
+        return left < number and right == 0 and a <= b <= 63
+    own = {ATOM: left < m and right == 0, **dict.fromkeys(SINGLE.values(), left < number and right == 0)}
+    own.update(dict.fromkeys(DOUBLE.values(), left < number and right < number))
+    return own.get(kind, False) and a == b == 0
+
+
+def good(data, m):
+    records = [data[at : at + 7] for at in range(0, len(data), 7)]
+    return 1 <= len(records) <= 128 and all(good_record(record, number, m) for number, record in enumerate(records))
+
+
+def refusal(t, m, data):
+    """The first of the checks that all calls but read share, or None."""
+    if not 1 <= t <= 64:
+        return 1
+    if not 1 <= m <= 16:
+        return 2
+    return None if good(data, m) else 7
 
 
 # The rows at a slot as the scope paper has them; LAST are those at slot T.
@@ -83,6 +149,15 @@ ROWS = {
 LAST = {**ROWS, EVENTUALLY: "P - p = 0", ALWAYS: "P - p = 0", UNTIL: "P - q = 0"}
 
 
+def window_rows(kind, own, parts):
+    """The rows of a window at a slot, where own is P and parts are the p(s)."""
+    if kind == WITHIN:
+        each = [(">=", 0, [(1, own), (-1, part)]) for part in parts]
+        return [*each, (">=", 0, [*((1, part) for part in parts), (-1, own)])]
+    each = [(">=", 0, [(1, part), (-1, own)]) for part in parts]
+    return [*each, (">=", -(len(parts) - 1), [(1, own), *((-1, part) for part in parts)])]
+
+
 def rows(nodes, t, m):
     """The rows as (relation, right side, terms), a term as (coefficient, variable), in the order of the paper."""
     found = []
@@ -92,9 +167,12 @@ def rows(nodes, t, m):
         signed = re.findall(r"([+-]?) ?([Ppq]'?)", terms)
         found.append((relation, int(right), [(-1 if sign == "-" else 1, variables[place]) for sign, place in signed]))
 
-    for number, (kind, left, right) in enumerate(nodes):
+    for number, (kind, left, right, a, b) in enumerate(nodes):
         for slot in range(t):
             own = (m + number) * t + slot
+            if kind in (WITHIN, THROUGHOUT):
+                found += window_rows(kind, own, [(m + left) * t + s for s in window_slots(t, slot, a, b)])
+                continue
             p = (left if kind == ATOM else m + left) * t + slot
             variables = {"P": own, "P'": own + 1, "p": p, "q": (m + right) * t + slot}
             for row in (ROWS if slot < t - 1 else LAST)[kind].split("; "):
@@ -108,7 +186,25 @@ def record(row):
     data = [0x52, 0x57, {">=": 1, "=": 2}[relation], len(terms), right % 256]
     for coefficient, variable in terms:
         data += [coefficient % 256, variable % 256, variable // 256]
-    return bytes(data + [0] * (14 - len(data)))
+    return bytes(data)
+
+
+def verdict(nodes, t, m, figures, e):
+    """The judge's verdict, in words."""
+    one = 1000000
+    for variable, figure in enumerate(figures):
+        if not -e <= figure <= one + e:
+            return f"outside {variable}"
+    for variable, figure in enumerate(figures[: m * t]):
+        if abs(figure) > e and abs(figure - one) > e:
+            return f"not binary {variable}"
+    found = rows(nodes, t, m)
+    for number, (relation, right, terms) in enumerate(found):
+        short = right * one - sum(coefficient * figures[variable] for coefficient, variable in terms)
+        short = abs(short) if relation == "=" else short
+        if short > e:
+            return f"broken {number} shortfall {short}"
+    return f"passed {len(found)}"
 
 
 def row_text(row):

@@ -1,14 +1,17 @@
 #!/usr/bin/env python3
 """Makes tests/spin.txt: the truth of rules over runs, as the model checker SPIN has it.
 
-    python3 tests/spin_vectors.py            writes the file (about seven minutes)
+    python3 tests/spin_vectors.py            writes the file (about ten minutes)
     python3 tests/spin_vectors.py --check    says whether the file is what SPIN gives, and writes nothing
 
-Needs spin (Debian's package `spin`) and gcc. The file in the repository was made with
+Needs gcc and spin with its operator X (next), which rules with windows are told by. SPIN's own makefile builds it with X,
+Debian's package without: `apt-get source spin`, then `make` in the folder Src, and its `spin` is found by PATH or named
+by the variable SPIN. The file in the repository was made with
     spin -V         Spin Version 6.5.2 -- 6 December 2019
     gcc --version   gcc (Debian 12.2.0-14+deb12u1) 12.2.0
     python3 -V      Python 3.11.7
-The rules and runs come from SEED alone, so the same file comes out each time.
+The rules and runs come from the two seeds alone, so the same file comes out each time. Debian's spin gave the lines before
+those with windows.
 
 A line is one rule over one run:
 
@@ -22,8 +25,13 @@ own precedence plays no part.
 The model has one endless execution: the run slot by slot, the last slot for ever. `v` is the run's number and `s`
 the slot. For each rule and slot there are two claims: at s the rule holds, and at s its negation holds. SPIN must
 find exactly one of them true; a claim that is true for want of a check would show as two true ones.
+
+A step of the model is a slot, so F[a,b] p is a times X before p || X (p || X ..), and G[a,b] p the same with &&: the slots
+after the last are those of the model, and nothing of it is worked out here. Such models are checked without SPIN's
+reductions, which are not for X.
 """
 
+import os
 import random
 import re
 import subprocess
@@ -34,13 +42,17 @@ from pathlib import Path
 
 from data_file import write_or_check
 
+SPIN = os.environ.get("SPIN", "spin")
 SEED = 20261115
+WINDOW_SEED = 20261116
 TREES_PER_RUN = 8
+WINDOW_TREES_PER_RUN = 6
 CHAINS = ("U", ">", ">|&U")  # the operators of three more rules for each run, without brackets
 LARGEST_DEPTH = 6
 MOST_WEIGHT = 6  # SPIN's automata grow fast with the number of F, G and U
+LARGEST_WINDOW = 4  # and of X
 
-# A tree is ("a", number), (operator, child) or (operator, left, right).
+# A tree is ("a", number), (operator, child) or (operator, left, right); an operator with a window is the text `F[0,5]`.
 SINGLE = "!FG"
 DOUBLE = ">|&U"  # loosest first
 WEIGHT = {"F": 1, "G": 1, "U": 2}
@@ -66,6 +78,29 @@ for _ in range(127):
 LONG = [(tree, run, words) for tree, words in ((NOTS, "!" * 127 + "a0"), (("a", 0), "a0" + " " * 1022)) for run in ([1], [0, 1] * 32)]
 
 
+# Rules with windows, each over the runs of WINDOW_RUNS.
+A0, A1 = ("a", 0), ("a", 1)
+WINDOWS = [
+    (("F[0,0]", A0), "F[0,0]a0"),
+    (("G[0,0]", A0), "G[0,0]a0"),
+    (("F[0,1]", A0), "F[0,1]a0"),
+    (("G[0,1]", A0), "G [ 0 , 1 ] a0"),
+    (("F[1,1]", A0), "F[1,1]a0"),
+    (("F[1,2]", A0), "F[1,2]a0"),
+    (("G[1,2]", A0), "G[1,2]a0"),
+    (("F[2,4]", A0), "F[2,4]a0"),
+    (("G[3,4]", A0), "G[3,4]a0"),
+    (("F[0,1]", ("G[1,2]", A0)), "F[0,1]G[1,2]a0"),
+    (("G[1,1]", ("F[0,2]", A1)), "G[1,1]F[0,2]a1"),
+    (("U", ("F[0,1]", A0), A1), "F[0,1]a0Ua1"),
+    (("F[0,1]", ("U", A0, A1)), "F[0,1](a0Ua1)"),
+    (("G", (">", A0, ("F[1,2]", A1))), "G(a0>F[1,2]a1)"),
+    (("F[0,7]", A1), "F[0,7]a1"),
+    (("G[5,8]", A0), "G[5,8]a0"),
+]
+WINDOW_RUNS = [[1], [2], [1, 2], [2, 1], [1, 0, 2], [0, 1, 3], [3, 2, 0], [0, 0, 1, 2], [2, 0, 1, 1, 0, 1, 1, 1, 1, 2]]
+
+
 def children(tree):
     return () if tree[0] == "a" else tree[1:]
 
@@ -84,6 +119,16 @@ def weight(tree):
     return sum(WEIGHT.get(operator, 0) for operator in operators(tree))
 
 
+def window_of(operator):
+    """The numbers of F[a,b] or G[a,b], and None of other operators."""
+    window = re.fullmatch(r"[FG]\[(\d+),(\d+)\]", operator)
+    return window and tuple(map(int, window.groups()))
+
+
+def has_window(tree):
+    return any(map(window_of, operators(tree)))
+
+
 def random_tree(rng, levels, atoms, top=None, allowed=MOST_WEIGHT):
     """A tree of exactly `levels` levels of operators, of at most the weight that is allowed."""
     if levels == 0:
@@ -100,6 +145,17 @@ def random_tree(rng, levels, atoms, top=None, allowed=MOST_WEIGHT):
         if other != deep:
             break
     return (operator, deep, other) if rng.random() < 0.5 else (operator, other, deep)
+
+
+def windowed(rng, tree):
+    """The tree with most of its F and G, and some of its `!`, turned into windows."""
+    operator, *parts = tree
+    if operator == "a":
+        return tree
+    if rng.random() < {"F": 0.8, "G": 0.8, "!": 0.4}.get(operator, 0):
+        end = rng.choice([0, 1, 1, 2, 2, 3, LARGEST_WINDOW])
+        operator = f"{rng.choice('FG') if operator == '!' else operator}[{rng.randint(0, end)},{end}]"
+    return (operator, *(windowed(rng, part) for part in parts))
 
 
 def grouped(parts, between):
@@ -130,8 +186,9 @@ def text(tree, rng, spaces, brackets, level=0):
         return f"{gap()}({text(tree, rng, spaces, brackets * 0.7)}){gap()}"
     if operator == "a":
         return f"{gap()}a{tree[1]}{gap()}"
-    if operator in SINGLE:
-        return f"{gap()}{operator}{text(tree[1], rng, spaces, brackets, len(DOUBLE))}"
+    if len(tree) == 2:
+        tokens = "".join(gap() + token for token in re.findall(r"\d+|\D", operator))
+        return f"{tokens}{text(tree[1], rng, spaces, brackets, len(DOUBLE))}"
     left = text(tree[1], rng, spaces, brackets, own + 1)
     right = text(tree[2], rng, spaces, brackets, own)
     return f"{left}{operator}{right}"
@@ -140,10 +197,21 @@ def text(tree, rng, spaces, brackets, level=0):
 def spin_text(tree):
     if tree[0] == "a":
         return f"((v & {2 ** tree[1]}) != 0)"
+    if window_of(tree[0]):
+        return spin_window(tree[0][0], *window_of(tree[0]), spin_text(tree[1]))
     operator = SPIN_OPERATOR[tree[0]]
     if len(tree) == 2:
         return f"({operator} {spin_text(tree[1])})"
     return f"({spin_text(tree[1])} {operator} {spin_text(tree[2])})"
+
+
+def spin_window(kind, a, b, part):
+    words = part
+    for _ in range(b - a):
+        words = f"({part} {'||' if kind == 'F' else '&&'} (X {words}))"
+    for _ in range(a):
+        words = f"(X {words})"
+    return words
 
 
 def random_run(rng, slots, m):
@@ -181,6 +249,23 @@ def plan(rng):
     return runs + [(1, run, [(tree, words, sorted({1, len(run) - 1, len(run)} - {0}))]) for tree, run, words in LONG]
 
 
+def window_plan(rng):
+    """The same of rules with windows."""
+    asked = lambda slots: range(1, slots + 1) if slots < 8 else sorted({1, 2, slots // 2, slots - 1, slots})
+    runs = [(2, run, [(tree, words, asked(len(run))) for tree, words in WINDOWS]) for run in WINDOW_RUNS]
+    for number, slots in enumerate([*range(1, 7), *range(1, 7), *range(2, 8), 8, 9, 10, 12, 16, 33]):
+        m = number % 4 + 1 if slots > 1 else 2
+        rules = []
+        while len(rules) < WINDOW_TREES_PER_RUN:
+            tree = random_tree(rng, rng.randint(1, 4), range(m), rng.choice("FG!U>&|"), 3)
+            tree = windowed(rng, tree)
+            if has_window(tree):
+                spaces, brackets = rng.choice([(0, 0), (0.3, 0), (0, 0.25), (0.25, 0.25)])
+                rules.append((tree, text(tree, rng, spaces, brackets), asked(slots)))
+        runs.append((m, random_run(rng, slots, m), rules))
+    return runs
+
+
 def model(run, rules):
     steps = "".join(f"  d_step {{ v = {value}; s = {slot} }};\n" for slot, value in enumerate(run[1:], 2))
     lines = [
@@ -207,8 +292,11 @@ def truths(run, rules):
     """For each rule the truth at each asked slot, from SPIN."""
     with tempfile.TemporaryDirectory() as folder:
         Path(folder, "run.pml").write_text(model(run, rules))
-        subprocess.run(["spin", "-a", "run.pml"], cwd=folder, check=True, stdout=subprocess.DEVNULL, timeout=600)
-        subprocess.run(["gcc", "-O0", "-w", "-o", "pan", "pan.c"], cwd=folder, check=True)
+        nexts = any(has_window(tree) for tree, _, _ in rules)
+        spin = [SPIN, *(["-o3"] if nexts else []), "-a", "run.pml"]
+        gcc = ["gcc", "-O0", "-w", *(["-DNOREDUCE"] if nexts else []), "-o", "pan", "pan.c"]
+        subprocess.run(spin, cwd=folder, check=True, stdout=subprocess.DEVNULL, timeout=600)
+        subprocess.run(gcc, cwd=folder, check=True)
         answers = []
         for number, (tree, words, asked) in enumerate(rules):
             answer = {}
@@ -223,11 +311,11 @@ def truths(run, rules):
 
 def main():
     lines, kinds, depths, horizons, atom_counts, bits = [], Counter(), Counter(), Counter(), Counter(), Counter()
-    for m, run, rules in plan(random.Random(SEED)):
+    for m, run, rules in plan(random.Random(SEED)) + window_plan(random.Random(WINDOW_SEED)):
         for (tree, words, asked), answer in zip(rules, truths(run, rules)):
             row = "".join(str(int(answer[slot])) if slot in answer else "-" for slot in range(1, len(run) + 1))
             lines.append(f"{len(run)} {m} {','.join(map(str, run))} {row} {words}\n")
-            kinds.update(set(operators(tree)))
+            kinds.update({operator[:2] for operator in operators(tree)})
             depths[depth(tree)] += 1
             horizons[len(run)] += 1
             atom_counts[m] += 1
@@ -236,7 +324,7 @@ def main():
     titles = ("rules by kind", "rules by depth", "rules by T", "rules by M", "slots by truth")
     for title, counts in zip(titles, (kinds, depths, horizons, atom_counts, bits)):
         print(f"{title}: " + ", ".join(f"{key} {counts[key]}" for key in sorted(counts)))
-    assert len(lines) >= 300 and set(kinds) == set("a" + SINGLE + DOUBLE) and min(kinds.values()) >= 40
+    assert len(lines) >= 300 and set(kinds) == {*"a", *SINGLE, *DOUBLE, "F[", "G["} and min(kinds.values()) >= 40
     assert set(range(1, LARGEST_DEPTH + 1)) <= set(depths) and {1, 64} <= set(horizons) and {1, 16} <= set(atom_counts)
     write_or_check("tests/spin.txt", "".join(lines))
 

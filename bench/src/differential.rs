@@ -64,8 +64,10 @@ impl Counts {
         *self.seen.entry(answer).or_insert(0) += 1;
     }
 
-    fn add_special(&mut self, what: &'static str) {
-        *self.special.entry(what).or_insert(0) += 1;
+    fn note(&mut self, seen: bool, what: &'static str) {
+        if seen {
+            *self.special.entry(what).or_insert(0) += 1;
+        }
     }
 
     fn print(&self) {
@@ -128,6 +130,8 @@ fn read(cases: u64, random: &mut Random, counts: &mut Counts) -> Result<(), Stri
             Ok(_) => "1 to 126 nodes".to_string(),
             Err(number) => refusal(number),
         });
+        counts.note(text.contains(&b'['), "a bracket of a window");
+        counts.note(expected.is_ok() && text.contains(&b'['), "a window, and read");
     }
     Ok(())
 }
@@ -154,6 +158,7 @@ fn evaluate(cases: u64, random: &mut Random, counts: &mut Counts) -> Result<(), 
             Ok(truth) => format!("root is {truth}"),
             Err(number) => refusal(number),
         });
+        counts.note(expected.is_ok() && has_window(&table), "a window, and evaluated");
     }
     Ok(())
 }
@@ -164,7 +169,7 @@ fn rows(cases: u64, random: &mut Random, counts: &mut Counts) -> Result<(), Stri
     for case in 0..cases {
         let (t, m) = (inputs::horizon(random), inputs::atom_count(random));
         inputs::table(random, m, &mut table);
-        let room = inputs::room(random, inputs::row_bytes(&table, t));
+        let room = inputs::room(random, reference::row_bytes(&table, t, m).unwrap_or(100));
         outputs.fill(random, room);
         let kept = table.clone();
         let expected = reference::rows(&table, t, m, outputs.of_reference());
@@ -175,16 +180,23 @@ fn rows(cases: u64, random: &mut Random, counts: &mut Counts) -> Result<(), Stri
         counts.add(match expected {
             Ok(2..=99) => "2 to 99 rows".to_string(),
             Ok(100..=9999) => "100 to 9,999 rows".to_string(),
-            Ok(_) => "10,000 rows or more".to_string(),
+            Ok(10_000..=99_999) => "10,000 to 99,999 rows".to_string(),
+            Ok(_) => "100,000 rows or more".to_string(),
             Err(number) => refusal(number),
         });
+        counts.note(expected.is_ok() && has_window(&table), "a window, and written");
     }
     Ok(())
 }
 
-/// Whether a line of the page has this number in its last field. Only entries have 2 or -2, and only COST lines 0.
+/// Whether a table that is good has a window.
+fn has_window(table: &[u8]) -> bool {
+    table.chunks_exact(reference::NODE_BYTES).any(|record| record[2] >= reference::WITHIN)
+}
+
+/// Whether a line of a column has this number in its last field. Only COST lines have 0.
 fn has_number(page: &[u8], number: &[u8]) -> bool {
-    page.split(|&byte| byte == b'\n').any(|line| line.get(24..) == Some(number))
+    page.split(|&byte| byte == b'\n').any(|line| line.starts_with(b"    X") && line.get(24..) == Some(number))
 }
 
 /// Whether a row of a good table has a term that another one cancels: an implication of a node by itself.
@@ -210,17 +222,16 @@ fn mps(cases: u64, random: &mut Random, counts: &mut Counts) -> Result<(), Strin
         counts.add(match expected {
             Ok(0..=9_999) => "under 10,000 bytes".to_string(),
             Ok(10_000..=999_999) => "10,000 to 999,999 bytes".to_string(),
-            Ok(_) => "1,000,000 bytes or more".to_string(),
+            Ok(1_000_000..=9_999_999) => "1,000,000 to 9,999,999 bytes".to_string(),
+            Ok(_) => "10,000,000 bytes or more".to_string(),
             Err(number) => refusal(number),
         });
         if expected.is_ok() {
-            let special = [
-                (has_number(&page, b"2"), "a coefficient 2"),
-                (has_number(&page, b"-2"), "a coefficient -2"),
-                (has_cancelled(&table), "a term that is dropped"),
-                (has_number(&page, b"0"), "a variable in no row"),
-            ];
-            special.iter().filter(|(seen, _)| *seen).for_each(|(_, what)| counts.add_special(what));
+            counts.note(has_number(&page, b"2"), "a coefficient 2");
+            counts.note(has_number(&page, b"-2"), "a coefficient -2");
+            counts.note(has_cancelled(&table), "a term that is dropped");
+            counts.note(has_number(&page, b"0"), "a variable in no row");
+            counts.note(has_window(&table), "a window, and written");
         }
     }
     Ok(())
@@ -249,6 +260,11 @@ fn judge(cases: u64, random: &mut Random, counts: &mut Counts) -> Result<(), Str
             Ok(Verdict::Passed(_)) => "passed".to_string(),
             Err(number) => refusal(number),
         });
+        counts.note(expected.is_ok() && has_window(&table), "a window, and judged");
+        if let Ok(Verdict::Broken(row, _)) = expected {
+            let kind = reference::kind_of_row(&table, t, m, row);
+            counts.note(kind >= Some(reference::WITHIN), "a window's row broken");
+        }
     }
     Ok(())
 }

@@ -1,9 +1,10 @@
 //! Random inputs of the calls, good and damaged.
 
 use crate::random::Random;
-use crate::reference::{self, ALWAYS, AND, ATOM, EVENTUALLY, IMPLIES, MAX_NODES, MAX_TEXT, NODE_BYTES, NOT, OR, UNTIL};
+use crate::reference::{self, ALWAYS, AND, ATOM, EVENTUALLY, IMPLIES, MAX_AHEAD, MAX_NODES, MAX_TEXT, NODE_BYTES};
+use crate::reference::{NOT, OR, THROUGHOUT, UNTIL, WITHIN};
 
-const ALPHABET: &[u8] = b"aUFG!&|>()0123456789 ";
+const ALPHABET: &[u8] = b"aUFG!&|>()[],0123456789 ";
 const UNARY: [(u8, u8); 3] = [(b'!', NOT), (b'F', EVENTUALLY), (b'G', ALWAYS)];
 const BINARY: [(u8, u8); 4] = [(b'>', IMPLIES), (b'|', OR), (b'&', AND), (b'U', UNTIL)];
 /// Sizes that a careless conversion would take for small ones.
@@ -62,17 +63,19 @@ pub fn room(random: &mut Random, needed: usize) -> usize {
         9..=10 => needed.saturating_sub(1),
         11..=17 => needed + random.between(1, 40),
         18 => random.below(needed + 1),
-        _ => random.pick(&[0, 1, 4, 5, 13, 14]),
+        _ => random.pick(&[0, 1, 6, 7, 8, 13, 14, 18, 19]),
     }
 }
 
 // ----------------------------------------------------------------------------------------------- texts
 
-/// How a text is written: the chance of a space and of superfluous brackets, in percent, and the end of
-/// the atom numbers.
+/// How a text is written: the chance of a space, of superfluous brackets, of a window behind F and G, and of
+/// one that is refused, in percent, and the end of the atom numbers.
 struct Style {
     spaces: usize,
     brackets: usize,
+    windows: usize,
+    refused: usize,
     atoms: usize,
 }
 
@@ -81,6 +84,8 @@ impl Style {
         Style {
             spaces: random.pick(&[0, 0, 10, 40]),
             brackets: random.pick(&[0, 0, 5, 25]),
+            windows: random.pick(&[0, 60, 90, 90]),
+            refused: random.pick(&[0, 0, 0, 0, 0, 0, 2, 40]),
             atoms: if random.percent(4) { 20 } else { m },
         }
     }
@@ -103,7 +108,7 @@ fn phrase(random: &mut Random, style: &Style, level: usize, nodes: usize, text: 
         let number = random.below(style.atoms);
         text.extend_from_slice(number.to_string().as_bytes());
     } else if nodes == 2 || random.percent(30) {
-        text.push(random.pick(&UNARY).0);
+        prefix(random, style, text);
         phrase(random, style, BINARY.len(), nodes - 1, text);
     } else {
         let operator = random.below(BINARY.len());
@@ -114,6 +119,47 @@ fn phrase(random: &mut Random, style: &Style, level: usize, nodes: usize, text: 
         }
     }
     spaces(random, style, text);
+}
+
+/// The numbers of a window that is allowed, narrow or wide.
+fn window(random: &mut Random) -> (usize, usize) {
+    match random.below(8) {
+        0..=3 => {
+            let a = random.below(6);
+            (a, a + random.below(6))
+        }
+        4..=5 => {
+            let a = random.between(0, MAX_AHEAD);
+            (a, random.between(a, MAX_AHEAD))
+        }
+        6 => random.pick(&[(0, 0), (1, 1), (0, 1), (63, 63), (62, 63)]),
+        _ => (0, MAX_AHEAD),
+    }
+}
+
+/// The numbers of one that is not.
+fn refused_window(random: &mut Random) -> (usize, usize) {
+    match random.below(3) {
+        0 => {
+            let a = random.between(1, MAX_AHEAD);
+            (a, random.below(a))
+        }
+        1 => random.pick(&[(0, 64), (63, 64), (64, 64), (64, 63), (64, 0), (0, 255), (256, 256), (0, 256), (256, 0)]),
+        _ => (random.below(100), random.between(MAX_AHEAD + 1, 700)),
+    }
+}
+
+/// A ! or F or G, with or without a window.
+fn prefix(random: &mut Random, style: &Style, text: &mut Vec<u8>) {
+    let (letter, kind) = random.pick(&UNARY);
+    text.push(letter);
+    if kind != NOT && random.percent(style.windows) {
+        let (a, b) = if random.percent(style.refused) { refused_window(random) } else { window(random) };
+        for token in ["[", &a.to_string(), ",", &b.to_string(), "]"] {
+            spaces(random, style, text);
+            text.extend_from_slice(token.as_bytes());
+        }
+    }
 }
 
 fn bracketed(random: &mut Random, style: &Style, nodes: usize, text: &mut Vec<u8>) {
@@ -160,11 +206,11 @@ fn valid_text(random: &mut Random, m: usize, nodes: usize, text: &mut Vec<u8>) {
 fn pad(random: &mut Random, length: usize, together: usize, text: &mut Vec<u8>) {
     while text.len() < length {
         let place = random.between(0, text.len());
-        let within_atom = place > 0
+        let within_number = place > 0
             && place < text.len()
             && text[place].is_ascii_digit()
             && (text[place - 1] == b'a' || text[place - 1].is_ascii_digit());
-        if !within_atom {
+        if !within_number {
             let count = random.between(1, together.min(length - text.len()));
             text.splice(place..place, std::iter::repeat_n(b' ', count));
         }
@@ -192,8 +238,8 @@ fn damage(random: &mut Random, bytes: &mut Vec<u8>, alphabet: &[u8]) {
     }
 }
 
-fn long_number(random: &mut Random, text: &mut Vec<u8>) {
-    text.push(b'a');
+/// A number of any length, of an atom or a window, perhaps with leading zeros.
+fn any_number(random: &mut Random, text: &mut Vec<u8>) {
     match random.below(4) {
         0 => {
             // Beside the powers of two that a counter could wrap at.
@@ -201,7 +247,7 @@ fn long_number(random: &mut Random, text: &mut Vec<u8>) {
             let number = (1u128 << power) + random.below(17) as u128;
             text.extend_from_slice(number.to_string().as_bytes());
         }
-        1 => text.extend_from_slice(random.between(0, 30).to_string().as_bytes()),
+        1 => text.extend_from_slice(random.between(0, 70).to_string().as_bytes()),
         2 => {
             text.extend(std::iter::repeat_n(b'0', random.between(0, 2)));
             text.extend_from_slice(random.between(0, 300).to_string().as_bytes());
@@ -211,6 +257,43 @@ fn long_number(random: &mut Random, text: &mut Vec<u8>) {
             text.push(b'1' + random.below(9) as u8);
             text.extend((1..digits).map(|_| b'0' + random.below(10) as u8));
         }
+    }
+}
+
+/// The end of a text with numbers of any length: an atom, or a window and an atom.
+fn numbered(random: &mut Random, text: &mut Vec<u8>) {
+    if random.percent(50) {
+        text.push(b'a');
+        any_number(random, text);
+        return;
+    }
+    let end = random.pick(&[b',', b']', 0]);
+    text.extend_from_slice(random.pick(&[b"F[", b"G["]));
+    for behind in *b",]" {
+        if behind == end {
+            text.extend_from_slice(random.between(0, 64).to_string().as_bytes());
+        } else {
+            any_number(random, text);
+        }
+        text.push(behind);
+    }
+    text.extend_from_slice(b"a0");
+}
+
+/// A window whose tokens are left out, doubled, parted or other ones, now and then.
+fn torn_window(random: &mut Random, text: &mut Vec<u8>) {
+    let (a, b) = window(random);
+    for token in [random.pick(&["F", "G"]), "[", &a.to_string(), ",", &b.to_string(), "]", "a0"] {
+        match random.below(30) {
+            0 => {}
+            1 => text.extend_from_slice(token.repeat(2).as_bytes()),
+            2 => text.push(random.pick(ALPHABET)),
+            3 => any_number(random, text),
+            4 => text.extend_from_slice(&[b'0', token.as_bytes()[0]]),
+            5 => text.extend(token.bytes().flat_map(|byte| [byte, b' '])),
+            _ => text.extend_from_slice(token.as_bytes()),
+        }
+        text.extend(std::iter::repeat_n(b' ', random.pick(&[0, 0, 1, 2])));
     }
 }
 
@@ -226,7 +309,7 @@ pub fn text(random: &mut Random, m: usize, text: &mut Vec<u8>) {
             valid_text(random, m, nodes, text);
             damage(random, text, ALPHABET);
         }
-        67..=74 => {
+        67..=72 => {
             // Tokens without a plan, mostly operand and operator in turn.
             text.clear();
             for place in 0..random.between(0, 30) {
@@ -238,6 +321,14 @@ pub fn text(random: &mut Random, m: usize, text: &mut Vec<u8>) {
                     (false, true) => text.push(random.pick(&BINARY).0),
                     _ => text.push(random.pick(ALPHABET)),
                 }
+            }
+        }
+        73..=74 => {
+            text.clear();
+            torn_window(random, text);
+            for _ in 0..random.below(4) {
+                text.push(random.pick(&BINARY).0);
+                torn_window(random, text);
             }
         }
         75..=79 => {
@@ -264,7 +355,7 @@ pub fn text(random: &mut Random, m: usize, text: &mut Vec<u8>) {
                 valid_text(random, m, nodes, text);
                 text.push(random.pick(b"U&|>"));
             }
-            long_number(random, text);
+            numbered(random, text);
             if random.percent(30) {
                 text.push(random.pick(b" )U&|>0"));
             }
@@ -274,8 +365,13 @@ pub fn text(random: &mut Random, m: usize, text: &mut Vec<u8>) {
             text.clear();
             let depth = random.pick(&[1, 60, 125, 126, 127, 128, 129, 200, 256, 340, 510, 511, 512, 1022, 1023, 1024]);
             let brackets = random.percent(50);
+            let style = Style { spaces: 0, ..Style::random(random, m) };
             for _ in 0..depth {
-                text.push(if brackets { b'(' } else { random.pick(&UNARY).0 });
+                if brackets {
+                    text.push(b'(');
+                } else {
+                    prefix(random, &style, text);
+                }
             }
             text.extend_from_slice(random.pick(&[&b"a0"[..], b"a9", b"a16", b"a", b""]));
             if brackets {
@@ -291,13 +387,20 @@ pub fn text(random: &mut Random, m: usize, text: &mut Vec<u8>) {
 // ---------------------------------------------------------------------------------------------- tables
 
 fn push_node(table: &mut Vec<u8>, kind: u8, left: usize, right: usize) {
-    table.extend_from_slice(&[0x4E, 0x44, kind, left as u8, right as u8]);
+    table.extend_from_slice(&[0x4E, 0x44, kind, left as u8, right as u8, 0, 0]);
 }
 
-/// A good table of any shape: shared and unused nodes, left equal to right.
+fn push_window(random: &mut Random, table: &mut Vec<u8>, left: usize, widest: bool) {
+    let (a, b) = if widest { (0, MAX_AHEAD) } else { window(random) };
+    table.extend_from_slice(&[0x4E, 0x44, random.pick(&[WITHIN, THROUGHOUT]), left as u8, 0, a as u8, b as u8]);
+}
+
+/// A good table of any shape: shared and unused nodes, left equal to right, windows.
 fn shaped_table(random: &mut Random, m: usize, nodes: usize, table: &mut Vec<u8>) {
     table.clear();
     let near = random.percent(50);
+    let windows = random.pick(&[0, 20, 40, 95]);
+    let widest = random.percent(20);
     for number in 0..nodes {
         let child = |random: &mut Random| {
             if near {
@@ -307,6 +410,10 @@ fn shaped_table(random: &mut Random, m: usize, nodes: usize, table: &mut Vec<u8>
             }
         };
         match random.below(12) {
+            _ if number > 0 && random.percent(windows) => {
+                let left = child(random);
+                push_window(random, table, left, widest);
+            }
             0..=3 if number > 0 => {
                 let left = child(random);
                 push_node(table, random.pick(&UNARY).1, left, 0);
@@ -330,7 +437,7 @@ fn good_table(random: &mut Random, m: usize, table: &mut Vec<u8>) {
     };
     if random.percent(60) {
         let mut text = Vec::new();
-        let style = Style { spaces: 0, brackets: 0, atoms: m };
+        let style = Style { spaces: 0, brackets: 0, windows: random.pick(&[0, 70, 90]), refused: 0, atoms: m };
         phrase(random, &style, 0, nodes, &mut text);
         table.clear();
         table.resize(nodes * NODE_BYTES, 0);
@@ -346,7 +453,7 @@ fn damage_table(random: &mut Random, m: usize, table: &mut Vec<u8>) {
     let nodes = table.len() / NODE_BYTES;
     let number = random.below(nodes);
     let record = number * NODE_BYTES;
-    match random.below(14) {
+    match random.below(20) {
         0 => table.clear(),
         1 => table.truncate(4),
         2 => {
@@ -363,7 +470,7 @@ fn damage_table(random: &mut Random, m: usize, table: &mut Vec<u8>) {
             shaped_table(random, m, nodes, table);
         }
         6 => table[record + random.below(2)] ^= 1 << random.below(8),
-        7 => table[record + 2] = random.pick(&[0, 1, 2, 3, 4, 5, 6, 7, 8, 9, 10, 64, 128, 255]),
+        7 => table[record + 2] = random.pick(&[0, 1, 2, 3, 4, 5, 6, 7, 8, 9, 10, 11, 64, 128, 255]),
         8 => table[record + 3] = number as u8,
         9 => table[record + 4] = number as u8,
         10 => table[record + 3] = random.pick(&[m, m - 1, 16, 127, 128, 255]) as u8,
@@ -372,7 +479,22 @@ fn damage_table(random: &mut Random, m: usize, table: &mut Vec<u8>) {
             let place = random.below(table.len());
             table[place] = random.next() as u8;
         }
-        _ => damage(random, table, &[0x4E, 0x44, 0, 1, 2, 3, 8]),
+        13 => table[record + 5] = random.pick(&[0, 1, 5, 62, 63, 64, 128, 255]),
+        14 => table[record + 6] = random.pick(&[0, 1, 5, 62, 63, 64, 65, 128, 255]),
+        15 => table.swap(record + 5, record + 6),
+        16..=17 => {
+            // A node with a window, as the node's own kind or a window's.
+            let kind = random.pick(&[table[record + 2], WITHIN, THROUGHOUT]);
+            let (a, b) = if random.percent(50) { window(random) } else { refused_window(random) };
+            table[record + 2] = kind;
+            table[record + 5..record + 7].copy_from_slice(&[a as u8, b as u8]);
+        }
+        18 => {
+            // Records without their windows: the layout of before.
+            let short: Vec<u8> = table.chunks_exact(NODE_BYTES).flat_map(|record| &record[..5]).copied().collect();
+            *table = short;
+        }
+        _ => damage(random, table, &[0x4E, 0x44, 0, 1, 2, 3, 8, 9, 10, 63, 64]),
     }
 }
 
@@ -396,21 +518,6 @@ pub fn table(random: &mut Random, m: usize, table: &mut Vec<u8>) {
 /// The bytes that the truth of a table takes, where it is good.
 pub fn truth_bytes(table: &[u8], t: usize) -> usize {
     table.len() / NODE_BYTES * t.min(reference::MAX_SLOTS)
-}
-
-/// The bytes that the rows of a table take, where it is good.
-pub fn row_bytes(table: &[u8], t: usize) -> usize {
-    let t = t.clamp(1, reference::MAX_SLOTS);
-    let rows: usize = table
-        .chunks_exact(NODE_BYTES)
-        .map(|record| match record[2] {
-            AND | OR | IMPLIES => 3 * t,
-            EVENTUALLY | ALWAYS => 3 * t - 2,
-            UNTIL => 4 * t - 3,
-            _ => t,
-        })
-        .sum();
-    (rows + 1) * reference::ROW_BYTES
 }
 
 // ------------------------------------------------------------------------------------ runs and figures
@@ -546,6 +653,12 @@ pub fn largest_text(nodes: usize, m: usize) -> Vec<u8> {
     untils(&mut 0, m, left.div_ceil(2), &mut text);
     pad(&mut Random::new(1), MAX_TEXT, 1, &mut text);
     text
+}
+
+/// A text of 128 nodes, all but the first with the widest window: the most rows that a table can have.
+pub fn largest_windows() -> Vec<u8> {
+    let prefixes = (1..MAX_NODES).map(|number| if number % 2 == 0 { "F[0,63]" } else { "G[0,63]" });
+    prefixes.chain(["a0"]).collect::<String>().into_bytes()
 }
 
 /// A run of `t` numbers over which the table's root holds, so that the judge goes through all its rows.

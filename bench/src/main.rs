@@ -1,5 +1,6 @@
 //! Compares the proved library with an independent implementation: `differential N SEED`, `speed`.
 
+mod clock;
 mod differential;
 mod inputs;
 mod random;

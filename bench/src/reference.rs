@@ -1,19 +1,24 @@
-//! The calls in plain Rust, straight from the scope paper: what the proved library is compared with,
-//! in its answers and in its speed. It shares no code with the library.
+//! The calls in plain Rust, straight from the papers: what the proved library is compared with, in its
+//! answers and in its speed. It shares no code with the library.
 //!
-//! Each call returns its result or the number of its refusal. The refusals are tested in the order of
-//! their numbers, so the lowest wins, and nothing is written before all of them are known.
+//! Each call returns its result or the number of its refusal. The refusals are tested in the papers' order
+//! (1 to 5, 12, 6 to 11), so the first wins, and nothing is written before all of them are known.
+
+use std::ops::Range;
 
 pub const MAX_SLOTS: usize = 64;
 pub const MAX_ATOMS: usize = 16;
 pub const MAX_TEXT: usize = 1024;
 pub const MAX_NODES: usize = 128;
-pub const NODE_BYTES: usize = 5;
-pub const ROW_BYTES: usize = 14;
+pub const MAX_AHEAD: usize = 63;
+pub const NODE_BYTES: usize = 7;
 pub const ONE: i64 = 1_000_000;
 
 const NODE_MARK: [u8; 2] = [0x4E, 0x44];
 const ROW_MARK: [u8; 2] = [0x52, 0x57];
+/// What stands before the terms of a row record.
+const HEAD_BYTES: usize = 5;
+const TERM_BYTES: usize = 3;
 const MAX_TOLERANCE: i32 = 1000;
 
 pub const ATOM: u8 = 1;
@@ -24,6 +29,8 @@ pub const IMPLIES: u8 = 5;
 pub const EVENTUALLY: u8 = 6;
 pub const ALWAYS: u8 = 7;
 pub const UNTIL: u8 = 8;
+pub const WITHIN: u8 = 9;
+pub const THROUGHOUT: u8 = 10;
 
 #[derive(Clone, Copy, Debug, PartialEq, Eq)]
 pub enum Verdict {
@@ -62,6 +69,7 @@ fn read_with<const LEVELS: bool>(text: &[u8], m: usize, out: &mut [u8]) -> Resul
         at: 0,
         atoms: m,
         atom_too_large: false,
+        window_refused: false,
         count: 0,
         records: [0; MAX_NODES * NODE_BYTES],
     };
@@ -69,12 +77,15 @@ fn read_with<const LEVELS: bool>(text: &[u8], m: usize, out: &mut [u8]) -> Resul
     parser.rule().ok_or(4u32)?;
     require(parser.at == text.len(), 4)?;
     require(!parser.atom_too_large, 5)?;
+    require(!parser.window_refused, 12)?;
     require(parser.count <= MAX_NODES, 6)?;
     let written = parser.count * NODE_BYTES;
     require(out.len() >= written, 11)?;
     out[..written].copy_from_slice(&parser.records[..written]);
     Ok(parser.count)
 }
+
+const NO_WINDOW: (usize, usize) = (0, 0);
 
 /// How tightly an operator binds: > | & U, loosest first.
 type Binding = u8;
@@ -97,6 +108,7 @@ struct Parser<'a, const LEVELS: bool> {
     at: usize,
     atoms: usize,
     atom_too_large: bool,
+    window_refused: bool,
     count: usize,
     records: [u8; MAX_NODES * NODE_BYTES],
 }
@@ -135,7 +147,7 @@ impl<const LEVELS: bool> Parser<'_, LEVELS> {
             }
             self.step();
             let right = self.climb(binding)?;
-            left = self.node(kind, left, right);
+            left = self.node(kind, left, right, NO_WINDOW);
         }
         Some(left)
     }
@@ -147,7 +159,7 @@ impl<const LEVELS: bool> Parser<'_, LEVELS> {
         }
         self.step();
         let right = self.implies()?;
-        Some(self.node(IMPLIES, left, right))
+        Some(self.node(IMPLIES, left, right, NO_WINDOW))
     }
 
     fn or(&mut self) -> Option<usize> {
@@ -157,7 +169,7 @@ impl<const LEVELS: bool> Parser<'_, LEVELS> {
         }
         self.step();
         let right = self.or()?;
-        Some(self.node(OR, left, right))
+        Some(self.node(OR, left, right, NO_WINDOW))
     }
 
     fn and(&mut self) -> Option<usize> {
@@ -167,7 +179,7 @@ impl<const LEVELS: bool> Parser<'_, LEVELS> {
         }
         self.step();
         let right = self.and()?;
-        Some(self.node(AND, left, right))
+        Some(self.node(AND, left, right, NO_WINDOW))
     }
 
     fn until(&mut self) -> Option<usize> {
@@ -177,55 +189,88 @@ impl<const LEVELS: bool> Parser<'_, LEVELS> {
         }
         self.step();
         let right = self.until()?;
-        Some(self.node(UNTIL, left, right))
+        Some(self.node(UNTIL, left, right, NO_WINDOW))
     }
 
     fn single(&mut self) -> Option<usize> {
-        let kind = match self.peek()? {
-            b'!' => NOT,
-            b'F' => EVENTUALLY,
-            b'G' => ALWAYS,
-            b'a' => return self.atom(),
+        match self.peek()? {
+            b'!' => self.prefixed(NOT),
+            b'F' => self.timed(EVENTUALLY, WITHIN),
+            b'G' => self.timed(ALWAYS, THROUGHOUT),
+            b'a' => self.atom(),
             b'(' => {
                 self.step();
                 let inner = self.rule()?;
-                if self.peek() != Some(b')') {
-                    return None;
-                }
-                self.step();
-                return Some(inner);
+                self.sign(b')')?;
+                Some(inner)
             }
-            _ => return None,
-        };
-        self.step();
-        let child = self.single()?;
-        Some(self.node(kind, child, 0))
+            _ => None,
+        }
     }
 
-    /// The letter a and all digits that follow, at least one, without a leading zero.
+    /// One byte that must stand here, and the spaces behind it.
+    fn sign(&mut self, byte: u8) -> Option<()> {
+        if self.peek() != Some(byte) {
+            return None;
+        }
+        self.step();
+        Some(())
+    }
+
+    fn prefixed(&mut self, kind: u8) -> Option<usize> {
+        self.step();
+        let child = self.single()?;
+        Some(self.node(kind, child, 0, NO_WINDOW))
+    }
+
+    /// A letter that may have a window behind it, and is then of another kind.
+    fn timed(&mut self, open: u8, windowed: u8) -> Option<usize> {
+        self.step();
+        let (kind, window) = if self.peek() == Some(b'[') { (windowed, self.window()?) } else { (open, NO_WINDOW) };
+        let child = self.single()?;
+        Some(self.node(kind, child, 0, window))
+    }
+
+    fn window(&mut self) -> Option<(usize, usize)> {
+        self.step();
+        let a = self.number()?;
+        self.sign(b',')?;
+        let b = self.number()?;
+        self.sign(b']')?;
+        self.window_refused |= a > b || b > MAX_AHEAD;
+        Some((a, b))
+    }
+
     fn atom(&mut self) -> Option<usize> {
         self.at += 1;
+        let number = self.number()?;
+        self.atom_too_large |= number >= self.atoms;
+        Some(self.node(ATOM, number, 0, NO_WINDOW))
+    }
+
+    /// All digits that stand here, at least one, without a leading zero, and the spaces behind them.
+    fn number(&mut self) -> Option<usize> {
         let start = self.at;
         let mut number = 0;
         while let Some(digit @ b'0'..=b'9') = self.peek() {
-            // Kept small: beyond the largest atom only "too large" matters.
-            number = MAX_ATOMS.min(number * 10 + usize::from(digit - b'0'));
+            // Kept small: beyond the largest atom and the furthest slot only "too large" matters.
+            number = (MAX_AHEAD + 1).min(number * 10 + usize::from(digit - b'0'));
             self.at += 1;
         }
         let digits = &self.text[start..self.at];
         if digits.is_empty() || (digits[0] == b'0' && digits.len() > 1) {
             return None;
         }
-        self.atom_too_large |= number >= self.atoms;
         self.skip_spaces();
-        Some(self.node(ATOM, number, 0))
+        Some(number)
     }
 
-    fn node(&mut self, kind: u8, left: usize, right: usize) -> usize {
+    fn node(&mut self, kind: u8, left: usize, right: usize, (a, b): (usize, usize)) -> usize {
         let number = self.count;
         if let Some(record) = self.records.chunks_exact_mut(NODE_BYTES).nth(number) {
             // Within the table all numbers are below 128.
-            record.copy_from_slice(&[NODE_MARK[0], NODE_MARK[1], kind, left as u8, right as u8]);
+            let [mark, second] = NODE_MARK;
+            record.copy_from_slice(&[mark, second, kind, left as u8, right as u8, a as u8, b as u8]);
         }
         self.count += 1;
         number
@@ -244,6 +289,20 @@ struct Node {
     kind: u8,
     left: usize,
     right: usize,
+    a: usize,
+    b: usize,
+}
+
+impl Node {
+    /// The different slots that the node's window looks at from `slot`, of `t` slots that count from 0.
+    fn looks_at(&self, slot: usize, t: usize) -> Range<usize> {
+        (slot + self.a).min(t - 1)..(slot + self.b).min(t - 1) + 1
+    }
+
+    /// How many they are from all slots together.
+    fn looks(&self, t: usize) -> usize {
+        (0..t).map(|slot| self.looks_at(slot, t).len()).sum()
+    }
 }
 
 impl<'a> Table<'a> {
@@ -254,10 +313,11 @@ impl<'a> Table<'a> {
         }
         let table = Table { records: bytes };
         let marked = bytes.chunks_exact(NODE_BYTES).all(|record| record[..2] == NODE_MARK);
-        let fitting = table.nodes().enumerate().all(|(number, Node { kind, left, right })| match kind {
-            ATOM => left < m && right == 0,
-            NOT | EVENTUALLY | ALWAYS => left < number && right == 0,
-            AND | OR | IMPLIES | UNTIL => left < number && right < number,
+        let fitting = table.nodes().enumerate().all(|(number, Node { kind, left, right, a, b })| match kind {
+            ATOM => left < m && right == 0 && (a, b) == NO_WINDOW,
+            NOT | EVENTUALLY | ALWAYS => left < number && right == 0 && (a, b) == NO_WINDOW,
+            AND | OR | IMPLIES | UNTIL => left < number && right < number && (a, b) == NO_WINDOW,
+            WITHIN | THROUGHOUT => left < number && right == 0 && a <= b && b <= MAX_AHEAD,
             _ => false,
         });
         (marked && fitting).then_some(table)
@@ -272,6 +332,8 @@ impl<'a> Table<'a> {
             kind: record[2],
             left: usize::from(record[3]),
             right: usize::from(record[4]),
+            a: usize::from(record[5]),
+            b: usize::from(record[6]),
         })
     }
 }
@@ -310,7 +372,9 @@ pub fn evaluate(table: &[u8], t: usize, m: usize, run: &[u16], out: &mut [u8]) -
             // From slot T on nothing changes, so each is known there and goes back slot by slot.
             EVENTUALLY => backwards(truth, p, q, 0, |p, _, later| p | later),
             ALWAYS => backwards(truth, p, q, 1, |p, _, later| p & later),
-            _ => backwards(truth, p, q, 0, |p, q, later| q | p & later),
+            UNTIL => backwards(truth, p, q, 0, |p, q, later| q | p & later),
+            WITHIN => over_window(truth, p, &node, 1),
+            _ => over_window(truth, p, &node, 0),
         }
     }
     Ok(usize::from(out[written - t]))
@@ -329,6 +393,19 @@ fn backwards(truth: &mut [u8], p: &[u8], q: &[u8], mut later: u8, operator: impl
     }
 }
 
+/// `sought` at the slots whose window has it, and the opposite elsewhere: F seeks a 1, and G a 0.
+fn over_window(truth: &mut [u8], p: &[u8], node: &Node, sought: u8) {
+    let last = p.len() - 1;
+    // Back from slot T, the window's first slot passes all slots from T on: the lowest that has it is the next.
+    let mut next = usize::MAX;
+    for (slot, place) in truth.iter_mut().enumerate().rev() {
+        let first = (slot + node.a).min(last);
+        next = if p[first] == sought { first } else { next };
+        let found = next <= (slot + node.b).min(last);
+        *place = u8::from(found) ^ sought ^ 1;
+    }
+}
+
 // ----------------------------------------------------------------------------------------------- rows
 
 #[derive(Clone, Copy)]
@@ -340,6 +417,13 @@ enum Relation {
 /// Takes the rows in order, until it answers false.
 trait Rows {
     fn row<const N: usize>(&mut self, relation: Relation, right: i8, terms: [(i8, usize); N]) -> bool;
+
+    /// The rows of F[a,b] at a slot, where `parts` are the part's variables at the window's slots: P − p(s) ≥ 0 for
+    /// each, then the sum of all p(s), less P, ≥ 0.
+    fn within(&mut self, big: usize, parts: Range<usize>) -> bool;
+
+    /// Those of G[a,b]: p(s) − P ≥ 0 for each, then P less all p(s) ≥ −(k − 1).
+    fn throughout(&mut self, big: usize, parts: Range<usize>) -> bool;
 }
 
 /// Hands all rows of a good table to `rows`, or those up to the first at which it answers false.
@@ -350,6 +434,12 @@ fn all_rows(table: &Table, t: usize, m: usize, rows: &mut impl Rows) -> bool {
         let own = (m + number) * t;
         let left = if node.kind == ATOM { node.left * t } else { (m + node.left) * t };
         let right = (m + node.right) * t;
+        if node.kind >= WITHIN {
+            if !window_rows(&node, own, left, t, rows) {
+                return false;
+            }
+            continue;
+        }
         for slot in 0..t {
             // The paper's P, p, q and P'.
             let (big, p, q) = (own + slot, left + slot, right + slot);
@@ -401,49 +491,151 @@ fn all_rows(table: &Table, t: usize, m: usize, rows: &mut impl Rows) -> bool {
     rows.row(Equal, 1, [(1, root * t)])
 }
 
-fn row_count(table: &Table, t: usize) -> usize {
-    let of_nodes: usize = table
-        .nodes()
-        .map(|node| match node.kind {
-            ATOM | NOT => t,
-            AND | OR | IMPLIES => 3 * t,
-            EVENTUALLY | ALWAYS => 3 * (t - 1) + 1,
-            _ => 4 * (t - 1) + 1,
-        })
-        .sum();
-    of_nodes + 1
+/// Those of a node with a window; `own` and `left` are the variables of the node and of its part at the first slot.
+fn window_rows(node: &Node, own: usize, left: usize, t: usize, rows: &mut impl Rows) -> bool {
+    (0..t).all(|slot| {
+        let slots = node.looks_at(slot, t);
+        let (big, parts) = (own + slot, left + slots.start..left + slots.end);
+        if node.kind == WITHIN {
+            rows.within(big, parts)
+        } else {
+            rows.throughout(big, parts)
+        }
+    })
+}
+
+/// The rows of a node at all slots, and the terms of all of them together.
+fn node_counts(node: Node, t: usize) -> (usize, usize) {
+    match node.kind {
+        ATOM | NOT => (t, 2 * t),
+        AND | OR | IMPLIES => (3 * t, 7 * t),
+        EVENTUALLY | ALWAYS => (3 * (t - 1) + 1, 7 * (t - 1) + 2),
+        UNTIL => (4 * (t - 1) + 1, 11 * (t - 1) + 2),
+        _ => {
+            let looks = node.looks(t);
+            (looks + t, 3 * looks + t)
+        }
+    }
+}
+
+/// The rows of a table, and the terms of all of them together.
+fn row_and_term_count(table: &Table, t: usize) -> (usize, usize) {
+    let counts = table.nodes().map(|node| node_counts(node, t));
+    counts.fold((1, 1), |sum, node| (sum.0 + node.0, sum.1 + node.1))
+}
+
+/// The kind of the node whose rows have this one, where the table is good; none for the goal row.
+pub fn kind_of_row(table: &[u8], t: usize, m: usize, row: usize) -> Option<u8> {
+    let mut end = 0;
+    let mut nodes = checked_table(table, t, m).ok()?.nodes();
+    let node = nodes.find(|&node| {
+        end += node_counts(node, t).0;
+        row < end
+    })?;
+    Some(node.kind)
+}
+
+/// The bytes that the rows of a table take.
+pub fn row_bytes(table: &[u8], t: usize, m: usize) -> Result<usize, u32> {
+    let (rows, terms) = row_and_term_count(&checked_table(table, t, m)?, t);
+    Ok(HEAD_BYTES * rows + TERM_BYTES * terms)
 }
 
 /// Writes the rows of a table to `out` as records; the result is their number.
 pub fn rows(table: &[u8], t: usize, m: usize, out: &mut [u8]) -> Result<usize, u32> {
     let table = checked_table(table, t, m)?;
-    let count = row_count(&table, t);
-    require(out.len() >= count * ROW_BYTES, 11)?;
-    all_rows(&table, t, m, &mut Writer { records: out.chunks_exact_mut(ROW_BYTES) });
-    Ok(count)
+    let (rows, terms) = row_and_term_count(&table, t);
+    require(out.len() >= HEAD_BYTES * rows + TERM_BYTES * terms, 11)?;
+    all_rows(&table, t, m, &mut Writer { rest: out });
+    Ok(rows)
 }
 
+/// What is still to be written of the output.
 struct Writer<'a> {
-    records: std::slice::ChunksExactMut<'a, u8>,
+    rest: &'a mut [u8],
+}
+
+impl<'a> Writer<'a> {
+    #[inline(always)]
+    fn take(&mut self, bytes: usize) -> &'a mut [u8] {
+        let (taken, rest) = std::mem::take(&mut self.rest).split_at_mut(bytes);
+        self.rest = rest;
+        taken
+    }
+
+    /// The rows with one part each.
+    #[inline(always)]
+    fn each_part(&mut self, parts: Range<usize>, terms: impl Fn(usize) -> [(i8, usize); 2]) {
+        const LENGTH: usize = record_bytes(2);
+        for (place, part) in self.take(LENGTH * parts.len()).chunks_exact_mut(LENGTH).zip(parts) {
+            place.copy_from_slice(&record(Relation::AtLeast, 0, terms(part))[..LENGTH]);
+        }
+    }
+
+    fn head(&mut self, terms: usize, right: i8) {
+        // At most 64 parts and their node.
+        let [mark, second] = ROW_MARK;
+        self.take(HEAD_BYTES).copy_from_slice(&[mark, second, Relation::AtLeast as u8, terms as u8, right as u8]);
+    }
+
+    fn terms(&mut self, coefficient: i8, variables: Range<usize>) {
+        let places = self.take(TERM_BYTES * variables.len()).chunks_exact_mut(TERM_BYTES);
+        places.zip(variables).for_each(|(place, variable)| place.copy_from_slice(&term(coefficient, variable)));
+    }
+}
+
+const fn record_bytes(terms: usize) -> usize {
+    HEAD_BYTES + TERM_BYTES * terms
+}
+
+fn term(coefficient: i8, variable: usize) -> [u8; TERM_BYTES] {
+    // At most (16 + 128)·64 variables.
+    let [low, high] = (variable as u16).to_le_bytes();
+    [coefficient as u8, low, high]
+}
+
+/// A record of at most three terms; what follows them does not count.
+#[inline(always)]
+fn record<const N: usize>(relation: Relation, right: i8, terms: [(i8, usize); N]) -> [u8; record_bytes(3)] {
+    let mut record = [0; record_bytes(3)];
+    record[..2].copy_from_slice(&ROW_MARK);
+    record[2] = relation as u8;
+    record[3] = N as u8;
+    record[4] = right as u8;
+    for (place, (coefficient, variable)) in record[HEAD_BYTES..].chunks_exact_mut(TERM_BYTES).zip(terms) {
+        place.copy_from_slice(&term(coefficient, variable));
+    }
+    record
 }
 
 impl Rows for Writer<'_> {
     #[inline(always)]
     fn row<const N: usize>(&mut self, relation: Relation, right: i8, terms: [(i8, usize); N]) -> bool {
-        let Some(place) = self.records.next() else { return false };
-        let mut record = [0; ROW_BYTES];
-        record[..2].copy_from_slice(&ROW_MARK);
-        record[2] = relation as u8;
-        record[3] = N as u8;
-        record[4] = right as u8;
-        for (place, (coefficient, variable)) in record[5..].chunks_exact_mut(3).zip(terms) {
-            // At most (16 + 128)·64 variables.
-            let [low, high] = (variable as u16).to_le_bytes();
-            place.copy_from_slice(&[coefficient as u8, low, high]);
-        }
-        place.copy_from_slice(&record);
+        let length = record_bytes(N);
+        self.take(length).copy_from_slice(&record(relation, right, terms)[..length]);
         true
     }
+
+    fn within(&mut self, big: usize, parts: Range<usize>) -> bool {
+        self.each_part(parts.clone(), |part| [(1, big), (-1, part)]);
+        self.head(parts.len() + 1, 0);
+        self.terms(1, parts);
+        self.terms(-1, big..big + 1);
+        true
+    }
+
+    fn throughout(&mut self, big: usize, parts: Range<usize>) -> bool {
+        self.each_part(parts.clone(), |part| [(1, part), (-1, big)]);
+        self.head(parts.len() + 1, all_but_one(&parts));
+        self.terms(1, big..big + 1);
+        self.terms(-1, parts);
+        true
+    }
+}
+
+/// The right side −(k − 1) of a window's k slots, of which there are at most 64.
+fn all_but_one(parts: &Range<usize>) -> i8 {
+    1 - parts.len() as i8
 }
 
 // ----------------------------------------------------------------------------------------------- page
@@ -459,15 +651,17 @@ pub fn mps_page(table: &[u8], t: usize, m: usize, out: &mut [u8]) -> Result<usiz
 /// The page by itself. Fields 2 and 3 are ten columns wide: a name of at most eight characters and two spaces.
 pub fn whole_page(table: &[u8], t: usize, m: usize) -> Result<Vec<u8>, u32> {
     let table = checked_table(table, t, m)?;
-    let mut gathered = Gathered { heads: Vec::with_capacity(row_count(&table, t)), entries: Vec::new() };
+    let (rows, terms) = row_and_term_count(&table, t);
+    let mut gathered = Gathered { heads: Vec::with_capacity(rows), entries: Vec::with_capacity(terms) };
     all_rows(&table, t, m, &mut gathered);
     let Gathered { heads, entries } = gathered;
     let (atoms, variables) = (m * t, (m + table.len()) * t);
     let columns = Columns::of(&entries, variables);
     let row_names: Vec<Name> = (0..heads.len()).map(|row| Name::new(b'R', row)).collect();
     let variable_names: Vec<Name> = (0..variables).map(|variable| Name::new(b'X', variable)).collect();
-    let lines = entries.len() + 2 * heads.len() + 2 * variables + 7;
-    let mut page = Page(Vec::with_capacity(lines * LONGEST_LINE));
+    let rights = heads.iter().filter(|&&(_, right)| right != 0).count();
+    let lines = entries.len() + rights + 2 * variables + 7;
+    let mut page = Page(Vec::with_capacity(lines * LONGEST_LINE + heads.len() * LONGEST_ROW_LINE));
     page.words(b"NAME\nROWS\n N  COST\n");
     for (&(relation, _), row) in heads.iter().zip(&row_names) {
         page.words(if let Relation::Equal = relation { b" E  " } else { b" G  " });
@@ -537,6 +731,30 @@ impl Rows for Gathered {
         }
         true
     }
+
+    // A window's variables are all different.
+    fn within(&mut self, big: usize, parts: Range<usize>) -> bool {
+        parts.clone().for_each(|part| self.plain_row(0, [(1, big), (-1, part)]));
+        self.plain_row(0, parts.map(|part| (1, part)).chain([(-1, big)]));
+        true
+    }
+
+    fn throughout(&mut self, big: usize, parts: Range<usize>) -> bool {
+        parts.clone().for_each(|part| self.plain_row(0, [(1, part), (-1, big)]));
+        let right = all_but_one(&parts);
+        self.plain_row(right, [(1, big)].into_iter().chain(parts.map(|part| (-1, part))));
+        true
+    }
+}
+
+impl Gathered {
+    /// A ≥ row whose variables are all different.
+    fn plain_row(&mut self, right: i8, terms: impl IntoIterator<Item = (i8, usize)>) {
+        let row = self.heads.len() as u32;
+        self.heads.push((Relation::AtLeast, right));
+        let entry = |(coefficient, variable)| Entry { variable: variable as u32, row, coefficient };
+        self.entries.extend(terms.into_iter().map(entry));
+    }
 }
 
 /// The entries by variable and then by row, and where those of each variable begin.
@@ -583,8 +801,10 @@ impl Name {
     }
 }
 
-/// Four spaces, two names, a number of at most two characters, a line feed.
-const LONGEST_LINE: usize = 27;
+/// Four spaces, two names, a number of at most three characters, a line feed.
+const LONGEST_LINE: usize = 28;
+/// A line of ROWS: its type, a name, a line feed.
+const LONGEST_ROW_LINE: usize = 13;
 
 struct Page(Vec<u8>);
 
@@ -604,12 +824,16 @@ impl Page {
         self.0.push(b'\n');
     }
 
-    /// A number of one digit, which ends its line.
+    /// A number of at most two digits, which ends its line.
     fn number(&mut self, number: i8) {
         if number < 0 {
             self.0.push(b'-');
         }
-        self.0.extend_from_slice(&[b'0' + number.unsigned_abs(), b'\n']);
+        let size = number.unsigned_abs();
+        if size > 9 {
+            self.0.push(b'0' + size / 10);
+        }
+        self.0.extend_from_slice(&[b'0' + size % 10, b'\n']);
     }
 }
 
@@ -645,6 +869,17 @@ struct Checker<'a> {
     shortfall: i64,
 }
 
+impl Checker<'_> {
+    /// Takes a row that is so far off.
+    #[inline(always)]
+    fn takes(&mut self, shortfall: i64) -> bool {
+        self.shortfall = shortfall;
+        let holds = shortfall <= self.e;
+        self.count += usize::from(holds);
+        holds
+    }
+}
+
 impl Rows for Checker<'_> {
     #[inline(always)]
     fn row<const N: usize>(&mut self, relation: Relation, right: i8, terms: [(i8, usize); N]) -> bool {
@@ -653,12 +888,24 @@ impl Rows for Checker<'_> {
             .map(|&(coefficient, variable)| i64::from(coefficient) * i64::from(self.figures[variable]))
             .sum();
         let difference = i64::from(right) * ONE - sum;
-        self.shortfall = match relation {
+        self.takes(match relation {
             Relation::AtLeast => difference,
             Relation::Equal => difference.abs(),
-        };
-        let holds = self.shortfall <= self.e;
-        self.count += usize::from(holds);
-        holds
+        })
     }
+
+    fn within(&mut self, big: usize, parts: Range<usize>) -> bool {
+        let (whole, parts) = (i64::from(self.figures[big]), &self.figures[parts]);
+        parts.iter().all(|&part| self.takes(i64::from(part) - whole)) && self.takes(whole - sum_of(parts))
+    }
+
+    fn throughout(&mut self, big: usize, parts: Range<usize>) -> bool {
+        let right = i64::from(all_but_one(&parts)) * ONE;
+        let (whole, parts) = (i64::from(self.figures[big]), &self.figures[parts]);
+        parts.iter().all(|&part| self.takes(whole - i64::from(part))) && self.takes(right - whole + sum_of(parts))
+    }
+}
+
+fn sum_of(figures: &[i32]) -> i64 {
+    figures.iter().map(|&figure| i64::from(figure)).sum()
 }

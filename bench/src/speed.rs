@@ -1,8 +1,9 @@
-//! The proved library beside the reference in one run: small, medium and largest inputs of each call.
+//! The proved library beside the reference in one run: small, medium and largest inputs of each call, without
+//! windows and with them.
 
 use std::hint::black_box;
-use std::time::Instant;
 
+use crate::clock::processor_time;
 use crate::inputs;
 use crate::reference;
 use crate::sepia;
@@ -11,7 +12,7 @@ const ROUNDS: usize = 7;
 /// Timings of each side in a round, taken in turn.
 const REPETITIONS: usize = 41;
 /// What one timing takes at least, in nanoseconds.
-const TIMING: u128 = 100_000;
+const TIMING: u64 = 100_000;
 
 struct Input {
     name: String,
@@ -20,12 +21,20 @@ struct Input {
     m: usize,
 }
 
-fn inputs_of_three_sizes() -> [Input; 3] {
-    let medium = b"G(a0&!a1>F(a2|a3))&(a4Ua5)Ua2>F(a3&a5)".to_vec();
+fn input(name: &str, text: &[u8], t: usize, m: usize) -> Input {
+    Input { name: name.into(), text: text.to_vec(), t, m }
+}
+
+fn all_inputs() -> [Input; 6] {
+    let medium = b"G(a0&!a1>F(a2|a3))&(a4Ua5)Ua2>F(a3&a5)";
+    let mixed = b"G(a0&!a1>F[0,5](a2|a3))&G[1,12](a4>F[2,9]a5)&a4Ua2>F[3,20](a3|F[0,63]G[0,4]!a1)";
     [
-        Input { name: "small".into(), text: b"a0Ua1".to_vec(), t: 8, m: 2 },
-        Input { name: "medium".into(), text: medium, t: 32, m: 6 },
-        Input { name: "largest".into(), text: inputs::largest_text(128, 16), t: 64, m: 16 },
+        input("small", b"a0Ua1", 8, 2),
+        input("medium", medium, 32, 6),
+        input("largest", &inputs::largest_text(128, 16), 64, 16),
+        input("small with a window", b"G(a0>F[0,5]a1)", 8, 2),
+        input("medium with windows", mixed, 32, 6),
+        input("largest with windows", &inputs::largest_windows(), 64, 16),
     ]
 }
 
@@ -40,11 +49,11 @@ fn median(mut values: Vec<f64>) -> f64 {
 }
 
 fn time(calls: u32, side: &mut dyn FnMut()) -> f64 {
-    let start = Instant::now();
+    let start = processor_time();
     for _ in 0..calls {
         side();
     }
-    start.elapsed().as_nanos() as f64 / f64::from(calls)
+    (processor_time() - start) as f64 / f64::from(calls)
 }
 
 /// The median nanoseconds of each side in each round. The sides take turns, and so does who goes first.
@@ -54,9 +63,9 @@ fn measure<const SIDES: usize>(mut sides: [&mut dyn FnMut(); SIDES]) -> Vec<[f64
         .map(|side| {
             let mut calls = 1;
             loop {
-                let start = Instant::now();
+                let start = processor_time();
                 (0..calls).for_each(|_| side());
-                if start.elapsed().as_nanos() >= TIMING {
+                if processor_time() - start >= TIMING {
                     break calls;
                 }
                 calls *= 2;
@@ -103,14 +112,16 @@ fn print_pair(call: &str, input: &str, rounds: &[[f64; 2]]) {
 }
 
 pub fn run() {
-    println!("Nanoseconds a call: medians of {ROUNDS} rounds of {REPETITIONS} timings, the sides in turn.");
+    println!(
+        "Nanoseconds of processor time a call: medians of {ROUNDS} rounds of {REPETITIONS} timings, the sides in turn."
+    );
     println!("The ratio is Rattle over Rust in one round: its median, least and largest over the rounds.");
     println!();
     println!("| call | input | Rust | Rattle | ratio | rounds |");
     println!("|---|---|---:|---:|---:|---|");
     let mut levels = Vec::new();
     let mut copies = Vec::new();
-    for Input { name, text, t, m } in inputs_of_three_sizes() {
+    for Input { name, text, t, m } in all_inputs() {
         let mut table = vec![0; reference::MAX_NODES * reference::NODE_BYTES];
         let nodes = reference::read(&text, m, &mut table).expect("a rule");
         table.truncate(nodes * reference::NODE_BYTES);
@@ -136,7 +147,7 @@ pub fn run() {
         assert_eq!(one, two);
         print_pair("evaluate", &label, &rounds);
 
-        let bytes = inputs::row_bytes(&table, t);
+        let bytes = reference::row_bytes(&table, t, m).expect("rows");
         let (mut one, mut two, mut three) = (vec![0; bytes], vec![0; bytes], vec![0; bytes]);
         let count = reference::rows(&table, t, m, &mut one).expect("rows");
         let source = one.clone();

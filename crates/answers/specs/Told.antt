@@ -2,11 +2,11 @@
 use Prim.Native.Nat.{ℕ}
 use Rattle.rules.specs.Demands
 use Rattle.answers.specs.declared.Refusal.{Refusal}
-use Rattle.answers.specs.declared.Refusal.the-variants.{Slots, Atoms, LongText, Grammar, AtomNumber, Nodes, Table, Run, Figures, Tolerance, Room}
+use Rattle.answers.specs.declared.Refusal.the-variants.{Slots, Atoms, LongText, Grammar, AtomNumber, Nodes, Table, Run, Figures, Tolerance, Room, Window}
 use Rattle.answers.specs.declared.Answer.{Answer}
 use Rattle.answers.specs.declared.Answer.the-variants.{Value, Refused}
 
--- "Refusals by number"
+-- "Refusals by number", and of request N4: "12 when a is above b or b above 63 in a text"
 abbrev pub numberOf : Refusal → ℕ
 numberOf Slots = 1
 numberOf Atoms = 2
@@ -19,6 +19,7 @@ numberOf Run = 8
 numberOf Figures = 9
 numberOf Tolerance = 10
 numberOf Room = 11
+numberOf Window = 12
 
 abbrev pub told : Answer → Demands.Answer ℕ
 told (Value n) = Demands.Answer.answered n

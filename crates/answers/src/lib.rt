@@ -2,7 +2,7 @@
 ghost use mathlib.Core.Path.{_≡_};
 ghost use Rattle.answers.specs.Told.{numberOf};
 
-// The refusals of document 01, in the order of their numbers, 1 to 11.
+// The refusals of documents 01 and 02, in the order of their numbers, 1 to 12.
 pub enum Refusal {
     Slots,
     Atoms,
@@ -15,6 +15,7 @@ pub enum Refusal {
     Figures,
     Tolerance,
     Room,
+    Window,
 }
 
 // A result, or the refusal.
@@ -23,7 +24,7 @@ pub enum Answer {
     Refused(Refusal),
 }
 
-// Document 01's number of a refusal.
+// The number of a refusal.
 pub fn number(r: Refusal) -> u32
     ensures { λ n. ⌜ n ≡ numberOf r ⌝ }
 {
@@ -39,5 +40,6 @@ pub fn number(r: Refusal) -> u32
         Refusal::Figures => 9,
         Refusal::Tolerance => 10,
         Refusal::Room => 11,
+        Refusal::Window => 12,
     }
 }

@@ -12,7 +12,7 @@ use Rattle.rules.specs.Rows.{Row, slackRows, goalRow, rowsOf}
 use Rattle.mps.specs.Page.{entryLine, costLine, columnLines}
 use Rattle.mps.specs.Reading.{gather}
 use Rattle.lines.specs.Sent.{Sent, sent-also, sent-as}
-use Rattle.columns.specs.Users.{users, aroundText, variableText}
+use Rattle.columns.specs.Users.{users, userText, variableText}
 use Rattle.columns.specs.Picked.{gather-listed}
 use Rattle.columns.specs.Around.{column-text}
 use Rattle.columns.specs.Found.{Found}
@@ -20,16 +20,16 @@ use Rattle.columns.specs.Found.{Found}
 module _ (T M : ℕ) (ns : List Node) (x s v : ℕ) (is : v ≡ x * T + s) (low : s < T) where
   -- in the rows of all users, and in the goal row
   pub users-sent : {at next last count rows : ℕ} {list l m n : List ℕ} {goal : Row} → Found M ns x list count →
-      Sent at (flat (λ j. aroundText T M ns v s (getD list j 0)) count) l m next →
+      Sent at (flat (λ j. userText T M ns v (getD list j 0)) count) l m next →
       rows ≡ length (slackRows T M ns) → goal ≡ goalRow T M ns → Sent next (entryLine v rows goal) m n last → Sent at (variableText T M ns x s) l n last
   unfolding variableText
   users-sent {count = count} {rows} {list} {goal = goal} f p e g q =
-      let around : ℕ → List ℕ = aroundText T M ns v s in
+      let around : ℕ → List ℕ = userText T M ns v in
       let listed : flat (λ j. around (getD list j 0)) count ≡ gather around (users M ns x) =
       flat-same (λ j. around (getD list j 0)) (λ j. around (getD (users M ns x) j 0)) count (λ j h. ap around (f .are j h))
       ∙ ap (flat (λ j. around (getD (users M ns x) j 0))) (f .counted) ∙ sym (gather-listed around (users M ns x)) in
       let goals : entryLine v rows goal ≡ entryLine v (length (slackRows T M ns)) (goalRow T M ns) = ap₂ (entryLine v) e g in
-      sent-as (ap₂ _++_ listed goals ∙ ap (λ (w : ℕ). gather (aroundText T M ns w s) (users M ns x) ++ entryLine w (length (slackRows T M ns)) (goalRow T M ns)) is) (sent-also p q)
+      sent-as (ap₂ _++_ listed goals ∙ ap (λ (w : ℕ). gather (userText T M ns w) (users M ns x) ++ entryLine w (length (slackRows T M ns)) (goalRow T M ns)) is) (sent-also p q)
 
   abbrev column : List ℕ
   column = columnLines (rowsOf T M ns) (x * T + s)

@@ -2,6 +2,7 @@
 use lines::Name;
 use nodelines::Placed;
 use rowlines::Text;
+use table::Kind;
 ghost use mathlib.Core.Path.{_≡_};
 ghost use Prim.Native.Nat.{ℕ, _+_, _*_, _≤_, _<_};
 ghost use lib.ListN.{length, getD};
@@ -10,13 +11,32 @@ ghost use Rattle.rules.specs.Rows.{slackRows, rowsOf};
 ghost use Rattle.rules.specs.TableTest.{recordCount, nodesIn};
 ghost use Rattle.mps.specs.Page.{columnLines};
 ghost use Rattle.table.specs.Checks.{Ready};
-ghost use Rattle.row.specs.NodeRows.{rowsTo};
+ghost use Rattle.row.specs.Apart.{Apart};
 ghost use Rattle.lines.specs.Sent.{Sent};
-ghost use Rattle.columns.specs.Users.{aroundText};
+ghost use Rattle.rowlines.specs.Laws.{Plain};
+ghost use Rattle.columns.specs.Users.{userText};
 ghost use Rattle.columns.specs.Found.{Starts, Found};
-ghost use Rattle.columnlines.specs.Walk.{kindText, kindAround, Low};
+ghost use Rattle.columnlines.specs.Walk.{plainKind, kindText, kindAround, AtSlot, Low};
 
-// The lines of variable v in the rows of a node at slot s + 1. `start` is the node's first row.
+// Whether a kind has no window.
+fn is_plain(kind: Kind) -> bool
+    ensures { λ r. ⌜ r ≡ plainKind kind ⌝ }
+{
+    match kind {
+        Kind::Atom => true,
+        Kind::Not => true,
+        Kind::And => true,
+        Kind::Or => true,
+        Kind::Implies => true,
+        Kind::Eventually => true,
+        Kind::Always => true,
+        Kind::Until => true,
+        Kind::Within => false,
+        Kind::Throughout => false,
+    }
+}
+
+// The lines of variable v in the rows of a node without a window at slot s + 1. `start` is the node's first row.
 fn put_at(
     out: &mut [u8],
     at: usize,
@@ -26,26 +46,18 @@ fn put_at(
     s: usize,
     t: usize,
 ) -> usize
-    requires { ⌜ (at ≤ 4294960000) × (v < 100000) × (start ≤ 50000) × (s < t) × (t ≤ 64) × (node .big ≤ 25600) × (node .p ≤ 25600) × (node .q ≤ 25600) ⌝ }
+    requires { ⌜ (at ≤ 1099511600000) × (v < 1000000) × (start ≤ 600000) × (s < t) × (t ≤ 64) × (node .big ≤ 25600) × (node .p ≤ 25600) × (node .q ≤ 25600) × Plain (node .kind) × Apart (node .kind) t (node .big) (node .p) (node .q) ⌝ }
     ensures { λ r. ⌜ Sent at (kindText v (node .kind) t (node .big) (node .p) (node .q) start s) (now (out .entry)) (now (out .exit)) r × (r ≤ at + 160) ⌝ }
 {
     let kind = node.kind;
-    let i = start + row::times(s, row::slot_count(kind, true));
-    let slot = s as u16;
-    slotlines::put_slot(
-        out,
-        at,
-        Text::Entry(v),
-        i,
-        kind,
-        s + 1 < t,
-        node.big + slot,
-        node.p + slot,
-        node.q + slot,
-    )
+    let i = start + row::times(s, row::slot_count(kind, true, 0));
+    let big = node.big as usize + s;
+    let p = node.p as usize + s;
+    let q = node.q as usize + s;
+    entrylines::put_entries(out, at, v, i, kind, s + 1 < t, big, p, q)
 }
 
-// Its lines in the rows of a node at slot s + 1, and before it at the slot before.
+// Its lines in the rows of such a node at slot s + 1, and before it at the slot before.
 fn put_around(
     out: &mut [u8],
     at: usize,
@@ -55,7 +67,7 @@ fn put_around(
     s: usize,
     t: usize,
 ) -> usize
-    requires { ⌜ (at ≤ 4294950000) × (v < 100000) × (start ≤ 50000) × (s < t) × (t ≤ 64) × (node .big ≤ 25600) × (node .p ≤ 25600) × (node .q ≤ 25600) ⌝ }
+    requires { ⌜ (at ≤ 1099511590000) × (v < 1000000) × (start ≤ 600000) × (s < t) × (t ≤ 64) × (node .big ≤ 25600) × (node .p ≤ 25600) × (node .q ≤ 25600) × Plain (node .kind) × Apart (node .kind) t (node .big) (node .p) (node .q) ⌝ }
     ensures { λ r. ⌜ Sent at (kindAround v (node .kind) t (node .big) (node .p) (node .q) start s) (now (out .entry)) (now (out .exit)) r × (r ≤ at + 320) ⌝ }
 {
     if s == 0 {
@@ -65,7 +77,7 @@ fn put_around(
     put_at(out, next, v, start, node, s, t)
 }
 
-// Its lines in the rows of node n.
+// Its lines in the rows of node n: at slot s + 1 and the one before, or, with a window, at every slot.
 fn put_user(
     out: &mut [u8],
     at: usize,
@@ -77,12 +89,17 @@ fn put_user(
     t: usize,
     m: usize,
 ) -> usize
-    requires { ⌜ (at ≤ 4294950000) × (v < 100000) × (s < t) × Ready t m (now table) × (n < recordCount (now table)) ⌝ }
+    requires { ⌜ (at ≤ 1099511400000) × (v < 1000000) × (s < t) × Ready t m (now table) × (n < recordCount (now table)) × AtSlot t s v ⌝ }
     requires { ⌜ Starts t (nodesIn (now table)) (recordCount (now table)) (now starts) ⌝ }
-    ensures { λ r. ⌜ Sent at (aroundText t m (nodesIn (now (table .entry))) v s n) (now (out .entry)) (now (out .exit)) r × (r ≤ at + 320) ⌝ }
+    ensures { λ r. ⌜ Sent at (userText t m (nodesIn (now (table .entry))) v n) (now (out .entry)) (now (out .exit)) r × (r ≤ at + 166400) ⌝ }
 {
     let node = nodelines::place_node(table, n, t, m);
-    put_around(out, at, v, starts[n], node, s, t)
+    let start = starts[n];
+    let kind = node.kind;
+    if is_plain(kind) {
+        return put_around(out, at, v, start, node, s, t);
+    }
+    nodelines::put_node(out, at, Text::Entry(v), start, node, t as u16)
 }
 
 // Its lines in the rows of the nodes listed.
@@ -98,10 +115,10 @@ fn put_users(
     t: usize,
     m: usize,
 ) -> usize
-    requires { ⌜ (at ≤ 4294000000) × (v < 100000) × (s < t) × Ready t m (now table) × (count ≤ 128) ⌝ }
+    requires { ⌜ (at ≤ 1099490000000) × (v < 1000000) × (s < t) × Ready t m (now table) × (count ≤ 128) × AtSlot t s v ⌝ }
     requires { ⌜ Starts t (nodesIn (now table)) (recordCount (now table)) (now starts) ⌝ }
     requires { ⌜ Low count (recordCount (now table)) (now users) ⌝ }
-    ensures { λ r. ⌜ Sent at (flat (λ j. aroundText t m (nodesIn (now (table .entry))) v s (getD (now (users .entry)) j 0)) count) (now (out .entry)) (now (out .exit)) r × (r ≤ at + 40960) ⌝ }
+    ensures { λ r. ⌜ Sent at (flat (λ j. userText t m (nodesIn (now (table .entry))) v (getD (now (users .entry)) j 0)) count) (now (out .entry)) (now (out .exit)) r × (r ≤ at + 21299200) ⌝ }
 {
     let mut next = at;
     let mut j: usize = 0;
@@ -127,10 +144,10 @@ fn put_variable(
     t: usize,
     m: usize,
 ) -> usize
-    requires { ⌜ (at ≤ 4293000000) × (x ≤ 400) × (s < t) × Ready t m (now table) × (rows < 100000) × (rows ≡ length (slackRows t m (nodesIn (now table)))) ⌝ }
+    requires { ⌜ (at ≤ 1099480000000) × (x ≤ 400) × (s < t) × Ready t m (now table) × (rows < 1000000) × (rows ≡ length (slackRows t m (nodesIn (now table)))) ⌝ }
     requires { ⌜ Starts t (nodesIn (now table)) (recordCount (now table)) (now starts) ⌝ }
     requires { ⌜ Found m (nodesIn (now table)) x (now users) count ⌝ }
-    ensures { λ r. ⌜ Sent at (columnLines (rowsOf t m (nodesIn (now (table .entry)))) (x * t + s)) (now (out .entry)) (now (out .exit)) r × (r ≤ at + 41040) ⌝ }
+    ensures { λ r. ⌜ Sent at (columnLines (rowsOf t m (nodesIn (now (table .entry)))) (x * t + s)) (now (out .entry)) (now (out .exit)) r × (r ≤ at + 21299280) ⌝ }
 {
     let v = row::place(x, t) as usize + s;
     let n = table::count(table);
@@ -154,9 +171,9 @@ fn put_part(
     t: usize,
     m: usize,
 ) -> usize
-    requires { ⌜ (at ≤ 4290000000) × (x ≤ 400) × Ready t m (now table) × (rows < 100000) × (rows ≡ length (slackRows t m (nodesIn (now table)))) ⌝ }
+    requires { ⌜ (at ≤ 1090000000000) × (x ≤ 400) × Ready t m (now table) × (rows < 1000000) × (rows ≡ length (slackRows t m (nodesIn (now table)))) ⌝ }
     requires { ⌜ Starts t (nodesIn (now table)) (recordCount (now table)) (now starts) ⌝ }
-    ensures { λ r. ⌜ Sent at (flat (λ s. columnLines (rowsOf t m (nodesIn (now (table .entry)))) (x * t + s)) t) (now (out .entry)) (now (out .exit)) r × (r ≤ at + 2626560) ⌝ }
+    ensures { λ r. ⌜ Sent at (flat (λ s. columnLines (rowsOf t m (nodesIn (now (table .entry)))) (x * t + s)) t) (now (out .entry)) (now (out .exit)) r × (r ≤ at + 1363153920) ⌝ }
 {
     let mut users = [0u8; 128];
     let count = columns::find_users(table, table::count(table), m, x, &mut users);
@@ -171,11 +188,11 @@ fn put_part(
 
 // The lines of all variables of a checked table of n nodes.
 pub fn put_columns(out: &mut [u8], at: usize, table: &[u8], n: usize, t: usize, m: usize) -> usize
-    requires { ⌜ (at ≤ 3500000000) × Ready t m (now table) × (n ≡ recordCount (now table)) ⌝ }
-    ensures { λ r. ⌜ Sent at (flat (columnLines (rowsOf t m (nodesIn (now (table .entry))))) ((m + n) * t)) (now (out .entry)) (now (out .exit)) r × (r ≤ at + 378224640) ⌝ }
+    requires { ⌜ (at ≤ 800000000000) × Ready t m (now table) × (n ≡ recordCount (now table)) ⌝ }
+    ensures { λ r. ⌜ Sent at (flat (columnLines (rowsOf t m (nodesIn (now (table .entry))))) ((m + n) * t)) (now (out .entry)) (now (out .exit)) r × (r ≤ at + 196294164480) ⌝ }
 {
     let mut starts = [0usize; 128];
-    let rows = columns::find_starts(table, n, t, &mut starts);
+    let rows = columns::find_starts(table, n, t, m, &mut starts);
     let mut next = at;
     let mut x: usize = 0;
     while x < m + n {

@@ -5,8 +5,8 @@ ghost use mathlib.Core.Bool.{_||_};
 ghost use Prim.Native.Nat.{_+_, _≤_, _<_};
 ghost use lib.ListN.{length, set};
 ghost use Rattle.rules.specs.TableTest.{recordCount, nodesIn};
-ghost use Rattle.table.specs.Nodes.{nodeBy};
-ghost use Rattle.columns.specs.Users.{uses};
+ghost use Rattle.table.specs.Checks.{Ready};
+ghost use Rattle.columns.specs.Users.{UsedBy};
 ghost use Rattle.columns.specs.Found.{Starts, Counted, Found};
 
 fn either(a: bool, b: bool) -> bool
@@ -18,7 +18,7 @@ fn either(a: bool, b: bool) -> bool
 // Whether part x stands in the rows of node n: it is the node's own, or a part of it.
 fn is_used(kind: Kind, left: usize, right: usize, m: usize, n: usize, x: usize) -> bool
     requires { ⌜ (m ≤ 16) × (n ≤ 128) × (left < 256) × (right < 256) ⌝ }
-    ensures { λ r. ⌜ r ≡ uses m x n (nodeBy kind left right) ⌝ }
+    ensures { λ r. ⌜ UsedBy kind left right m n x r ⌝ }
 {
     let own = x == m + n;
     let first = x == m + left;
@@ -32,6 +32,8 @@ fn is_used(kind: Kind, left: usize, right: usize, m: usize, n: usize, x: usize) 
         Kind::Eventually => either(own, first),
         Kind::Always => either(own, first),
         Kind::Until => either(own, either(first, second)),
+        Kind::Within => either(own, first),
+        Kind::Throughout => either(own, first),
     }
 }
 
@@ -43,10 +45,10 @@ fn put_start(starts: &mut [usize], at: usize, start: usize)
     starts[at] = start;
 }
 
-// Writes the number of the first row of each of n nodes, and returns how many rows they have.
-pub fn find_starts(table: &[u8], n: usize, t: usize, starts: &mut [usize; 128]) -> usize
-    requires { ⌜ (1 ≤ t) × (t ≤ 64) × (n ≤ 128) × (n ≤ recordCount (now table)) ⌝ }
-    ensures { λ r. ⌜ Starts t (nodesIn (now (table .entry))) n (now (starts .exit)) × Counted t (nodesIn (now (table .entry))) n r × (r ≤ 32768) ⌝ }
+// Writes the number of the first row of each of the n nodes of a checked table, and returns how many rows they have.
+pub fn find_starts(table: &[u8], n: usize, t: usize, m: usize, starts: &mut [usize; 128]) -> usize
+    requires { ⌜ Ready t m (now table) × (n ≡ recordCount (now table)) ⌝ }
+    ensures { λ r. ⌜ Starts t (nodesIn (now (table .entry))) n (now (starts .exit)) × Counted t (nodesIn (now (table .entry))) n r × (r ≤ 532480) ⌝ }
 {
     let mut sum: usize = 0;
     let mut i: usize = 0;
@@ -54,7 +56,7 @@ pub fn find_starts(table: &[u8], n: usize, t: usize, starts: &mut [usize; 128]) 
         put_start(starts, i, sum);
         let node = table::node_at(table, i);
         let kind = node.kind;
-        sum += row::node_count(kind, t);
+        sum += row::node_count(kind, t as u16, node.from as u16, node.to as u16);
         i += 1;
     }
     sum

@@ -8,7 +8,7 @@ use Rattle.rules.specs.Quantities.{SlotsAllowed}
 use Rattle.rules.specs.Rule.{Rule, size}
 use Rattle.rules.specs.Grammar.{Says}
 use Rattle.rules.specs.Table.{nodesOf}
-use Rattle.rules.specs.Rows.{rowsOf}
+use Rattle.rules.specs.Rows.{rowsOf, rowsBytes}
 use Rattle.rules.specs.Judge.{None}
 use Rattle.rules.specs.Refusals.{RunGood, TextRefused}
 use Rattle.rules.specs.Demands.{Demand3At}
@@ -21,6 +21,6 @@ abbrev pub Demanded : (t m : ℕ) (text run table rows truth table′ rows′ tr
 Demanded t m text run table rows truth table′ rows′ truth′ r =
     None (TextRefused m text) → SlotsAllowed t → RunGood t m run → (D : ℕ) → 1 ≤ D →
     (p : Rule) × Says text p ×
-    (5 * size p ≤ length table → 14 * length (rowsOf t m (nodesOf p)) ≤ length rows → size p * t ≤ length truth →
+    (7 * size p ≤ length table → length (rowsBytes (rowsOf t m (nodesOf p))) ≤ length rows → size p * t ≤ length truth →
     (count v : ℕ) × (r ≡ Done (size p) count v) ×
-    Demand3At t m D run p (take (5 * size p) table′) count (take (14 * count) rows′) v (take (size p * t) truth′))
+    Demand3At t m D run p (take (7 * size p) table′) count (take (length (rowsBytes (rowsOf t m (nodesOf p)))) rows′) v (take (size p * t) truth′))

@@ -23,7 +23,7 @@ module _ (Refused : ℕ → Type 0) (Is : Written → Type 0) (a : Answer Writte
     (told : answer ≡ result a) (left : out′ ≡ buffer a out) where
   pub refuses : Refuses Refused answer out out′
   refuses = record {
-    lowest = λ k. rw told (Iff·trans (result-refused a k) (exact .refuses k));
+    first = λ k. rw told (Iff·trans (result-refused a k) (exact .refuses k));
     untouched = λ k e. left ∙ ap (λ (x : Answer Written). buffer x out) (result-refused a k .0 (sym told ∙ e));
   }
 

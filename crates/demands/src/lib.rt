@@ -94,7 +94,7 @@ pub fn plan(
     match reader::read(text, m, table) {
         Answer::Refused(r) => Planned::Refused(r),
         Answer::Value(n) => {
-            let end = 5 * n;
+            let end = 7 * n;
             match rows::write_rows(&table[..end], t, m, rows) {
                 Answer::Refused(r) => Planned::Refused(r),
                 Answer::Value(count) => match evaluator::evaluate(&table[..end], t, m, run, truth) {

@@ -13,7 +13,7 @@ use Rattle.rules.specs.Demands.{Answer, Written}
 use Rattle.rules.specs.Demands.Answer.{answered}
 use Rattle.rules.specs.Demands.Written.{wrote}
 use Rattle.rules.specs.Table.{Node, NodeGood, nodeAt, ruleAt, root}
-use Rattle.rules.specs.Table.Node.{atom, unary, binary}
+use Rattle.rules.specs.Table.Node.{atom, unary, binary, windowed}
 use Rattle.rules.specs.TableRules.{NodesGood}
 use Rattle.rules.specs.TableTest.{recordCount, nodesIn, length-nodesIn}
 use Rattle.rules.specs.Evaluation.{bitOf, truth}
@@ -58,6 +58,7 @@ below-16 : (M n : ℕ) → M ≤ 16 → (nd : Node) → NodeGood M n nd → Node
 below-16 M n h (atom a) g = omega arith
 below-16 M n h (unary u c) g = g
 below-16 M n h (binary o l r) g = g
+below-16 M n h (windowed w a b c) g = g
 
 run-long : (T M : ℕ) (run : List ℕ) → runGood T M run ≡ true → T ≤ length run
 unfolding runGood

@@ -54,7 +54,7 @@ module _ (T M : ℕ) (run : List ℕ) (ns : List Node) (good : NodesGood M ns) (
   here-from : (s : ℕ) → s < T → (s + 1 < T → byteOf T new n (s + 1) ≡ bitOf (isTrue n (s + 1))) → byteOf T new n s ≡ bitOf (isTrue n s)
   here-from s g h =
       w .here s (omega arith) g ∙ ap (valueAt T run m nd s) (next-is s h)
-      ∙ value-now T M run m n s (λ c. isTrue c s) (λ c u. k .below c s u g) (ltb (s + 1) T) (isTrue n (s + 1)) nd (good n inside)
+      ∙ value-now T M run m n s (λ c. truth T run (ruleAt ns c)) g (λ c j u v. k .below c j u v) (isTrue n (s + 1)) nd (good n inside)
       ∙ ap bitOf (sym (truth-now T M run ns good n (s + 1) inside (omega arith)))
 
   -- d slots before the last

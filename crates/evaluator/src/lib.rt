@@ -90,6 +90,8 @@ fn work_node(out: &mut [u8], run: &[u16], t: usize, n: usize, node: Node)
     let kind = node.kind;
     let left = node.left;
     let right = node.right;
+    let from = node.from;
+    let to = node.to;
     match kind {
         Kind::Atom => slots::atom(out, run, t, n, left),
         Kind::Not => slots::not(out, t, n, left),
@@ -99,6 +101,8 @@ fn work_node(out: &mut [u8], run: &[u16], t: usize, n: usize, node: Node)
         Kind::Eventually => slots::eventually(out, t, n, left),
         Kind::Always => slots::always(out, t, n, left),
         Kind::Until => slots::until(out, t, n, left, right),
+        Kind::Within => slots::within(out, t, n, left, from, to),
+        Kind::Throughout => slots::throughout(out, t, n, left, from, to),
     }
 }
 

@@ -1,6 +1,15 @@
 // The rows of each family, a line of the table of rows, at a slot: they are put from the place `at` on, and the result is the next place.
+use row::Relation;
+use row::Term;
+use window::Looks;
+ghost use mathlib.Core.Path.{_≡_};
 ghost use Prim.Native.Nat.{_+_, _≤_};
 ghost use lib.ListN.{length};
+ghost use Rattle.lists.specs.Splice.{splice};
+ghost use Rattle.rules.specs.Rule.Window.{within, throughout};
+ghost use Rattle.row.specs.Kinds.{overRows};
+ghost use Rattle.window.specs.Slots.{Few, variables};
+ghost use Rattle.families.specs.Windows.{aboves, belows, terms};
 ghost use Rattle.rules.specs.Rows.{rowsBytes, sameRows, notRows, andRows, orRows, impliesRows};
 ghost use Rattle.families.specs.Put.{Put, untilNext};
 
@@ -60,4 +69,95 @@ pub fn put_until(out: &mut [u8], at: usize, big: u16, p: u16, q: u16) -> usize
     let third = record::put_row(out, second, row::covered(p, q, big));
     let fourth = record::put_row(out, third, row::covered(q, big + 1, big));
     record::put_row(out, fourth, row::forced(big, p, big + 1))
+}
+
+// P − p(s) ≥ 0 for each slot s of a window; p is the part's variable at the first slot of all.
+fn put_above_each(out: &mut [u8], at: usize, big: u16, p: u16, looks: Looks) -> usize
+    requires { ⌜ Few looks × (p ≤ 25600) ⌝ }
+    requires { ⌜ at + length (aboves big looks p) ≤ length (now out) ⌝ }
+    ensures { λ r. ⌜ (r ≡ at + length (aboves big looks p)) × (now (out .exit) ≡ splice at (aboves big looks p) (now (out .entry))) ⌝ }
+{
+    let k = looks.count;
+    let mut next = at;
+    let mut i: u16 = 0;
+    while i < k {
+        next = record::put_row(out, next, row::above(big, p + window::nth(looks, i)));
+        i += 1;
+    }
+    next
+}
+
+// p(s) − P ≥ 0 for each slot s of a window; p is the part's variable at the first slot of all.
+fn put_below_each(out: &mut [u8], at: usize, big: u16, p: u16, looks: Looks) -> usize
+    requires { ⌜ Few looks × (p ≤ 25600) ⌝ }
+    requires { ⌜ at + length (belows big looks p) ≤ length (now out) ⌝ }
+    ensures { λ r. ⌜ (r ≡ at + length (belows big looks p)) × (now (out .exit) ≡ splice at (belows big looks p) (now (out .entry))) ⌝ }
+{
+    let k = looks.count;
+    let mut next = at;
+    let mut i: u16 = 0;
+    while i < k {
+        next = record::put_row(out, next, row::above(p + window::nth(looks, i), big));
+        i += 1;
+    }
+    next
+}
+
+// The terms of a row over the slots of a window; p is the part's variable at the first slot of all.
+fn put_terms(out: &mut [u8], at: usize, coefficient: i8, p: u16, looks: Looks) -> usize
+    requires { ⌜ Few looks × (p ≤ 25600) ⌝ }
+    requires { ⌜ at + length (terms coefficient looks p) ≤ length (now out) ⌝ }
+    ensures { λ r. ⌜ (r ≡ at + length (terms coefficient looks p)) × (now (out .exit) ≡ splice at (terms coefficient looks p) (now (out .entry))) ⌝ }
+{
+    let k = looks.count;
+    let mut next = at;
+    let mut i: u16 = 0;
+    while i < k {
+        let term = Term {
+            coefficient: coefficient,
+            variable: p + window::nth(looks, i),
+        };
+        next = record::put_term(out, next, term);
+        i += 1;
+    }
+    next
+}
+
+// P − p(s) ≥ 0 for each slot s of a window; the sum of all p(s), less P, ≥ 0
+pub fn put_within(out: &mut [u8], at: usize, big: u16, p: u16, looks: Looks) -> usize
+    requires { ⌜ Few looks × (p ≤ 25600) ⌝ }
+    requires { ⌜ at + length (rowsBytes (overRows within big (variables looks p))) ≤ length (now out) ⌝ }
+    ensures { λ r. ⌜ Put at (overRows within big (variables looks p)) (now (out .entry)) (now (out .exit)) r ⌝ }
+{
+    let last = Term {
+        coefficient: -1,
+        variable: big,
+    };
+    let second = put_above_each(out, at, big, p, looks);
+    let third = record::put_head(out, second, Relation::AtLeast, (looks.count + 1) as u8, 0);
+    let fourth = put_terms(out, third, 1, p, looks);
+    record::put_term(out, fourth, last)
+}
+
+// p(s) − P ≥ 0 for each slot s of a window; P less all p(s) ≥ −(k − 1)
+pub fn put_throughout(out: &mut [u8], at: usize, big: u16, p: u16, looks: Looks) -> usize
+    requires { ⌜ Few looks × (p ≤ 25600) ⌝ }
+    requires { ⌜ at + length (rowsBytes (overRows throughout big (variables looks p))) ≤ length (now out) ⌝ }
+    ensures { λ r. ⌜ Put at (overRows throughout big (variables looks p)) (now (out .entry)) (now (out .exit)) r ⌝ }
+{
+    let first = Term {
+        coefficient: 1,
+        variable: big,
+    };
+    let k = looks.count;
+    let second = put_below_each(out, at, big, p, looks);
+    let third = record::put_head(
+        out,
+        second,
+        Relation::AtLeast,
+        (k + 1) as u8,
+        row::less_one(k),
+    );
+    let fourth = record::put_term(out, third, first);
+    put_terms(out, fourth, -1, p, looks)
 }

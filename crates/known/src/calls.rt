@@ -1,6 +1,8 @@
 // The call that a line asks for: made, and printed with its answer and with what the whole lent buffer then holds.
 // Calls go by the first letter of their name. Of a call that writes, the first number is the length of the buffer lent.
 ghost use Prim.Native.Nat.{_≤_};
+ghost use lib.IntN.{natAbs};
+ghost use lib.ListN.{length};
 use crate::cases;
 use crate::cases::NUMBERS;
 use crate::show;
@@ -8,14 +10,18 @@ use crate::show::FILL;
 use answers::Answer;
 use row::Term;
 use row::Terms;
+use sums::RowSum;
 
 // The length of a lent buffer's guard, and of all that can be lent.
 const GUARD: usize = 8;
 
 const LARGEST: usize = 4194304;
 
+// The most figures of a window's row.
+const SLOTS: usize = 64;
+
 // The length of rowlist's page.
-const LISTING: usize = 160000;
+const LISTING: usize = 184000;
 
 // read ROOM M:TEXT, evaluate ROOM T M NUMBERS:TABLE, write ROOM T M:TABLE, mps ROOM T M:TABLE
 fn made(call: u8, list: &[usize; NUMBERS], bytes: &[u8], out: &mut [u8]) -> Answer {
@@ -86,7 +92,12 @@ fn list_rows(input: &[u8]) {
 // sum X Y and terms of a coefficient and a variable, over the figures X and Y
 fn sum(list: &[usize; NUMBERS]) {
     let figures = cases::figures(list);
-    let sum = sums::row_sum(&figures[1..3], terms(list));
+    show_sum(sums::row_sum(&figures[1..3], terms(list)));
+}
+
+fn show_sum(sum: RowSum)
+    requires { ⌜ (natAbs (sum .positive) ≤ 824633720832) × (natAbs (sum .whole) ≤ 824633720832) ⌝ }
+{
     show::signed(b"positive ", sum.positive);
     show::signed(b" whole ", sum.whole);
     show::text(b"\n");
@@ -110,11 +121,53 @@ fn term(coefficient: usize, variable: usize) -> Term {
     }
 }
 
+// The end of a list of figures from place 3 on, without those that are too many.
+fn slots_end(end: usize) -> usize
+    requires { ⌜ 3 ≤ end ⌝ }
+    ensures { λ r. ⌜ (3 ≤ r) × (r ≤ 67) ⌝ }
+{
+    if end < 3 + SLOTS { end } else { 3 + SLOTS }
+}
+
+// The sum of figures, one after the other.
+fn sum_of(figures: &[i32]) -> i64
+    requires { ⌜ length (now figures) ≤ 64 ⌝ }
+    ensures { λ r. ⌜ natAbs r ≤ 137438953472 ⌝ }
+{
+    let mut sum: i64 = 0;
+    for i in 0..figures.len() {
+        sum = sums::grown(sum, figures[i]);
+    }
+    sum
+}
+
+// The row sum of a window's last row, of F[a,b] or of G[a,b].
+fn window_sum(is_within: bool, sum: i64, x: i32) -> RowSum
+    requires { ⌜ natAbs sum ≤ 137438953472 ⌝ }
+    ensures { λ r. ⌜ (natAbs (r .positive) ≤ 824633720832) × (natAbs (r .whole) ≤ 824633720832) ⌝ }
+{
+    if is_within {
+        sums::within_sum(sum, x)
+    } else {
+        sums::throughout_sum(sum, x)
+    }
+}
+
+// total W X and figures: a window's last row, of F[a,b] where W is 1 and otherwise of G[a,b], over the node's figure X and
+// the part's at the slots of the window
+fn total(list: &[usize; NUMBERS]) {
+    let figures = cases::figures(list);
+    let end = slots_end(cases::end(list, 3));
+    let sum = sum_of(&figures[3..end]);
+    show_sum(window_sum(list[1] == 1, sum, figures[2]));
+}
+
 fn call_with(call: u8, list: &[usize; NUMBERS], bytes: &[u8]) {
     match call {
         b'j' => judge(list, bytes),
         b'l' => list_rows(bytes),
         b's' => sum(list),
+        b't' => total(list),
         b'r' | b'e' | b'w' | b'm' => write(call, list, bytes),
         _ => show::line(b"no such call"),
     }

@@ -8,27 +8,28 @@ use Rattle.rules.specs.Reading.Lexer.{start}
 use Rattle.rules.specs.Reading.Parser.{Parsed}
 use Rattle.levels.specs.declared.Step.{Step}
 use Rattle.levels.specs.declared.Step.the-variants.{Fail, Part}
-use Rattle.levels.specs.Records.{top, records}
+use Rattle.levels.specs.Records.{top, flaw, records}
 use Rattle.levels.specs.Steps.{Told, Wrote}
 
-pub record Got (s : List ℕ) (x : Parsed) (n : ℕ) (before after : List ℕ) (next nodes high : ℕ) : Type 0 where
+pub record Got (s : List ℕ) (x : Parsed) (n : ℕ) (before after : List ℕ) (next nodes high fault : ℕ) : Type 0 where
   pub rule : Rule
   pub end : ℕ
   pub is : x ≡ Parsed.part rule end
   pub skipped : next ≡ start s end
   pub count : nodes ≡ n + size rule
   pub highest : high ≡ top rule
-  pub wrote : Wrote before (5 * n) (records n rule) after
+  pub faulty : fault ≡ flaw rule
+  pub wrote : Wrote before (7 * n) (records n rule) after
 
-never : {A : Type 0} (r : Step) (next nodes high : ℕ) → r ≡ Fail → r ≡ Part next nodes high → A
-never r next nodes high p q = let z : _≡_ {A = ℕ} 0 1 = cc in absurd (omega arith)
+never : {A : Type 0} (r : Step) (next nodes high fault : ℕ) → r ≡ Fail → r ≡ Part next nodes high fault → A
+never r next nodes high fault p q = let z : _≡_ {A = ℕ} 0 1 = cc in absurd (omega arith)
 
-pub got : (s : List ℕ) (x : Parsed) (n : ℕ) (before after : List ℕ) (r : Step) (next nodes high : ℕ) → Told s x n before after r → r ≡ Part next nodes high → Got s x n before after next nodes high
-got s Parsed.fail n before after r next nodes high h e = never r next nodes high h e
-got s (Parsed.part p y) n before after r next nodes high h e =
-    let f : r ≡ Part (start s y) (n + size p) (top p) = h .0 in
-    record { rule = p; end = y; is = refl; skipped = cc; count = cc; highest = cc; wrote = h .1 }
+pub got : (s : List ℕ) (x : Parsed) (n : ℕ) (before after : List ℕ) (r : Step) (next nodes high fault : ℕ) → Told s x n before after r → r ≡ Part next nodes high fault → Got s x n before after next nodes high fault
+got s Parsed.fail n before after r next nodes high fault h e = never r next nodes high fault h e
+got s (Parsed.part p y) n before after r next nodes high fault h e =
+    let f : r ≡ Part (start s y) (n + size p) (top p) (flaw p) = h .0 in
+    record { rule = p; end = y; is = refl; skipped = cc; count = cc; highest = cc; faulty = cc; wrote = h .1 }
 
 pub failed : (s : List ℕ) (x : Parsed) (n : ℕ) (before after : List ℕ) (r : Step) → Told s x n before after r → r ≡ Fail → x ≡ Parsed.fail
 failed s Parsed.fail n before after r h e = refl
-failed s (Parsed.part p y) n before after r h e = never r (start s y) (n + size p) (top p) e (h .0)
+failed s (Parsed.part p y) n before after r h e = never r (start s y) (n + size p) (top p) (flaw p) e (h .0)

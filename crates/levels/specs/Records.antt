@@ -1,35 +1,63 @@
 -- What the scratch of the levels holds: a record for each node, with numbers cut to a byte.
 use mathlib.Core.Path.{_≡_, refl}
+use mathlib.Core.Bool.{Bool, true, false, cond}
 use mathlib.Core.List.{List, [], _∷_, _++_}
 use Prim.Native.Nat.{ℕ, _+_, _-_, _*_, _%_, min, max, _≤_}
 use native.Mathlib.Omega.{arith}
 use lib.ListN.{length, length-append}
 use Rattle.rules.specs.Rule.{Rule, size}
-use Rattle.rules.specs.Rule.Rule.{atom, unary, binary}
-use Rattle.rules.specs.Table.{unaryKind, binaryKind}
+use Rattle.rules.specs.Rule.Rule.{atom, unary, binary, windowed}
+use Rattle.rules.specs.Table.{unaryKind, binaryKind, windowKind}
+use Rattle.rules.specs.TableTest.{windowGood}
 
 -- the highest atom number of a rule, and 255 for all from there on
 abbrev pub top : Rule → ℕ
 top (atom a) = min 255 a
 top (unary u p) = top p
 top (binary o p q) = max (top p) (top q)
+top (windowed w a b p) = top p
 
 pub top-le : (p : Rule) → top p ≤ 255
 top-le (atom a) = omega arith
 top-le (unary u p) = top-le p
 top-le (binary o p q) = let h = top-le p in let k = top-le q in omega arith
+top-le (windowed w a b p) = top-le p
 
-abbrev pub entry : (kind left right : ℕ) → List ℕ
-entry k l r = 0x4E ∷ 0x44 ∷ k ∷ l % 256 ∷ r % 256 ∷ []
+-- 1 where a window is not allowed, and else 0; 1 where a rule has such a window
+abbrev pub bad : (a b : ℕ) → ℕ
+bad a b = cond (windowGood a b) 0 1
+
+abbrev pub flaw : Rule → ℕ
+flaw (atom a) = 0
+flaw (unary u p) = flaw p
+flaw (binary o p q) = max (flaw p) (flaw q)
+flaw (windowed w a b p) = max (flaw p) (bad (min 255 a) (min 255 b))
+
+bad-cases : (x : Bool) → cond x 0 1 ≤ 1
+bad-cases true = omega arith
+bad-cases false = omega arith
+
+pub bad-le : (a b : ℕ) → bad a b ≤ 1
+bad-le a b = bad-cases (windowGood a b)
+
+pub flaw-le : (p : Rule) → flaw p ≤ 1
+flaw-le (atom a) = omega arith
+flaw-le (unary u p) = flaw-le p
+flaw-le (binary o p q) = let h = flaw-le p in let k = flaw-le q in omega arith
+flaw-le (windowed w a b p) = let h = flaw-le p in let k = bad-le (min 255 a) (min 255 b) in omega arith
+
+abbrev pub entry : (kind left right from to : ℕ) → List ℕ
+entry k l r a b = 0x4E ∷ 0x44 ∷ k ∷ l % 256 ∷ r % 256 ∷ a % 256 ∷ b % 256 ∷ []
 
 -- the records of a rule whose first node has the number n
 unfoldable pub records : ℕ → Rule → List ℕ
-records n (atom a) = entry 1 (min 255 a) 0
-records n (unary u p) = records n p ++ entry (unaryKind u) (n + size p - 1) 0
+records n (atom a) = entry 1 (min 255 a) 0 0 0
+records n (unary u p) = records n p ++ entry (unaryKind u) (n + size p - 1) 0 0 0
 records n (binary o p q) =
-    records n p ++ (records (n + size p) q ++ entry (binaryKind o) (n + size p - 1) (n + size p + size q - 1))
+    records n p ++ (records (n + size p) q ++ entry (binaryKind o) (n + size p - 1) (n + size p + size q - 1) 0 0)
+records n (windowed w a b p) = records n p ++ entry (windowKind w) (n + size p - 1) 0 (min 255 a) (min 255 b)
 
-pub length-records : (n : ℕ) (p : Rule) → length (records n p) ≡ 5 * size p
+pub length-records : (n : ℕ) (p : Rule) → length (records n p) ≡ 7 * size p
 unfolding records
 length-records n (atom a) = refl
 length-records n (unary u p) =
@@ -38,4 +66,7 @@ length-records n (unary u p) =
 length-records n (binary o p q) =
     let h = length-records n p in
     let k = length-records (n + size p) q in
+    simp length-append (omega arith)
+length-records n (windowed w a b p) =
+    let h = length-records n p in
     simp length-append (omega arith)

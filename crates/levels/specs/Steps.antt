@@ -1,8 +1,10 @@
 -- What the contracts of the levels say.
 use mathlib.Core.Path.{_≡_}
+use mathlib.Core.Bool.{cond}
 use mathlib.Core.Option.{Option, none, some}
 use mathlib.Core.List.{List}
 use Prim.Native.Nat.{ℕ, zero, suc, _+_, _-_, _*_, _/_, _%_, max, _≤_, _<_}
+use lib.Dec.{eqb}
 use lib.ListN.{length}
 use lib.Seq.{sets}
 use Rattle.rules.specs.Rule.{Unary, size}
@@ -10,12 +12,12 @@ use Rattle.rules.specs.Rule.Binary.{and, or, implies, until}
 use Rattle.rules.specs.Grammar.{Level}
 use Rattle.rules.specs.Grammar.Level.{of, single}
 use Rattle.rules.specs.Table.{unaryKind}
-use Rattle.rules.specs.Reading.Lexer.{start}
+use Rattle.rules.specs.Reading.Lexer.{start, signAt}
 use Rattle.lexer.specs.Signs.{signFrom}
 use Rattle.rules.specs.Reading.Parser.{Parsed}
 use Rattle.levels.specs.declared.Step.{Step}
 use Rattle.levels.specs.declared.Step.the-variants.{Fail, Part}
-use Rattle.levels.specs.Records.{top, entry, records}
+use Rattle.levels.specs.Records.{top, bad, flaw, entry, records}
 
 -- 01's levels: Rule, Or, And, Until and Single
 abbrev pub ruleLevel : Level
@@ -33,14 +35,14 @@ untilLevel = of until
 abbrev pub singleLevel : Level
 singleLevel = single
 
--- a step as one number: 0, or position, nodes and highest atom number, lowest first
+-- a step as one number: 0, or position, nodes, highest atom number and whether a window is not allowed, lowest first
 unfoldable pub stepOf : ℕ → Step
 stepOf zero = Fail
-stepOf (suc c) = Part (suc c % 2048) (suc c / 2048 % 2048) (suc c / 4194304)
+stepOf (suc c) = Part (suc c % 2048) (suc c / 2048 % 2048) (suc c / 4194304 % 256) (suc c / 1073741824)
 
 -- a part that fits one number
-abbrev pub Fits : (next m b : ℕ) → Type 0
-Fits next m b = (next < 2048) × ((1 ≤ m) × ((m < 2048) × (b ≤ 255)))
+abbrev pub Fits : (next m b f : ℕ) → Type 0
+Fits next m b f = (next < 2048) × ((1 ≤ m) × ((m < 2048) × ((b ≤ 255) × (f ≤ 1))))
 
 -- what a level asks: the text is short, and there are no more nodes so far than bytes before `at`, so that each node has room
 pub record Ready (text : List ℕ) (at n : ℕ) : Type 0 where
@@ -49,46 +51,50 @@ pub record Ready (text : List ℕ) (at n : ℕ) : Type 0 where
 
 -- bytes are written into the scratch from `at` on, as far as it goes: it has room for the records of 128 nodes
 abbrev pub Wrote : (before : List ℕ) (at : ℕ) (bytes after : List ℕ) → Type 0
-Wrote before at bytes after = length before ≡ 640 → after ≡ sets before at bytes
+Wrote before at bytes after = length before ≡ 896 → after ≡ sets before at bytes
 
 -- what a level tells of what it parsed: its step, with spaces behind it skipped, and the records of the nodes from n on
 abbrev pub Told : (text : List ℕ) → Parsed → (n : ℕ) → (before after : List ℕ) → Step → Type 0
 Told text Parsed.fail n before after r = r ≡ Fail
-Told text (Parsed.part p next) n before after r = (r ≡ Part (start text next) (n + size p) (top p)) × Wrote before (5 * n) (records n p) after
+Told text (Parsed.part p next) n before after r = (r ≡ Part (start text next) (n + size p) (top p) (flaw p)) × Wrote before (7 * n) (records n p) after
 
 -- there is a last node, no more than a short text can have, and the part fits one number
 abbrev pub Room : Step → Type 0
 Room Fail = Unit {0}
-Room (Part next m b) = (1 ≤ m) × ((5 * m + 5 ≤ 5120) × ((next < 2048) × (b ≤ 255)))
+Room (Part next m b f) = (1 ≤ m) × ((7 * m + 7 ≤ 7168) × ((next < 2048) × ((b ≤ 255) × (f ≤ 1))))
 
--- one node more, over two parts: the last node of the left part is a - 1, and t its highest atom
-abbrev pub joined : (t : ℕ) → Step → Step
-joined t Fail = Fail
-joined t (Part next m b) = Part next (m + 1) (max t b)
+-- one node more, over two parts: the last node of the left part is a - 1, t its highest atom, and g 1 where a window of it is not allowed
+abbrev pub joined : (t g : ℕ) → Step → Step
+joined t g Fail = Fail
+joined t g (Part next m b f) = Part next (m + 1) (max t b) (max g f)
 
 abbrev pub JoinedIn : Step → (kind a : ℕ) → (before after : List ℕ) → Type 0
 JoinedIn Fail kind a before after = after ≡ before
-JoinedIn (Part next m b) kind a before after = Wrote before (5 * m) (entry kind (a - 1) (m - 1)) after
+JoinedIn (Part next m b f) kind a before after = Wrote before (7 * m) (entry kind (a - 1) (m - 1) 0 0) after
 
--- one node more, over one part
-abbrev pub applied : Step → Step
-applied Fail = Fail
-applied (Part next m b) = Part next (m + 1) b
+-- one node more, over one part, with the window x, y
+abbrev pub applied : (x y : ℕ) → Step → Step
+applied x y Fail = Fail
+applied x y (Part next m b f) = Part next (m + 1) b (max f (bad x y))
 
-abbrev pub AppliedIn : Step → (kind : ℕ) → (before after : List ℕ) → Type 0
-AppliedIn Fail kind before after = after ≡ before
-AppliedIn (Part next m b) kind before after = Wrote before (5 * m) (entry kind (m - 1) 0) after
+abbrev pub AppliedIn : Step → (kind x y : ℕ) → (before after : List ℕ) → Type 0
+AppliedIn Fail kind x y before after = after ≡ before
+AppliedIn (Part next m b f) kind x y before after = Wrote before (7 * m) (entry kind (m - 1) 0 x y) after
 
 -- the kind of an operator of one side, and 0 for none
 abbrev pub prefixKind : Option Unary → ℕ
 prefixKind none = 0
 prefixKind (some u) = unaryKind u
 
+-- the position past the opening bracket of a window behind the operator of a kind, or 0: F and G have windows
+abbrev pub opened : (kind : ℕ) → List ℕ → ℕ → ℕ
+opened k text at = cond (eqb k 2) 0 (signAt text at 91)
+
 -- a part in a bracket: x is the position past the closing one, or 0
-abbrev pub closedAt : List ℕ → (m b x : ℕ) → Step
-closedAt text m b zero = Fail
-closedAt text m b (suc q) = Part (start text (suc q)) m b
+abbrev pub closedAt : List ℕ → (m b f x : ℕ) → Step
+closedAt text m b f zero = Fail
+closedAt text m b f (suc q) = Part (start text (suc q)) m b f
 
 abbrev pub closed : List ℕ → Step → Step
 closed text Fail = Fail
-closed text (Part next m b) = closedAt text m b (signFrom text next 41)
+closed text (Part next m b f) = closedAt text m b f (signFrom text next 41)

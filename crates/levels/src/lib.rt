@@ -3,17 +3,19 @@ ghost use mathlib.Core.Path.{_≡_};
 ghost use Prim.Native.Nat.{_+_, _*_, max, _≤_};
 ghost use lib.ListN.{length};
 ghost use Rattle.rules.specs.Reading.Parser.{parsed, unaryOf};
-ghost use Rattle.levels.specs.Records.{entry};
-ghost use Rattle.levels.specs.Steps.{ruleLevel, orLevel, andLevel, untilLevel, singleLevel, Ready, Wrote, Told, Room, joined, JoinedIn, applied, AppliedIn, prefixKind, closed, Fits, stepOf};
+ghost use Rattle.levels.specs.Records.{bad as badWindow, entry};
+ghost use Rattle.levels.specs.Steps.{ruleLevel, orLevel, andLevel, untilLevel, singleLevel, Ready, Wrote, Told, Room, joined, JoinedIn, applied, AppliedIn, prefixKind, opened, closed, Fits, stepOf};
 ghost use Rattle.levels.specs.declared.Step.the-variants.{Part};
 
-// No phrase, or one whose next token begins at `next`: `nodes` nodes are written so far, and `top` is the phrase's highest atom number.
+// No phrase, or one whose next token begins at `next`: `nodes` nodes are written so far, `top` is the phrase's highest atom
+// number, and `bad` is 1 where one of its windows is not allowed, and else 0.
 pub enum Step {
     Fail,
     Part {
         next: usize,
         nodes: usize,
         top: usize,
+        bad: usize,
     },
 }
 
@@ -27,16 +29,17 @@ fn unpack(code: usize) -> Step
     Step::Part {
         next: code % 2048,
         nodes: code / 2048 % 2048,
-        top: code / 4194304,
+        top: code / 4194304 % 256,
+        bad: code / 1073741824,
     }
 }
 
 // A part as one number: the levels return it in a register.
-fn pack(next: usize, nodes: usize, top: usize) -> usize
-    requires { ⌜ Fits next nodes top ⌝ }
-    ensures { λ r. ⌜ stepOf r ≡ Part next nodes top ⌝ }
+fn pack(next: usize, nodes: usize, top: usize, bad: usize) -> usize
+    requires { ⌜ Fits next nodes top bad ⌝ }
+    ensures { λ r. ⌜ stepOf r ≡ Part next nodes top bad ⌝ }
 {
-    next + nodes * 2048 + top * 4194304
+    next + nodes * 2048 + top * 4194304 + bad * 1073741824
 }
 
 fn larger(a: usize, b: usize) -> usize
@@ -45,27 +48,42 @@ fn larger(a: usize, b: usize) -> usize
     if a < b { b } else { a }
 }
 
+// 1 "when a is above b or b above 63", and else 0.
+fn outside(from: usize, to: usize) -> usize
+    ensures { λ r. ⌜ (r ≡ badWindow from to) × (r ≤ 1) ⌝ }
+{
+    if to < from {
+        return 1;
+    }
+    if 63 < to {
+        return 1;
+    }
+    0
+}
+
 // Writes node `n`'s record, where it is one of the first 128: the records of a rule with more are not wanted.
-fn put(out: &mut [u8; 640], n: usize, kind: u8, left: usize, right: usize)
-    requires { ⌜ 5 * n + 5 ≤ 5120 ⌝ }
-    ensures { λ _. ⌜ Wrote (now (out .entry)) (5 * n) (entry kind left right) (now (out .exit)) ⌝ }
+fn put(out: &mut [u8; 896], n: usize, kind: u8, left: usize, right: usize, from: usize, to: usize)
+    requires { ⌜ 7 * n + 7 ≤ 7168 ⌝ }
+    ensures { λ _. ⌜ Wrote (now (out .entry)) (7 * n) (entry kind left right from to) (now (out .exit)) ⌝ }
 {
     if 128 <= n {
         return;
     }
-    let i = 5 * n;
+    let i = 7 * n;
     let mark = table::MARK;
     out[i] = mark[0];
     out[i + 1] = mark[1];
     out[i + 2] = kind;
     out[i + 3] = (left % 256) as u8;
     out[i + 4] = (right % 256) as u8;
+    out[i + 5] = (from % 256) as u8;
+    out[i + 6] = (to % 256) as u8;
 }
 
 // The node over the left part, whose last node is `nodes` - 1, and the right part.
-fn join(out: &mut [u8; 640], kind: u8, nodes: usize, top: usize, right: usize) -> usize
-    requires { ⌜ (1 ≤ nodes) × ((top ≤ 255) × Room (stepOf right)) ⌝ }
-    ensures { λ r. ⌜ (stepOf r ≡ joined top (stepOf right)) × JoinedIn (stepOf right) kind nodes (now (out .entry)) (now (out .exit)) ⌝ }
+fn join(out: &mut [u8; 896], kind: u8, nodes: usize, top: usize, bad: usize, right: usize) -> usize
+    requires { ⌜ (1 ≤ nodes) × ((top ≤ 255) × ((bad ≤ 1) × Room (stepOf right))) ⌝ }
+    ensures { λ r. ⌜ (stepOf r ≡ joined top bad (stepOf right)) × JoinedIn (stepOf right) kind nodes (now (out .entry)) (now (out .exit)) ⌝ }
 {
     match unpack(right) {
         Step::Fail => 0,
@@ -73,17 +91,18 @@ fn join(out: &mut [u8; 640], kind: u8, nodes: usize, top: usize, right: usize) -
             next,
             nodes: m,
             top: b,
+            bad: f,
         } => {
-            put(out, m, kind, nodes - 1, m - 1);
-            pack(next, m + 1, larger(top, b))
+            put(out, m, kind, nodes - 1, m - 1, 0, 0);
+            pack(next, m + 1, larger(top, b), larger(bad, f))
         }
     }
 }
 
-// The node over one part.
-fn cap(out: &mut [u8; 640], kind: u8, inner: usize) -> usize
+// The node over one part, with its window, or 0 and 0.
+fn cap(out: &mut [u8; 896], kind: u8, from: usize, to: usize, inner: usize) -> usize
     requires { ⌜ Room (stepOf inner) ⌝ }
-    ensures { λ r. ⌜ (stepOf r ≡ applied (stepOf inner)) × AppliedIn (stepOf inner) kind (now (out .entry)) (now (out .exit)) ⌝ }
+    ensures { λ r. ⌜ (stepOf r ≡ applied from to (stepOf inner)) × AppliedIn (stepOf inner) kind from to (now (out .entry)) (now (out .exit)) ⌝ }
 {
     match unpack(inner) {
         Step::Fail => 0,
@@ -91,9 +110,10 @@ fn cap(out: &mut [u8; 640], kind: u8, inner: usize) -> usize
             next,
             nodes: m,
             top,
+            bad,
         } => {
-            put(out, m, kind, m - 1, 0);
-            pack(next, m + 1, top)
+            put(out, m, kind, m - 1, 0, from, to);
+            pack(next, m + 1, top, larger(bad, outside(from, to)))
         }
     }
 }
@@ -114,6 +134,16 @@ fn prefix_kind(byte: u8) -> u8
     0
 }
 
+// The position past the opening bracket of a window behind F or G, and else 0.
+fn opening(text: &[u8], at: usize, kind: u8) -> usize
+    ensures { λ r. ⌜ r ≡ opened kind (now (text .entry)) at ⌝ }
+{
+    if kind == 2 {
+        return 0;
+    }
+    lexer::past(text, at, b'[')
+}
+
 // The part in a bracket, with the position of the token past the closing one.
 fn close(text: &[u8], inner: usize) -> usize
     requires { ⌜ (length (now text) ≤ 1024) × Room (stepOf inner) ⌝ }
@@ -121,103 +151,128 @@ fn close(text: &[u8], inner: usize) -> usize
 {
     match unpack(inner) {
         Step::Fail => 0,
-        Step::Part { next, nodes, top } => {
+        Step::Part {
+            next,
+            nodes,
+            top,
+            bad,
+        } => {
             let past = lexer::sign_at(text, next, b')');
             if past == 0 {
                 return 0;
             }
             let end = lexer::skip(text, past);
-            pack(end, nodes, top)
+            pack(end, nodes, top, bad)
         }
     }
 }
 
 // Rule: Or, or Or > Rule. The levels pass the text on by a reference to the slice: each then has it in a register.
-fn rule(text: &&[u8], at: usize, n: usize, out: &mut [u8; 640]) -> usize
+fn rule(text: &&[u8], at: usize, n: usize, out: &mut [u8; 896]) -> usize
     requires { ⌜ Ready (now (now text)) at n ⌝ }
     ensures { λ r. ⌜ Told (now (now (text .entry))) (parsed ruleLevel (now (now (text .entry))) at) n (now (out .entry)) (now (out .exit)) (stepOf r) ⌝ }
 {
     let left = or(text, at, n, out);
     match unpack(left) {
         Step::Fail => 0,
-        Step::Part { next, nodes, top } => {
+        Step::Part {
+            next,
+            nodes,
+            top,
+            bad,
+        } => {
             let after = lexer::sign_at(*text, next, b'>');
             if after == 0 {
                 return left;
             }
             let right = rule(text, after, nodes, out);
-            join(out, 5, nodes, top, right)
+            join(out, 5, nodes, top, bad, right)
         }
     }
 }
 
 // Or: And, or And | Or.
-fn or(text: &&[u8], at: usize, n: usize, out: &mut [u8; 640]) -> usize
+fn or(text: &&[u8], at: usize, n: usize, out: &mut [u8; 896]) -> usize
     requires { ⌜ Ready (now (now text)) at n ⌝ }
     ensures { λ r. ⌜ Told (now (now (text .entry))) (parsed orLevel (now (now (text .entry))) at) n (now (out .entry)) (now (out .exit)) (stepOf r) ⌝ }
 {
     let left = and(text, at, n, out);
     match unpack(left) {
         Step::Fail => 0,
-        Step::Part { next, nodes, top } => {
+        Step::Part {
+            next,
+            nodes,
+            top,
+            bad,
+        } => {
             let after = lexer::sign_at(*text, next, b'|');
             if after == 0 {
                 return left;
             }
             let right = or(text, after, nodes, out);
-            join(out, 4, nodes, top, right)
+            join(out, 4, nodes, top, bad, right)
         }
     }
 }
 
 // And: Until, or Until & And.
-fn and(text: &&[u8], at: usize, n: usize, out: &mut [u8; 640]) -> usize
+fn and(text: &&[u8], at: usize, n: usize, out: &mut [u8; 896]) -> usize
     requires { ⌜ Ready (now (now text)) at n ⌝ }
     ensures { λ r. ⌜ Told (now (now (text .entry))) (parsed andLevel (now (now (text .entry))) at) n (now (out .entry)) (now (out .exit)) (stepOf r) ⌝ }
 {
     let left = until(text, at, n, out);
     match unpack(left) {
         Step::Fail => 0,
-        Step::Part { next, nodes, top } => {
+        Step::Part {
+            next,
+            nodes,
+            top,
+            bad,
+        } => {
             let after = lexer::sign_at(*text, next, b'&');
             if after == 0 {
                 return left;
             }
             let right = and(text, after, nodes, out);
-            join(out, 3, nodes, top, right)
+            join(out, 3, nodes, top, bad, right)
         }
     }
 }
 
 // Until: Single, or Single U Until.
-fn until(text: &&[u8], at: usize, n: usize, out: &mut [u8; 640]) -> usize
+fn until(text: &&[u8], at: usize, n: usize, out: &mut [u8; 896]) -> usize
     requires { ⌜ Ready (now (now text)) at n ⌝ }
     ensures { λ r. ⌜ Told (now (now (text .entry))) (parsed untilLevel (now (now (text .entry))) at) n (now (out .entry)) (now (out .exit)) (stepOf r) ⌝ }
 {
     let left = single(text, at, n, out);
     match unpack(left) {
         Step::Fail => 0,
-        Step::Part { next, nodes, top } => {
+        Step::Part {
+            next,
+            nodes,
+            top,
+            bad,
+        } => {
             let after = lexer::sign_at(*text, next, b'U');
             if after == 0 {
                 return left;
             }
             let right = until(text, after, nodes, out);
-            join(out, 8, nodes, top, right)
+            join(out, 8, nodes, top, bad, right)
         }
     }
 }
 
-// Single: ! Single, or F Single, or G Single, or an atom, or ( Rule ).
-fn single(text: &&[u8], at: usize, n: usize, out: &mut [u8; 640]) -> usize
+// Single: ! Single, or F Single, or G Single, or an atom, or ( Rule ); or F or G with a window and a Single.
+fn single(text: &&[u8], at: usize, n: usize, out: &mut [u8; 896]) -> usize
     requires { ⌜ Ready (now (now text)) at n ⌝ }
     ensures { λ r. ⌜ Told (now (now (text .entry))) (parsed singleLevel (now (now (text .entry))) at) n (now (out .entry)) (now (out .exit)) (stepOf r) ⌝ }
 {
     match lexer::token_at(*text, at) {
         lexer::Token::Atom { number, next } => {
-            put(out, n, 1, number, 0);
+            put(out, n, 1, number, 0, 0, 0);
             let end = lexer::skip(*text, next);
-            pack(end, n + 1, number)
+            pack(end, n + 1, number, 0)
         }
         lexer::Token::Sign { byte, next } => {
             if byte == b'(' {
@@ -228,15 +283,29 @@ fn single(text: &&[u8], at: usize, n: usize, out: &mut [u8; 640]) -> usize
             if kind == 0 {
                 return 0;
             }
-            let inner = single(text, next, n, out);
-            cap(out, kind, inner)
+            let open = opening(*text, next, kind);
+            if open == 0 {
+                let inner = single(text, next, n, out);
+                return cap(out, kind, 0, 0, inner);
+            }
+            match lexer::span_at(*text, open) {
+                lexer::Span::None => 0,
+                lexer::Span::Window {
+                    from,
+                    to,
+                    next: end,
+                } => {
+                    let inner = single(text, end, n, out);
+                    cap(out, kind + 3, from, to, inner)
+                }
+            }
         }
         lexer::Token::Other => 0,
     }
 }
 
 // The phrase that the text begins with.
-pub fn whole(text: &[u8], out: &mut [u8; 640]) -> Step
+pub fn whole(text: &[u8], out: &mut [u8; 896]) -> Step
     requires { ⌜ length (now text) ≤ 1024 ⌝ }
     ensures { λ r. ⌜ Told (now (text .entry)) (parsed ruleLevel (now (text .entry)) 0) 0 (now (out .entry)) (now (out .exit)) r ⌝ }
 {

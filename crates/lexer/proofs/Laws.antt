@@ -8,11 +8,12 @@ use lib.ListN.{length, getD, drop}
 use lib.Dec.{ltb, eqb}
 use borrow.Author.Tests.{lt-ltb, le-ltb, eq-eqb, ne-eqb}
 use Rattle.rules.specs.Reading.Lexer
-use Rattle.rules.specs.Reading.Lexer.{start, digits, value, isDigit, isNumeral, Numeric, atomAt, tokenAt, pastSign, token-none, token-sign, token-bad, token-atom, numeral-empty, numeral-zero}
+use Rattle.rules.specs.Reading.Lexer.{start, digits, value, isDigit, isNumeral, Numeric, atomAt, tokenAt, numberAt, signAt, pastSign, token-none, token-sign, token-letter, numeral-is, numeral-empty, numeral-zero}
 use Rattle.lexer.specs.declared.Token.{Token}
 use Rattle.lexer.specs.declared.Token.the-variants.{Other, Sign, Atom}
-use Rattle.lexer.specs.Capped.{capped}
-use Rattle.lexer.specs.Signs.{signFrom}
+use Rattle.lexer.specs.Capped.{capped, none-of, sign-of, atom-of}
+use Rattle.lexer.specs.Signs.{signFrom, sign-skipped}
+use Rattle.lexer.specs.Spans.{valueOf, nextOf}
 
 -- ---- 255 stands for all numbers from there on, and stays so
 
@@ -26,6 +27,27 @@ value-capped [] v w h = h
 value-capped (c ∷ s) v w h =
     cap-step (isDigit c) (value (10 * v + (c - 48)) s) (value (10 * w + (c - 48)) s) v w (value-capped s (10 * v + (c - 48)) (10 * w + (c - 48)) (omega arith)) h
 
+-- ---- digits as a number, by the tests of `numeral`
+
+module _ (s : List ℕ) (d end v : ℕ) (end-is : end ≡ d + digits (drop d s)) (v-is : v ≡ min 255 (value 0 (drop d s))) where
+  none-found : isNumeral (digits (drop d s)) (getD s d 0) ≡ false → Other ≡ capped (atomAt s d)
+  none-found e = rw e refl
+
+  pub no-digit : end ≡ d → Other ≡ capped (atomAt s d)
+  no-digit f = none-found (numeral-empty (digits (drop d s)) (getD s d 0) (omega arith))
+
+  pub zero-first : d + 1 < end → getD s d 0 ≡ 48 → Other ≡ capped (atomAt s d)
+  zero-first l z = none-found (numeral-zero (digits (drop d s)) (getD s d 0) (omega arith) z)
+
+  atom-found : Numeric (digits (drop d s)) (getD s d 0) → Atom v end ≡ capped (atomAt s d)
+  atom-found n = rw (numeral-is (digits (drop d s)) (getD s d 0) n) (ap (λ (x : ℕ). Atom x end) v-is ∙ ap (Atom (min 255 (value 0 (drop d s)))) end-is)
+
+  pub many-digits : d + 1 < end → (getD s d 0 ≡ 48 → ⊥) → Atom v end ≡ capped (atomAt s d)
+  many-digits l z = atom-found (record { one-up = omega arith; no-zero = λ m. z })
+
+  pub one-digit : (end ≡ d → ⊥) → end ≤ d + 1 → Atom v end ≡ capped (atomAt s d)
+  one-digit f l = atom-found (record { one-up = omega arith; no-zero = λ m g. omega arith })
+
 -- ---- the token, by the tests of `token_at`
 
 module _ (s : List ℕ) (at p : ℕ) (past : p ≡ start s at) where
@@ -35,21 +57,31 @@ module _ (s : List ℕ) (at p : ℕ) (past : p ≡ start s at) where
   pub sign-found : p < length s → (getD s p 0 ≡ 97 → ⊥) → Sign (getD s p 0) (p + 1) ≡ capped (tokenAt s at)
   sign-found h e = sym (ap capped (token-sign s at p past h e))
 
-  module _ (h : p < length s) (e : getD s p 0 ≡ 97) (end v : ℕ) (end-is : end ≡ p + 1 + digits (drop (p + 1) s)) (v-is : v ≡ min 255 (value 0 (drop (p + 1) s))) where
-    pub no-digit : end ≡ p + 1 → Other ≡ capped (tokenAt s at)
-    no-digit f = sym (ap capped (token-bad s at p past h e (numeral-empty (digits (drop (p + 1) s)) (getD s (p + 1) 0) (omega arith))))
+  pub letter-found : (r : Token) → p < length s → getD s p 0 ≡ 97 → r ≡ capped (atomAt s (p + 1)) → r ≡ capped (tokenAt s at)
+  letter-found r h e f = f ∙ sym (ap capped (token-letter s at p past h e))
 
-    pub zero-first : p + 1 + 1 < end → getD s (p + 1) 0 ≡ 48 → Other ≡ capped (tokenAt s at)
-    zero-first l z = sym (ap capped (token-bad s at p past h e (numeral-zero (digits (drop (p + 1) s)) (getD s (p + 1) 0) (omega arith) z)))
+  pub number-found : (r : Token) → r ≡ capped (atomAt s p) → r ≡ capped (numberAt s at)
+  unfolding numberAt
+  number-found r f = f ∙ ap (λ (x : ℕ). capped (atomAt s x)) past
 
-    atom-found : Numeric (digits (drop (p + 1) s)) (getD s (p + 1) 0) → Atom v end ≡ capped (tokenAt s at)
-    atom-found n = ap (λ (x : ℕ). Atom x end) v-is ∙ ap (Atom (min 255 (value 0 (drop (p + 1) s)))) end-is ∙ sym (ap capped (token-atom s at p past h e n))
+  pub past-found : (r b : ℕ) → r ≡ signFrom s p b → r ≡ signAt s at b
+  past-found r b f = f ∙ ap (λ (x : ℕ). signFrom s x b) past ∙ sign-skipped s at b
 
-    pub many-digits : p + 1 + 1 < end → (getD s (p + 1) 0 ≡ 48 → ⊥) → Atom v end ≡ capped (tokenAt s at)
-    many-digits l z = atom-found (record { one-up = omega arith; no-zero = λ m. z })
+-- ---- the number of a window, by its token
 
-    pub one-digit : (end ≡ p + 1 → ⊥) → end ≤ p + 1 + 1 → Atom v end ≡ capped (tokenAt s at)
-    one-digit f l = atom-found (record { one-up = omega arith; no-zero = λ m g. omega arith })
+module _ (s : List ℕ) (b : ℕ) (t : Lexer.Token) (x : Token) (token-is : x ≡ capped t) where
+  pub record BoundIs (v next : ℕ) : Type 0 where
+    pub value : v ≡ valueOf t
+    pub behind : next ≡ nextOf s b t
+
+  pub bound-none : x ≡ Other → BoundIs 0 0
+  bound-none e = let f = none-of t x token-is e in record { value = sym (ap valueOf f); behind = sym (ap (nextOf s b) f) }
+
+  pub bound-sign : (c next : ℕ) → x ≡ Sign c next → BoundIs 0 0
+  bound-sign c next e = let f = sign-of t x c next token-is e in record { value = sym (ap valueOf f); behind = sym (ap (nextOf s b) f) }
+
+  pub bound-found : (a next q : ℕ) → x ≡ Atom a next → q ≡ signAt s next b → BoundIs a q
+  bound-found a next q e f = let g = atom-of t x a next token-is e in record { value = g .cut ∙ sym (ap valueOf (g .is)); behind = f ∙ sym (ap (nextOf s b) (g .is)) }
 
 -- ---- a sign, by the byte where its token begins
 

@@ -1,5 +1,7 @@
 pub mod Sent
 pub mod Turns
-pub mod Blank
+pub mod Fields
 pub mod Signs
+pub mod DigitWords
 pub mod Names
+pub mod Units

@@ -1,7 +1,7 @@
 -- Texts put one after the other where there is room for them.
 use mathlib.Core.Path.{_≡_, refl, _∙_, subst}
 use mathlib.Core.List.{List, [], _++_}
-use Prim.Native.Nat.{ℕ, _+_, _≤_}
+use Prim.Native.Nat.{ℕ, _+_, _≤_, _<_}
 use native.Mathlib.Omega.{arith}
 use lib.ListN.{length, length-append}
 use lib.Seq.{sets}
@@ -15,6 +15,14 @@ pub record Sent (at : ℕ) (xs before after : List ℕ) (next : ℕ) : Type 0 wh
 
 pub sent-none : (at : ℕ) (l : List ℕ) → Sent at [] l l at
 sent-none at l = record { ends = omega arith; content = λ h. refl; same = refl }
+
+-- put, where there was room
+pub sent-put : {at r : ℕ} {xs l m : List ℕ} → Put at xs l m r → length m ≡ length l → Sent at xs l m r
+sent-put p e = record { ends = p .ends; content = λ h. p .content; same = e }
+
+-- nothing is put, for want of room
+pub sent-out : {at r : ℕ} {xs l : List ℕ} → r ≡ at + length xs → length l < r → Sent at xs l l r
+sent-out e h = record { ends = e; content = λ g. absurd (omega arith); same = refl }
 
 -- one text behind another
 pub sent-also : {at k r : ℕ} {xs ys l m n : List ℕ} → Sent at xs l m k → Sent k ys m n r → Sent at (xs ++ ys) l n r

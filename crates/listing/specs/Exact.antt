@@ -55,14 +55,14 @@ page-exact input = record {
   bad = λ n. sym (shown-page 1025 input (omega arith)) ∙ shown-bad 1025 input n;
 }
 
--- ---- a page buffer of 160,000 bytes
+-- ---- a page buffer of 184,000 bytes
 
 -- it keeps its length
-pub page-length : (xs l l′ : List ℕ) → length l ≡ 160000 → l′ ≡ sets l 0 xs → length l′ ≡ 160000
+pub page-length : (xs l l′ : List ℕ) → length l ≡ 184000 → l′ ≡ sets l 0 xs → length l′ ≡ 184000
 page-length xs l l′ e f = ap length f ∙ length-sets l 0 xs ∙ e
 
 -- a page that fits it stands at its start, and what stood behind is kept
-pub page-front : (xs l : List ℕ) → length l ≡ 160000 → length xs ≤ 160000 → sets l 0 xs ≡ xs ++ drop (length xs) l
+pub page-front : (xs l : List ℕ) → length l ≡ 184000 → length xs ≤ 184000 → sets l 0 xs ≡ xs ++ drop (length xs) l
 page-front xs l e h =
     let f : 0 + length xs ≤ length l = omega arith in
     let z : 0 + length xs ≡ length xs = omega arith in

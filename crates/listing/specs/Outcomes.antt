@@ -1,20 +1,20 @@
 -- What an answer of the reader or the row writer tells of its outcome.
-use mathlib.Core.Path.{_≡_, refl, sym, ap, _∙_}
+use mathlib.Core.Path.{_≡_, refl, sym, ap, ap₂, subst⁻¹, _∙_}
 use mathlib.Core.Bool.{Bool, true, false}
-use mathlib.Core.List.{List, [], _∷_, _++_}
+use mathlib.Core.List.{List, [], _∷_, _++_, append-assoc}
 use Prim.Native.Nat.{ℕ, zero, suc, _+_, _*_, min, _≤_, _<_}
 use native.Mathlib.Nat.{mul-le-mul}
 use native.Mathlib.Omega.{arith}
 use lib.Dec.{leb}
 use borrow.Author.Tests.{leb-true, leb-false, le-leb, lt-leb}
-use lib.ListN.{length, getD, take, drop, length-append}
-use lib.Seq.{getD-append-add, take-at, take-all}
+use lib.ListN.{length, getD, take, drop, length-append, length-drop}
+use lib.Seq.{take-at, drop-at, take-all}
 use Rattle.lists.specs.Every.{Every}
 use Rattle.rules.specs.Rule.{size}
 use Rattle.rules.specs.Table.{Node, tableBytes, nodesOf}
 use Rattle.rules.specs.TableRules.{length-nodesFrom}
-use Rattle.rules.specs.Rows.{Row, rowBytes, rowsBytes, rowsOf, rowsIn}
-use Rattle.rules.specs.RowRecords.{Recordable, length-row, length-rows, rows-recordable}
+use Rattle.rules.specs.Rows.{Row, rowBytes, rowsBytes, rowsOf, rowIn, rowsIn}
+use Rattle.rules.specs.RowRecords.{Recordable, rowLength, length-row, row-back, rows-back, rows-recordable}
 use Rattle.rules.specs.Refusals.{TextRefused, ReadRefused, TableRefused, RowsRefused}
 use Rattle.rules.specs.Demands
 use Rattle.rules.specs.Demands.{Written}
@@ -23,11 +23,11 @@ use Rattle.rules.specs.Demands.Written.{wrote}
 use Rattle.rules.specs.Outcome.{result, buffer, require, between, readOutcome, rowsOutcome}
 use Rattle.rules.specs.Theorems.{reader-exact, rows-exact}
 use Rattle.answers.specs.declared.Refusal.{Refusal}
-use Rattle.answers.specs.declared.Refusal.the-variants.{Slots, Atoms, LongText, Grammar, AtomNumber, Nodes, Table, Run, Figures, Tolerance, Room}
+use Rattle.answers.specs.declared.Refusal.the-variants.{Slots, Atoms, LongText, Grammar, AtomNumber, Nodes, Table, Run, Figures, Tolerance, Room, Window}
 use Rattle.answers.specs.declared.Answer.{Answer}
 use Rattle.answers.specs.declared.Answer.the-variants.{Value, Refused}
 use Rattle.answers.specs.Told.{numberOf, told}
-use Rattle.rowtext.specs.RowText.{FewTerms, headText, rowsText}
+use Rattle.rowtext.specs.RowText.{Whole, headText, rowsText}
 use Rattle.input.specs.declared.Scan.{Scan}
 use Rattle.input.specs.Scanning.{state, shaped}
 use Rattle.listing.specs.Page.{rowsThen, readThen, ruleOutcome, listed, refusedText, printed, listing, badInput, shown}
@@ -65,6 +65,7 @@ number-small Run = omega arith
 number-small Figures = omega arith
 number-small Tolerance = omega arith
 number-small Room = omega arith
+number-small Window = omega arith
 
 -- ---- a rule read for T slots
 
@@ -77,7 +78,7 @@ unfolding ruleOutcome
 many-slots T M text h = rw (le-leb 1 T (omega arith), lt-leb T 64 h) refl
 
 -- T is allowed
-pub rule-outcome : (T M : ℕ) (text : List ℕ) → 1 ≤ T → T ≤ 64 → ruleOutcome T M text ≡ readOutcome M text 640
+pub rule-outcome : (T M : ℕ) (text : List ℕ) → 1 ≤ T → T ≤ 64 → ruleOutcome T M text ≡ readOutcome M text 896
 unfolding ruleOutcome
 rule-outcome T M text l h = rw (le-leb 1 T l, le-leb T 64 h) refl
 
@@ -86,13 +87,13 @@ pub passed : (b : Bool) (k : ℕ) (o : Demands.Answer Written) (w : Written) →
 passed true k o w e = (refl, e)
 passed false k o w e = let z : _≡_ {A = ℕ} 0 1 = cc in absurd (omega arith)
 
-rule-answered : (T M : ℕ) (text : List ℕ) (w : Written) → ruleOutcome T M text ≡ answered w → readOutcome M text 640 ≡ answered w
+rule-answered : (T M : ℕ) (text : List ℕ) (w : Written) → ruleOutcome T M text ≡ answered w → readOutcome M text 896 ≡ answered w
 unfolding ruleOutcome
-rule-answered T M text w e = passed (between 1 64 T) 1 (readOutcome M text 640) w e .1
+rule-answered T M text w e = passed (between 1 64 T) 1 (readOutcome M text 896) w e .1
 
 -- ---- a table that was read
 
-length-table : (ns : List Node) → length (tableBytes ns) ≡ 5 * length ns
+length-table : (ns : List Node) → length (tableBytes ns) ≡ 7 * length ns
 length-table [] = refl
 length-table (n ∷ ns) = omega (arith, length-table ns)
 
@@ -105,11 +106,11 @@ at-most n m h = go (leb n m) refl
 
 pub record TableRead (n : ℕ) (bytes : List ℕ) : Type 0 where
   pub few : n ≤ 128
-  pub size-is : length bytes ≡ 5 * n
+  pub size-is : length bytes ≡ 7 * n
 
 table-read : (T M : ℕ) (text : List ℕ) (n : ℕ) (bytes : List ℕ) → ruleOutcome T M text ≡ answered (wrote n bytes) → TableRead n bytes
 table-read T M text n bytes e =
-    let r = reader-exact M text 640 .answers (wrote n bytes) .0 (rule-answered T M text (wrote n bytes) e) in
+    let r = reader-exact M text 896 .answers (wrote n bytes) .0 (rule-answered T M text (wrote n bytes) e) in
     let p = r .1 .0 in
     let w : wrote n bytes ≡ wrote (size p) (tableBytes (nodesOf p)) = r .1 .2 in
     let a : n ≡ size p = cc in
@@ -121,19 +122,33 @@ table-read T M text n bytes e =
 
 -- ---- rows that were written
 
-few-at : (rs : List Row) → Every Recordable rs → (i : ℕ) → i < length rs → getD (rowsBytes rs) (14 * i + 3) 0 ≤ 3
-few-at [] h i l = absurd (omega arith)
-few-at (r ∷ rs) h zero l = h .0 .few
-few-at (r ∷ rs) h (suc i) l =
-    let e : 14 * suc i + 3 ≡ length (rowBytes r) + (14 * i + 3) = omega (arith, length-row r (h .0)) in
-    rw (e, getD-append-add (rowBytes r) (rowsBytes rs) (14 * i + 3) 0) (few-at rs (h .1) i (omega arith))
+-- their records, whatever follows them: what each is, and that they are whole
+module _ (r : Row) (rs : List Row) (rest : List ℕ) where
+  record-first : rowsBytes (r ∷ rs) ++ rest ≡ rowBytes r ++ (rowsBytes rs ++ rest)
+  record-first = append-assoc (rowBytes r) (rowsBytes rs) rest
+
+  records-after : drop (rowLength r) (rowsBytes (r ∷ rs) ++ rest) ≡ rowsBytes rs ++ rest
+  records-after = ap (drop (rowLength r)) record-first ∙ drop-at (rowBytes r) (rowsBytes rs ++ rest) (rowLength r) (length-row r)
+
+rows-whole : (rs : List Row) (rest : List ℕ) → Whole (length rs) (rowsBytes rs ++ rest)
+rows-whole [] rest = tt
+rows-whole (r ∷ rs) rest = (
+  omega (arith, ap length (record-first r rs rest), length-append (rowBytes r) (rowsBytes rs ++ rest), length-row r),
+  subst⁻¹ (Whole (length rs)) (records-after r rs rest) (rows-whole rs rest),
+)
+
+rows-said : (rs : List Row) (rest : List ℕ) → Every Recordable rs → rowsIn (length rs) (rowsBytes rs ++ rest) ≡ rs
+rows-said [] rest h = refl
+rows-said (r ∷ rs) rest h =
+    ap₂ _∷_ (ap rowIn (record-first r rs rest) ∙ row-back r (rowsBytes rs ++ rest) (h .0))
+    (ap (rowsIn (length rs)) (records-after r rs rest) ∙ rows-said rs rest (h .1))
 
 pub record RowsWritten (T M count : ℕ) (bytes : List ℕ) : Type 0 where
   pub slots : T ≤ 64
   pub atoms : M ≤ 16
-  pub room : 14 * count ≤ 65536
-  pub size-is : length bytes ≡ 14 * count
-  pub few-terms : FewTerms count bytes
+  pub room : length bytes ≤ 65536
+  pub whole : (rest : List ℕ) → Whole count (bytes ++ rest)
+  pub said : (rest : List ℕ) → rowsIn count (bytes ++ rest) ≡ rowsIn count bytes
 
 pub rows-written : (T M : ℕ) (table : List ℕ) (count : ℕ) (bytes : List ℕ) → rowsOutcome T M table 65536 ≡ answered (wrote count bytes) → RowsWritten T M count bytes
 rows-written T M table count bytes e =
@@ -142,14 +157,20 @@ rows-written T M table count bytes e =
     let w : wrote count bytes ≡ wrote (length rs) (rowsBytes rs) = r .1 .2 in
     let a : count ≡ length rs = cc in
     let b : bytes ≡ rowsBytes rs = cc in
-    let k = rows-recordable T M (r .1 .0) in
+    let t : T ≤ 64 = at-most T 64 (λ h. r .0 1 (RowsRefused.table-refused (TableRefused.slots (λ s. omega arith)))) in
+    let k = rows-recordable T M t (r .1 .0) in
     record {
-      slots = at-most T 64 (λ h. r .0 1 (RowsRefused.table-refused (TableRefused.slots (λ s. omega arith))));
+      slots = t;
       atoms = at-most M 16 (λ h. r .0 2 (RowsRefused.table-refused (TableRefused.atoms (λ s. omega arith))));
-      room = omega (arith, at-most (14 * length rs) 65536 (λ h. r .0 11 (RowsRefused.short (r .1 .1) h)));
-      size-is = ap length b ∙ length-rows rs k ∙ omega arith;
-      few-terms = λ i l. rw b (few-at rs k i (omega arith));
+      room = omega (arith, ap length b, at-most (length (rowsBytes rs)) 65536 (λ h. r .0 11 (RowsRefused.short (r .1 .1) h)));
+      whole = λ rest. subst⁻¹ (λ (x : List ℕ). Whole count (x ++ rest)) b (subst⁻¹ (λ (n : ℕ). Whole n (rowsBytes rs ++ rest)) a (rows-whole rs rest));
+      said = λ rest. ap₂ (λ (n : ℕ) (x : List ℕ). rowsIn n (x ++ rest)) a b ∙ rows-said rs rest k ∙ sym (ap₂ rowsIn a b ∙ rows-back rs k);
     }
+
+-- records are whole, so there are few of them
+pub whole-few : (n : ℕ) (b : List ℕ) → Whole n b → 5 * n ≤ length b
+whole-few zero b w = omega arith
+whole-few (suc n) b w = omega (arith, whole-few n (drop (5 + 3 * getD b 3 0) b) (w .1), w .0, length-drop (5 + 3 * getD b 3 0) b)
 
 -- ---- the buffer that was lent, and the bytes from its start
 
@@ -171,25 +192,38 @@ lent o n size z l w e f =
 
 -- a table read into a buffer, l after that
 pub record TableReady (T M : ℕ) (text : List ℕ) (n : ℕ) (l : List ℕ) : Type 0 where
-  pub table : Lent (ruleOutcome T M text) n (5 * n) l
+  pub table : Lent (ruleOutcome T M text) n (7 * n) l
   pub read : TableRead n (table .bytes)
 
 pub table-ready : (T M : ℕ) (text z l : List ℕ) (r : Answer) (n : ℕ) → told r ≡ result (ruleOutcome T M text) → l ≡ buffer (ruleOutcome T M text) z → r ≡ Value n → TableReady T M text n l
 table-ready T M text z l r n e f v =
     let w = told-value (ruleOutcome T M text) r n e v in
-    let t = lent (ruleOutcome T M text) n (5 * n) z l w f (table-read T M text n (w .bytes) (w .is) .size-is) in
+    let t = lent (ruleOutcome T M text) n (7 * n) z l w f (table-read T M text n (w .bytes) (w .is) .size-is) in
     record { table = t; read = table-read T M text n (t .bytes) (t .is) }
 
--- rows written into 65,536 bytes
+-- rows written into 65,536 bytes, l after that
 pub record RowsReady (T M : ℕ) (table : List ℕ) (count : ℕ) (l : List ℕ) : Type 0 where
-  pub rows : Lent (rowsOutcome T M table 65536) count (14 * count) l
-  pub written : RowsWritten T M count (rows .bytes)
+  pub bytes : List ℕ
+  pub is : rowsOutcome T M table 65536 ≡ answered (wrote count bytes)
+  pub written : RowsWritten T M count bytes
+  pub size-is : length l ≡ 65536
+  pub whole : Whole count l
+  pub said : rowsIn count l ≡ rowsIn count bytes
 
 pub rows-ready : (T M : ℕ) (table z l : List ℕ) (r : Answer) (count : ℕ) → length z ≡ 65536 → told r ≡ result (rowsOutcome T M table (length z)) → l ≡ buffer (rowsOutcome T M table (length z)) z → r ≡ Value count → RowsReady T M table count l
 rows-ready T M table z l r count s e f v =
     let w = told-value (rowsOutcome T M table 65536) r count (rw s at e) v in
-    let t = lent (rowsOutcome T M table 65536) count (14 * count) z l w (rw s at f) (rows-written T M table count (w .bytes) (w .is) .size-is) in
-    record { rows = t; written = rows-written T M table count (t .bytes) (t .is) }
+    let k = rows-written T M table count (w .bytes) (w .is) in
+    let rest = drop (length (w .bytes)) z in
+    let g : l ≡ w .bytes ++ rest = rw s at f ∙ ap (λ (x : Demands.Answer Written). buffer x z) (w .is) in
+    record {
+      bytes = w .bytes;
+      is = w .is;
+      written = k;
+      size-is = ap length g ∙ omega (arith, length-append (w .bytes) rest, length-drop (length (w .bytes)) z, k .room);
+      whole = subst⁻¹ (Whole count) g (k .whole rest);
+      said = ap (rowsIn count) g ∙ k .said rest;
+    }
 
 -- there are few variables
 pub variables-few : (T M n : ℕ) → T ≤ 64 → M ≤ 16 → n ≤ 128 → (M + n) * T < 100000
@@ -199,7 +233,7 @@ variables-few T M n t m k = let a : M + n ≤ 144 = omega arith in let h : (M + 
 
 length-rowsIn : (n : ℕ) (b : List ℕ) → length (rowsIn n b) ≡ n
 length-rowsIn zero b = refl
-length-rowsIn (suc n) b = ap suc (length-rowsIn n (drop 14 b))
+length-rowsIn (suc n) b = ap suc (length-rowsIn n (drop (5 + 3 * getD b 3 0) b))
 
 pub printed-rows : (T M n count : ℕ) (bytes : List ℕ) (o : Demands.Answer Written) → o ≡ answered (wrote count bytes) → printed (rowsThen T M n o) ≡ headText count ((M + n) * T) ++ rowsText 0 (rowsIn count bytes)
 printed-rows T M n count bytes o e =
@@ -218,7 +252,7 @@ pub listing-refused : (T M : ℕ) (text : List ℕ) (r : Answer) (k : Refusal) �
 listing-refused T M text r k e v =
     listing-read T M text (refused (numberOf k)) (told-refused (ruleOutcome T M text) r k e v)
 
-pub listing-rows : (T M n : ℕ) (text l : List ℕ) → (t : TableReady T M text n l) → listing T M text ≡ printed (rowsThen T M n (rowsOutcome T M (take (5 * n) l) 65536))
+pub listing-rows : (T M n : ℕ) (text l : List ℕ) → (t : TableReady T M text n l) → listing T M text ≡ printed (rowsThen T M n (rowsOutcome T M (take (7 * n) l) 65536))
 listing-rows T M n text l t =
     listing-read T M text (answered (wrote n (t .table .bytes))) (t .table .is)
     ∙ ap (λ (x : List ℕ). printed (rowsThen T M n (rowsOutcome T M x 65536))) (sym (t .table .front))

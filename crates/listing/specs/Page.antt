@@ -29,11 +29,12 @@ abbrev pub readThen : (T M : ℕ) → Answer Written → Answer Listed
 readThen T M (refused k) = refused k
 readThen T M (answered (wrote N table)) = rowsThen T M N (rowsOutcome T M table 65536)
 
--- a rule read for T slots: the check of T, which is no check of the reader's, and then the reader's answer. Any table fits 640 bytes.
+-- a rule read for T slots: the check of T, which is no check of the reader's, and then the reader's answer. Any table fits 896 bytes.
 unfoldable pub ruleOutcome : (T M : ℕ) (text : List ℕ) → Answer Written
-ruleOutcome T M text = require (between 1 64 T) 1 (readOutcome M text 640)
+ruleOutcome T M text = require (between 1 64 T) 1 (readOutcome M text 896)
 
--- "Of the refusals of reader and row writer, the lowest": 1 is the row writer's, 2 both's, 3 to 6 the reader's, 11 the row writer's.
+-- "Of the refusals of reader and row writer, the lowest", which since request N4 is the first in the order: 1 is the row writer's, 2 both's,
+-- 3, 4, 5, 12 and 6 the reader's, 11 the row writer's.
 -- The reader's table is good and fits, so 7 and the reader's 11 do not occur.
 unfoldable pub listed : (T M : ℕ) (text : List ℕ) → Answer Listed
 listed T M text = readThen T M (ruleOutcome T M text)

@@ -8,7 +8,7 @@ ghost use Rattle.rules.specs.Rows.{rowsIn};
 ghost use Rattle.rules.specs.Outcome.{result, buffer, rowsOutcome};
 ghost use Rattle.answers.specs.Told.{numberOf, told};
 ghost use Rattle.text.specs.Put.{Put};
-ghost use Rattle.rowtext.specs.RowText.{FewTerms, headText, rowsText};
+ghost use Rattle.rowtext.specs.RowText.{Whole, headText, rowsText};
 ghost use Rattle.input.specs.Scanning.{state};
 ghost use Rattle.listing.specs.Page.{rowsThen, ruleOutcome, refusedText, printed, listing, page, shown};
 
@@ -30,11 +30,11 @@ fn put_listing(
     n: usize,
     t: usize,
     m: usize,
-    out: &mut [u8; 160000],
+    out: &mut [u8; 184000],
 ) -> usize
-    requires { ⌜ (n ≤ 128) × (t ≤ 64) × (m ≤ 16) × (14 * count ≤ 65536) × (14 * count ≤ length (now rows)) ⌝ }
-    requires { ⌜ FewTerms count (now rows) ⌝ }
-    ensures { λ r. ⌜ Put 0 (headText count ((m + n) * t) ++ rowsText 0 (rowsIn count (now (rows .entry)))) (now (out .entry)) (now (out .exit)) r × (r ≤ 160000) ⌝ }
+    requires { ⌜ (n ≤ 128) × (t ≤ 64) × (m ≤ 16) × (length (now rows) ≤ 65536) ⌝ }
+    requires { ⌜ Whole count (now rows) ⌝ }
+    ensures { λ r. ⌜ Put 0 (headText count ((m + n) * t) ++ rowsText 0 (rowsIn count (now (rows .entry)))) (now (out .entry)) (now (out .exit)) r × (r ≤ 184000) ⌝ }
 {
     let next = rowtext::put_head(out, count, (m + n) * t);
     rowtext::put_rows(out, next, count, rows)
@@ -47,24 +47,21 @@ fn list_rows(
     t: usize,
     m: usize,
     rows: &mut [u8],
-    out: &mut [u8; 160000],
+    out: &mut [u8; 184000],
 ) -> usize
     requires { ⌜ (n ≤ 128) × (length (now rows) ≡ 65536) ⌝ }
-    ensures { λ r. ⌜ Put 0 (printed (rowsThen t m n (rowsOutcome t m (now (table .entry)) 65536))) (now (out .entry)) (now (out .exit)) r × (r ≤ 160000) ⌝ }
+    ensures { λ r. ⌜ Put 0 (printed (rowsThen t m n (rowsOutcome t m (now (table .entry)) 65536))) (now (out .entry)) (now (out .exit)) r × (r ≤ 184000) ⌝ }
 {
     match rows::write_rows(table, t, m, rows) {
         answers::Answer::Refused(refusal) => put_refusal(out, refusal),
-        answers::Answer::Value(count) => {
-            let end = 14 * count;
-            put_listing(&rows[..end], count, n, t, m, out)
-        }
+        answers::Answer::Value(count) => { put_listing(&rows[..65536], count, n, t, m, out) }
     }
 }
 
 // The rows of a table of `n` nodes.
-fn list_table(table: &[u8], n: usize, t: usize, m: usize, out: &mut [u8; 160000]) -> usize
+fn list_table(table: &[u8], n: usize, t: usize, m: usize, out: &mut [u8; 184000]) -> usize
     requires { ⌜ n ≤ 128 ⌝ }
-    ensures { λ r. ⌜ Put 0 (printed (rowsThen t m n (rowsOutcome t m (now (table .entry)) 65536))) (now (out .entry)) (now (out .exit)) r × (r ≤ 160000) ⌝ }
+    ensures { λ r. ⌜ Put 0 (printed (rowsThen t m n (rowsOutcome t m (now (table .entry)) 65536))) (now (out .entry)) (now (out .exit)) r × (r ≤ 184000) ⌝ }
 {
     let mut rows = [0u8; 65536];
     list_rows(table, n, t, m, &mut rows, out)
@@ -72,7 +69,7 @@ fn list_table(table: &[u8], n: usize, t: usize, m: usize, out: &mut [u8; 160000]
 
 // Reads a rule for `t` slots into `table`: the check of `t`, and then the reader.
 pub fn read_rule(text: &[u8], t: usize, m: usize, table: &mut [u8]) -> answers::Answer
-    requires { ⌜ length (now table) ≡ 640 ⌝ }
+    requires { ⌜ length (now table) ≡ 896 ⌝ }
     ensures { λ r. ⌜ told r ≡ result (ruleOutcome t m (now (text .entry))) ⌝ }
     ensures { λ _. ⌜ now (table .exit) ≡ buffer (ruleOutcome t m (now (text .entry))) (now (table .entry)) ⌝ }
 {
@@ -85,15 +82,15 @@ pub fn read_rule(text: &[u8], t: usize, m: usize, table: &mut [u8]) -> answers::
     reader::read(text, m, table)
 }
 
-// The rows of a rule, or the lowest refusal.
-fn list(text: &[u8], t: usize, m: usize, out: &mut [u8; 160000]) -> usize
-    ensures { λ r. ⌜ Put 0 (listing t m (now (text .entry))) (now (out .entry)) (now (out .exit)) r × (r ≤ 160000) ⌝ }
+// The rows of a rule, or the first refusal.
+fn list(text: &[u8], t: usize, m: usize, out: &mut [u8; 184000]) -> usize
+    ensures { λ r. ⌜ Put 0 (listing t m (now (text .entry))) (now (out .entry)) (now (out .exit)) r × (r ≤ 184000) ⌝ }
 {
-    let mut table = [0u8; 640];
+    let mut table = [0u8; 896];
     match read_rule(text, t, m, &mut table) {
         answers::Answer::Refused(refusal) => put_refusal(out, refusal),
         answers::Answer::Value(n) => {
-            let end = 5 * n;
+            let end = 7 * n;
             list_table(&table[..end], n, t, m, out)
         }
     }
@@ -107,8 +104,8 @@ pub fn least(a: usize, b: usize) -> usize
 }
 
 // The page that a scan and its text stand for, from the start of `out`; the result is its length.
-pub fn print(scan: input::Scan, text: &[u8], out: &mut [u8; 160000]) -> usize
-    ensures { λ r. ⌜ (r ≡ length (shown (state scan (now (text .entry))))) × (r ≤ 160000) ⌝ }
+pub fn print(scan: input::Scan, text: &[u8], out: &mut [u8; 184000]) -> usize
+    ensures { λ r. ⌜ (r ≡ length (shown (state scan (now (text .entry))))) × (r ≤ 184000) ⌝ }
     ensures { λ _. ⌜ now (out .exit) ≡ sets (now (out .entry)) 0 (shown (state scan (now (text .entry)))) ⌝ }
 {
     let stage = scan.stage;
@@ -123,8 +120,8 @@ pub fn print(scan: input::Scan, text: &[u8], out: &mut [u8; 160000]) -> usize
 }
 
 // The page of a whole input.
-pub fn page_of(bytes: &[u8], out: &mut [u8; 160000]) -> usize
-    ensures { λ r. ⌜ (r ≡ length (page (now (bytes .entry)))) × (r ≤ 160000) ⌝ }
+pub fn page_of(bytes: &[u8], out: &mut [u8; 184000]) -> usize
+    ensures { λ r. ⌜ (r ≡ length (page (now (bytes .entry)))) × (r ≤ 184000) ⌝ }
     ensures { λ _. ⌜ now (out .exit) ≡ sets (now (out .entry)) 0 (page (now (bytes .entry))) ⌝ }
 {
     let mut text = [0u8; 1025];

@@ -1,12 +1,13 @@
 -- `flat f n` is f 0, f 1, .., f (n - 1), one after the other.
 use mathlib.Core.Path.{_≡_, refl, sym, ap, ap₂, _∙_}
-use mathlib.Core.List.{List, [], _++_, append-assoc, append-nil}
+use mathlib.Core.List.{List, [], _∷_, _++_, append-assoc, append-nil}
 use Prim.Native.Nat.{ℕ, zero, suc, _+_, _-_, _*_, _≤_, _<_}
 use native.Mathlib.Numerals.{add-one}
 use native.Mathlib.Decide.{le-ind}
 use native.Mathlib.Nat.{le-refl, suc-mul}
 use native.Mathlib.Omega.{arith}
 use lib.ListN.{length, length-append}
+use Rattle.lists.specs.Tabulate.{tabulate}
 
 module _ {A : Type 0} where
   unfoldable pub flat : (ℕ → List A) → ℕ → List A
@@ -49,3 +50,8 @@ module _ {A : Type 0} where
   unfolding flat
   flat-first f zero = sym (append-nil (f 0))
   flat-first f (suc n) = ap (λ (l : List A). l ++ f (suc n)) (flat-first f n) ∙ append-assoc (f 0) (flat (λ i. f (suc i)) n) (f (suc n))
+
+  -- parts of one element
+  pub flat-singles : (f : ℕ → A) (n : ℕ) → flat (λ i. f i ∷ []) n ≡ tabulate n f
+  flat-singles f zero = flat-zero (λ i. f i ∷ [])
+  flat-singles f (suc n) = flat-first (λ i. f i ∷ []) n ∙ ap (λ (l : List A). f 0 ∷ l) (flat-singles (λ i. f (suc i)) n)

@@ -1,9 +1,11 @@
 pub mod Tests
 pub mod All
+pub mod Any
 pub mod Every
 pub mod First
 pub mod Scan
 pub mod Tabulate
+pub mod Passing
 pub mod Flat
 pub mod Place
 pub mod Splice

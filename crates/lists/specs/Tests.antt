@@ -44,3 +44,10 @@ is-true false t = absurd t
 pub is-false : (b : Bool) → (Is b → ⊥) → b ≡ false
 is-false true t = absurd (t tt)
 is-false false t = refl
+
+-- two tests of one thing are one
+pub same-tests : (a b : Bool) → Is a ↔ Is b → a ≡ b
+same-tests true true h = refl
+same-tests true false h = absurd (h .0 tt)
+same-tests false true h = absurd (h .1 tt)
+same-tests false false h = refl

@@ -1,4 +1,4 @@
--- The page's outcome is exact: refused with the lowest number that applies, of 1, 2, 7 and 11, and else the page and its length.
+-- The page's outcome is exact: refused with the first that applies, of 1, 2, 7 and 11, and else the page and its length.
 use mathlib.Core.Path.{_≡_, refl, sym, ap, _∙_}
 use mathlib.Core.List.{List}
 use Prim.Native.Nat.{ℕ, _≤_, _<_}
@@ -8,7 +8,7 @@ use borrow.Author.Tests.{leb-false, leb-true}
 use lib.ListN.{length}
 use Rattle.rules.specs.Table.{Node, Good}
 use Rattle.rules.specs.TableTest.{nodesIn, good-nodes}
-use Rattle.rules.specs.Refusals.{TableRefused}
+use Rattle.rules.specs.Refusals.{place, TableRefused}
 use Rattle.rules.specs.Demands.{Written}
 use Rattle.rules.specs.Demands.Written.{wrote}
 use Rattle.rules.specs.Ladder.{From, rung, exact-answered}
@@ -22,20 +22,20 @@ module _ (T M : ℕ) (table : List ℕ) (room : ℕ) where
   abbrev PageIs : Written → Type 0
   PageIs w = (ns : List Node) × Good M table ns × (w ≡ wrote (length (page T M ns)) (page T M ns))
 
-  page-down : (j : ℕ) → PageRefused T M table room j → j < 8 → TableRefused T M table j
+  page-down : (j : ℕ) → PageRefused T M table room j → place j < place 8 → TableRefused T M table j
   page-down j x h = go x h
     where
-      go : {j : ℕ} → PageRefused T M table room j → j < 8 → TableRefused T M table j
+      go : {j : ℕ} → PageRefused T M table room j → place j < place 8 → TableRefused T M table j
       go (PageRefused.table-refused x) h = x
       go (PageRefused.short g x) h = absurd (omega arith)
 
-  page-from : (k : ℕ) → From (PageRefused T M table room) PageIs 8 →
-      (11 < k → (ns : List Node) → Good M table ns → length (page T M ns) ≤ room) → k ≤ 12 → (j : ℕ) → PageRefused T M table room j → (k ≤ j) × (j < 12)
+  page-from : (k : ℕ) → From (PageRefused T M table room) PageIs (place 8) →
+      (place 11 < k → (ns : List Node) → Good M table ns → length (page T M ns) ≤ room) → k ≤ 12 → (j : ℕ) → PageRefused T M table room j → (k ≤ place j) × (place j < 12)
   page-from k a c u j x = go (a j x) x
     where
-      go : {j : ℕ} → 8 ≤ j → PageRefused T M table room j → (k ≤ j) × (j < 12)
+      go : {j : ℕ} → place 8 ≤ place j → PageRefused T M table room j → (k ≤ place j) × (place j < 12)
       go h (PageRefused.table-refused x) = absurd (omega (arith, table-under T M table x))
-      go h (PageRefused.short {ns} g x) = (at-least 11 k (λ i. omega (arith, c i ns g)), omega arith)
+      go h (PageRefused.short {ns} g x) = (at-least (place 11) k (λ i. omega (arith, c i ns g)), omega arith)
 
 pub page-exact : PageExact pageOutcome
 unfolding pageOutcome
@@ -46,7 +46,7 @@ page-exact T M table room =
     table-exact T M table Refused AnswerIs (λ k x. PageRefused.table-refused x) (page-down T M table room) _
     (λ s m g low.
     rung Refused AnswerIs (leb (length text) room) 11 _
-    (λ j x. page-from T M table room 11 low (λ h. absurd (omega arith)) (omega arith) j x .0)
+    (λ j x. page-from T M table room (place 11) low (λ h. absurd (omega arith)) (omega arith) j x .0)
     (λ e. PageRefused.short g (leb-false (length text) room e))
     (λ e. let f = of-nodes T M table (λ ns. length (page T M ns) ≤ room) (leb-true (length text) room e) in
     exact-answered Refused AnswerIs (wrote (length text) text)

@@ -1,11 +1,13 @@
--- Two pages byte for byte; beside each line's bytes, its text.
+-- Three pages byte for byte; beside each line's bytes, its text.
 use mathlib.Core.Path.{_≡_, refl}
 use mathlib.Core.List.{List, [], _∷_}
 use Prim.Native.Nat.{ℕ}
+use Rattle.lists.specs.Any.{any}
 use Rattle.lists.specs.Flat.{flat}
 use Rattle.rules.specs.Rule.Binary.{and, implies, until}
+use Rattle.rules.specs.Rule.Window.{within, throughout}
 use Rattle.rules.specs.Table.{Node}
-use Rattle.rules.specs.Table.Node.{atom, binary}
+use Rattle.rules.specs.Table.Node.{atom, binary, windowed}
 use Rattle.text.specs.Decimal.{digitsTo, decimal}
 use Rattle.mps.specs.Merged.{coefficient, stands}
 use Rattle.mps.specs.Page.{field, typeLine, rowLine, numberLine, numberUnlessZero, eachRow, costLine, columnLines, binaryLine, upperLine, rowSection, columnSection, rightSection, boundSection, pageOf, page}
@@ -126,3 +128,69 @@ mergingPage =
 pub merging-page : page 1 2 mergingNodes ≡ mergingPage
 unfolding page pageOf rowSection columnSection rightSection boundSection typeLine rowLine numberLine numberUnlessZero eachRow costLine columnLines binaryLine upperLine field coefficient stands flat decimal digitsTo
 merging-page = refl
+
+-- ---- windows: the rule F[0,1]G[1,1]a0 with T = 2 and M = 1. G has a window of one slot, so its last row has the right side 0.
+-- F has a window of both slots at slot 1, and of slot 2 alone at slot 2.
+
+abbrev pub windowNodes : List Node
+windowNodes = atom 0 ∷ windowed throughout 1 1 0 ∷ windowed within 0 1 1 ∷ []
+
+abbrev pub windowPage : List ℕ
+windowPage =
+    78 ∷ 65 ∷ 77 ∷ 69 ∷ 10 ∷  -- NAME
+    82 ∷ 79 ∷ 87 ∷ 83 ∷ 10 ∷  -- ROWS
+    32 ∷ 78 ∷ 32 ∷ 32 ∷ 67 ∷ 79 ∷ 83 ∷ 84 ∷ 10 ∷  --  N  COST
+    32 ∷ 69 ∷ 32 ∷ 32 ∷ 82 ∷ 48 ∷ 10 ∷  --  E  R0
+    32 ∷ 69 ∷ 32 ∷ 32 ∷ 82 ∷ 49 ∷ 10 ∷  --  E  R1
+    32 ∷ 71 ∷ 32 ∷ 32 ∷ 82 ∷ 50 ∷ 10 ∷  --  G  R2
+    32 ∷ 71 ∷ 32 ∷ 32 ∷ 82 ∷ 51 ∷ 10 ∷  --  G  R3
+    32 ∷ 71 ∷ 32 ∷ 32 ∷ 82 ∷ 52 ∷ 10 ∷  --  G  R4
+    32 ∷ 71 ∷ 32 ∷ 32 ∷ 82 ∷ 53 ∷ 10 ∷  --  G  R5
+    32 ∷ 71 ∷ 32 ∷ 32 ∷ 82 ∷ 54 ∷ 10 ∷  --  G  R6
+    32 ∷ 71 ∷ 32 ∷ 32 ∷ 82 ∷ 55 ∷ 10 ∷  --  G  R7
+    32 ∷ 71 ∷ 32 ∷ 32 ∷ 82 ∷ 56 ∷ 10 ∷  --  G  R8
+    32 ∷ 71 ∷ 32 ∷ 32 ∷ 82 ∷ 57 ∷ 10 ∷  --  G  R9
+    32 ∷ 71 ∷ 32 ∷ 32 ∷ 82 ∷ 49 ∷ 48 ∷ 10 ∷  --  G  R10
+    32 ∷ 69 ∷ 32 ∷ 32 ∷ 82 ∷ 49 ∷ 49 ∷ 10 ∷  --  E  R11
+    67 ∷ 79 ∷ 76 ∷ 85 ∷ 77 ∷ 78 ∷ 83 ∷ 10 ∷  -- COLUMNS
+    32 ∷ 32 ∷ 32 ∷ 32 ∷ 88 ∷ 48 ∷ 32 ∷ 32 ∷ 32 ∷ 32 ∷ 32 ∷ 32 ∷ 32 ∷ 32 ∷ 82 ∷ 48 ∷ 32 ∷ 32 ∷ 32 ∷ 32 ∷ 32 ∷ 32 ∷ 32 ∷ 32 ∷ 45 ∷ 49 ∷ 10 ∷  --     X0        R0        -1
+    32 ∷ 32 ∷ 32 ∷ 32 ∷ 88 ∷ 49 ∷ 32 ∷ 32 ∷ 32 ∷ 32 ∷ 32 ∷ 32 ∷ 32 ∷ 32 ∷ 82 ∷ 49 ∷ 32 ∷ 32 ∷ 32 ∷ 32 ∷ 32 ∷ 32 ∷ 32 ∷ 32 ∷ 45 ∷ 49 ∷ 10 ∷  --     X1        R1        -1
+    32 ∷ 32 ∷ 32 ∷ 32 ∷ 88 ∷ 50 ∷ 32 ∷ 32 ∷ 32 ∷ 32 ∷ 32 ∷ 32 ∷ 32 ∷ 32 ∷ 82 ∷ 48 ∷ 32 ∷ 32 ∷ 32 ∷ 32 ∷ 32 ∷ 32 ∷ 32 ∷ 32 ∷ 49 ∷ 10 ∷  --     X2        R0        1
+    32 ∷ 32 ∷ 32 ∷ 32 ∷ 88 ∷ 51 ∷ 32 ∷ 32 ∷ 32 ∷ 32 ∷ 32 ∷ 32 ∷ 32 ∷ 32 ∷ 82 ∷ 49 ∷ 32 ∷ 32 ∷ 32 ∷ 32 ∷ 32 ∷ 32 ∷ 32 ∷ 32 ∷ 49 ∷ 10 ∷  --     X3        R1        1
+    32 ∷ 32 ∷ 32 ∷ 32 ∷ 88 ∷ 51 ∷ 32 ∷ 32 ∷ 32 ∷ 32 ∷ 32 ∷ 32 ∷ 32 ∷ 32 ∷ 82 ∷ 50 ∷ 32 ∷ 32 ∷ 32 ∷ 32 ∷ 32 ∷ 32 ∷ 32 ∷ 32 ∷ 49 ∷ 10 ∷  --     X3        R2        1
+    32 ∷ 32 ∷ 32 ∷ 32 ∷ 88 ∷ 51 ∷ 32 ∷ 32 ∷ 32 ∷ 32 ∷ 32 ∷ 32 ∷ 32 ∷ 32 ∷ 82 ∷ 51 ∷ 32 ∷ 32 ∷ 32 ∷ 32 ∷ 32 ∷ 32 ∷ 32 ∷ 32 ∷ 45 ∷ 49 ∷ 10 ∷  --     X3        R3        -1
+    32 ∷ 32 ∷ 32 ∷ 32 ∷ 88 ∷ 51 ∷ 32 ∷ 32 ∷ 32 ∷ 32 ∷ 32 ∷ 32 ∷ 32 ∷ 32 ∷ 82 ∷ 52 ∷ 32 ∷ 32 ∷ 32 ∷ 32 ∷ 32 ∷ 32 ∷ 32 ∷ 32 ∷ 49 ∷ 10 ∷  --     X3        R4        1
+    32 ∷ 32 ∷ 32 ∷ 32 ∷ 88 ∷ 51 ∷ 32 ∷ 32 ∷ 32 ∷ 32 ∷ 32 ∷ 32 ∷ 32 ∷ 32 ∷ 82 ∷ 53 ∷ 32 ∷ 32 ∷ 32 ∷ 32 ∷ 32 ∷ 32 ∷ 32 ∷ 32 ∷ 45 ∷ 49 ∷ 10 ∷  --     X3        R5        -1
+    32 ∷ 32 ∷ 32 ∷ 32 ∷ 88 ∷ 52 ∷ 32 ∷ 32 ∷ 32 ∷ 32 ∷ 32 ∷ 32 ∷ 32 ∷ 32 ∷ 82 ∷ 50 ∷ 32 ∷ 32 ∷ 32 ∷ 32 ∷ 32 ∷ 32 ∷ 32 ∷ 32 ∷ 45 ∷ 49 ∷ 10 ∷  --     X4        R2        -1
+    32 ∷ 32 ∷ 32 ∷ 32 ∷ 88 ∷ 52 ∷ 32 ∷ 32 ∷ 32 ∷ 32 ∷ 32 ∷ 32 ∷ 32 ∷ 32 ∷ 82 ∷ 51 ∷ 32 ∷ 32 ∷ 32 ∷ 32 ∷ 32 ∷ 32 ∷ 32 ∷ 32 ∷ 49 ∷ 10 ∷  --     X4        R3        1
+    32 ∷ 32 ∷ 32 ∷ 32 ∷ 88 ∷ 52 ∷ 32 ∷ 32 ∷ 32 ∷ 32 ∷ 32 ∷ 32 ∷ 32 ∷ 32 ∷ 82 ∷ 54 ∷ 32 ∷ 32 ∷ 32 ∷ 32 ∷ 32 ∷ 32 ∷ 32 ∷ 32 ∷ 45 ∷ 49 ∷ 10 ∷  --     X4        R6        -1
+    32 ∷ 32 ∷ 32 ∷ 32 ∷ 88 ∷ 52 ∷ 32 ∷ 32 ∷ 32 ∷ 32 ∷ 32 ∷ 32 ∷ 32 ∷ 32 ∷ 82 ∷ 56 ∷ 32 ∷ 32 ∷ 32 ∷ 32 ∷ 32 ∷ 32 ∷ 32 ∷ 32 ∷ 49 ∷ 10 ∷  --     X4        R8        1
+    32 ∷ 32 ∷ 32 ∷ 32 ∷ 88 ∷ 53 ∷ 32 ∷ 32 ∷ 32 ∷ 32 ∷ 32 ∷ 32 ∷ 32 ∷ 32 ∷ 82 ∷ 52 ∷ 32 ∷ 32 ∷ 32 ∷ 32 ∷ 32 ∷ 32 ∷ 32 ∷ 32 ∷ 45 ∷ 49 ∷ 10 ∷  --     X5        R4        -1
+    32 ∷ 32 ∷ 32 ∷ 32 ∷ 88 ∷ 53 ∷ 32 ∷ 32 ∷ 32 ∷ 32 ∷ 32 ∷ 32 ∷ 32 ∷ 32 ∷ 82 ∷ 53 ∷ 32 ∷ 32 ∷ 32 ∷ 32 ∷ 32 ∷ 32 ∷ 32 ∷ 32 ∷ 49 ∷ 10 ∷  --     X5        R5        1
+    32 ∷ 32 ∷ 32 ∷ 32 ∷ 88 ∷ 53 ∷ 32 ∷ 32 ∷ 32 ∷ 32 ∷ 32 ∷ 32 ∷ 32 ∷ 32 ∷ 82 ∷ 55 ∷ 32 ∷ 32 ∷ 32 ∷ 32 ∷ 32 ∷ 32 ∷ 32 ∷ 32 ∷ 45 ∷ 49 ∷ 10 ∷  --     X5        R7        -1
+    32 ∷ 32 ∷ 32 ∷ 32 ∷ 88 ∷ 53 ∷ 32 ∷ 32 ∷ 32 ∷ 32 ∷ 32 ∷ 32 ∷ 32 ∷ 32 ∷ 82 ∷ 56 ∷ 32 ∷ 32 ∷ 32 ∷ 32 ∷ 32 ∷ 32 ∷ 32 ∷ 32 ∷ 49 ∷ 10 ∷  --     X5        R8        1
+    32 ∷ 32 ∷ 32 ∷ 32 ∷ 88 ∷ 53 ∷ 32 ∷ 32 ∷ 32 ∷ 32 ∷ 32 ∷ 32 ∷ 32 ∷ 32 ∷ 82 ∷ 57 ∷ 32 ∷ 32 ∷ 32 ∷ 32 ∷ 32 ∷ 32 ∷ 32 ∷ 32 ∷ 45 ∷ 49 ∷ 10 ∷  --     X5        R9        -1
+    32 ∷ 32 ∷ 32 ∷ 32 ∷ 88 ∷ 53 ∷ 32 ∷ 32 ∷ 32 ∷ 32 ∷ 32 ∷ 32 ∷ 32 ∷ 32 ∷ 82 ∷ 49 ∷ 48 ∷ 32 ∷ 32 ∷ 32 ∷ 32 ∷ 32 ∷ 32 ∷ 32 ∷ 49 ∷ 10 ∷  --     X5        R10       1
+    32 ∷ 32 ∷ 32 ∷ 32 ∷ 88 ∷ 54 ∷ 32 ∷ 32 ∷ 32 ∷ 32 ∷ 32 ∷ 32 ∷ 32 ∷ 32 ∷ 82 ∷ 54 ∷ 32 ∷ 32 ∷ 32 ∷ 32 ∷ 32 ∷ 32 ∷ 32 ∷ 32 ∷ 49 ∷ 10 ∷  --     X6        R6        1
+    32 ∷ 32 ∷ 32 ∷ 32 ∷ 88 ∷ 54 ∷ 32 ∷ 32 ∷ 32 ∷ 32 ∷ 32 ∷ 32 ∷ 32 ∷ 32 ∷ 82 ∷ 55 ∷ 32 ∷ 32 ∷ 32 ∷ 32 ∷ 32 ∷ 32 ∷ 32 ∷ 32 ∷ 49 ∷ 10 ∷  --     X6        R7        1
+    32 ∷ 32 ∷ 32 ∷ 32 ∷ 88 ∷ 54 ∷ 32 ∷ 32 ∷ 32 ∷ 32 ∷ 32 ∷ 32 ∷ 32 ∷ 32 ∷ 82 ∷ 56 ∷ 32 ∷ 32 ∷ 32 ∷ 32 ∷ 32 ∷ 32 ∷ 32 ∷ 32 ∷ 45 ∷ 49 ∷ 10 ∷  --     X6        R8        -1
+    32 ∷ 32 ∷ 32 ∷ 32 ∷ 88 ∷ 54 ∷ 32 ∷ 32 ∷ 32 ∷ 32 ∷ 32 ∷ 32 ∷ 32 ∷ 32 ∷ 82 ∷ 49 ∷ 49 ∷ 32 ∷ 32 ∷ 32 ∷ 32 ∷ 32 ∷ 32 ∷ 32 ∷ 49 ∷ 10 ∷  --     X6        R11       1
+    32 ∷ 32 ∷ 32 ∷ 32 ∷ 88 ∷ 55 ∷ 32 ∷ 32 ∷ 32 ∷ 32 ∷ 32 ∷ 32 ∷ 32 ∷ 32 ∷ 82 ∷ 57 ∷ 32 ∷ 32 ∷ 32 ∷ 32 ∷ 32 ∷ 32 ∷ 32 ∷ 32 ∷ 49 ∷ 10 ∷  --     X7        R9        1
+    32 ∷ 32 ∷ 32 ∷ 32 ∷ 88 ∷ 55 ∷ 32 ∷ 32 ∷ 32 ∷ 32 ∷ 32 ∷ 32 ∷ 32 ∷ 32 ∷ 82 ∷ 49 ∷ 48 ∷ 32 ∷ 32 ∷ 32 ∷ 32 ∷ 32 ∷ 32 ∷ 32 ∷ 45 ∷ 49 ∷ 10 ∷  --     X7        R10       -1
+    82 ∷ 72 ∷ 83 ∷ 10 ∷  -- RHS
+    32 ∷ 32 ∷ 32 ∷ 32 ∷ 82 ∷ 72 ∷ 83 ∷ 32 ∷ 32 ∷ 32 ∷ 32 ∷ 32 ∷ 32 ∷ 32 ∷ 82 ∷ 49 ∷ 49 ∷ 32 ∷ 32 ∷ 32 ∷ 32 ∷ 32 ∷ 32 ∷ 32 ∷ 49 ∷ 10 ∷  --     RHS       R11       1
+    66 ∷ 79 ∷ 85 ∷ 78 ∷ 68 ∷ 83 ∷ 10 ∷  -- BOUNDS
+    32 ∷ 66 ∷ 86 ∷ 32 ∷ 66 ∷ 78 ∷ 68 ∷ 32 ∷ 32 ∷ 32 ∷ 32 ∷ 32 ∷ 32 ∷ 32 ∷ 88 ∷ 48 ∷ 10 ∷  --  BV BND       X0
+    32 ∷ 66 ∷ 86 ∷ 32 ∷ 66 ∷ 78 ∷ 68 ∷ 32 ∷ 32 ∷ 32 ∷ 32 ∷ 32 ∷ 32 ∷ 32 ∷ 88 ∷ 49 ∷ 10 ∷  --  BV BND       X1
+    32 ∷ 85 ∷ 80 ∷ 32 ∷ 66 ∷ 78 ∷ 68 ∷ 32 ∷ 32 ∷ 32 ∷ 32 ∷ 32 ∷ 32 ∷ 32 ∷ 88 ∷ 50 ∷ 32 ∷ 32 ∷ 32 ∷ 32 ∷ 32 ∷ 32 ∷ 32 ∷ 32 ∷ 49 ∷ 10 ∷  --  UP BND       X2        1
+    32 ∷ 85 ∷ 80 ∷ 32 ∷ 66 ∷ 78 ∷ 68 ∷ 32 ∷ 32 ∷ 32 ∷ 32 ∷ 32 ∷ 32 ∷ 32 ∷ 88 ∷ 51 ∷ 32 ∷ 32 ∷ 32 ∷ 32 ∷ 32 ∷ 32 ∷ 32 ∷ 32 ∷ 49 ∷ 10 ∷  --  UP BND       X3        1
+    32 ∷ 85 ∷ 80 ∷ 32 ∷ 66 ∷ 78 ∷ 68 ∷ 32 ∷ 32 ∷ 32 ∷ 32 ∷ 32 ∷ 32 ∷ 32 ∷ 88 ∷ 52 ∷ 32 ∷ 32 ∷ 32 ∷ 32 ∷ 32 ∷ 32 ∷ 32 ∷ 32 ∷ 49 ∷ 10 ∷  --  UP BND       X4        1
+    32 ∷ 85 ∷ 80 ∷ 32 ∷ 66 ∷ 78 ∷ 68 ∷ 32 ∷ 32 ∷ 32 ∷ 32 ∷ 32 ∷ 32 ∷ 32 ∷ 88 ∷ 53 ∷ 32 ∷ 32 ∷ 32 ∷ 32 ∷ 32 ∷ 32 ∷ 32 ∷ 32 ∷ 49 ∷ 10 ∷  --  UP BND       X5        1
+    32 ∷ 85 ∷ 80 ∷ 32 ∷ 66 ∷ 78 ∷ 68 ∷ 32 ∷ 32 ∷ 32 ∷ 32 ∷ 32 ∷ 32 ∷ 32 ∷ 88 ∷ 54 ∷ 32 ∷ 32 ∷ 32 ∷ 32 ∷ 32 ∷ 32 ∷ 32 ∷ 32 ∷ 49 ∷ 10 ∷  --  UP BND       X6        1
+    32 ∷ 85 ∷ 80 ∷ 32 ∷ 66 ∷ 78 ∷ 68 ∷ 32 ∷ 32 ∷ 32 ∷ 32 ∷ 32 ∷ 32 ∷ 32 ∷ 88 ∷ 55 ∷ 32 ∷ 32 ∷ 32 ∷ 32 ∷ 32 ∷ 32 ∷ 32 ∷ 32 ∷ 49 ∷ 10 ∷  --  UP BND       X7        1
+    69 ∷ 78 ∷ 68 ∷ 65 ∷ 84 ∷ 65 ∷ 10 ∷  -- ENDATA
+    []
+
+pub window-page : page 2 1 windowNodes ≡ windowPage
+unfolding page pageOf rowSection columnSection rightSection boundSection typeLine rowLine numberLine numberUnlessZero eachRow costLine columnLines binaryLine upperLine field coefficient stands flat decimal digitsTo any
+window-page = refl

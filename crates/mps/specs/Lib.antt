@@ -17,3 +17,4 @@ pub mod LineFacts
 pub mod Gathered
 pub mod PageRead
 pub mod Proved
+pub mod PageLength

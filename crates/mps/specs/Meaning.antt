@@ -2,7 +2,7 @@
 use mathlib.Core.Path.{_≡_, refl, sym, subst}
 use mathlib.Core.Logic.{_↔_}
 use mathlib.Core.Bool.{Bool, true, false}
-use mathlib.Core.List.{List, [], _∷_}
+use mathlib.Core.List.{List, [], _∷_, _++_, map}
 use Prim.Native.Nat.{ℕ, zero, suc, _+_, _-_, _*_, _≤_, _<_}
 use native.Mathlib.Omega.{arith}
 use lib.Dec.{ltb}
@@ -11,12 +11,14 @@ use lib.IntN.{ℤ, pos, _*ℤ_}
 use lib.ListN.{length}
 use Rattle.lists.specs.Every.{Every, every-append}
 use Rattle.lists.specs.Place.{place-lt}
-use Rattle.rules.specs.Rule.{Unary, Binary}
+use Rattle.lists.specs.Passing.{every-passing}
+use Rattle.rules.specs.Rule.{Unary, Binary, Window}
 use Rattle.rules.specs.Rule.Unary.{not, eventually, always}
 use Rattle.rules.specs.Rule.Binary.{and, or, implies, until}
+use Rattle.rules.specs.Rule.Window.{within, throughout}
 use Rattle.rules.specs.Table.{Node, NodeGood, nodeAt, root}
-use Rattle.rules.specs.Table.Node.{atom, unary, binary}
-use Rattle.rules.specs.Rows.{Term, Row, atomVariable, slack, unaryRows, binaryRows, rowsAt, slotsRows, nodesRows, slackRows, goalRow, rowsOf, sumOf, MeetsBy, Meets}
+use Rattle.rules.specs.Table.Node.{atom, unary, binary, windowed}
+use Rattle.rules.specs.Rows.{Term, Row, plus, minus, ge, atomVariable, slack, unaryRows, binaryRows, inWindow, windowSlots, windowRows, rowsAt, slotsRows, nodesRows, slackRows, goalRow, rowsOf, sumOf, MeetsBy, Meets}
 use Rattle.mps.specs.Merged.{merged}
 use Rattle.mps.specs.Sums.{merged-sum}
 use Rattle.mps.specs.Says.{SameMeaning}
@@ -40,6 +42,28 @@ binary-below n implies inner a b c d = omega arith
 binary-below n until true a b c d = let e = d refl in omega arith
 binary-below n until false a b c d = omega arith
 
+-- windows: the parts at the slots of the window
+pluses-below : (n : ℕ) (p : ℕ → ℕ) (ss : List ℕ) (rest : List Term) → Every (λ s. p s < n) ss → Every (λ (t : Term). t .variable < n) rest →
+    Every (λ (t : Term). t .variable < n) (map (λ s. plus (p s)) ss ++ rest)
+pluses-below n p [] rest h g = g
+pluses-below n p (s ∷ ss) rest h g = (h .0, pluses-below n p ss rest (h .1) g)
+
+minuses-below : (n : ℕ) (p : ℕ → ℕ) (ss : List ℕ) → Every (λ s. p s < n) ss → Every (λ (t : Term). t .variable < n) (map (λ s. minus (p s)) ss)
+minuses-below n p [] h = tt
+minuses-below n p (s ∷ ss) h = (h .0, minuses-below n p ss (h .1))
+
+pairs-below : (n : ℕ) (f : ℕ → Row) (p : ℕ → ℕ) (ss : List ℕ) → ((s : ℕ) → p s < n → Below n (f s)) → Every (λ s. p s < n) ss → Every (Below n) (map f ss)
+pairs-below n f p [] g h = tt
+pairs-below n f p (s ∷ ss) g h = (g s (h .0), pairs-below n f p ss g (h .1))
+
+window-below : (n : ℕ) (w : Window) (P : ℕ) (p : ℕ → ℕ) (ss : List ℕ) → P < n → Every (λ s. p s < n) ss → Every (Below n) (windowRows w P p ss)
+window-below n within P p ss a h =
+    let pair : ℕ → Row = λ s. ge (plus P ∷ minus (p s) ∷ []) (pos 0) in
+    every-append (Below n) (map pair ss) _ .1 (pairs-below n pair p ss (λ s g. (a, (g, tt))) h, (pluses-below n p ss (minus P ∷ []) h (a, tt), tt))
+window-below n throughout P p ss a h =
+    let pair : ℕ → Row = λ s. ge (plus (p s) ∷ minus P ∷ []) (pos 0) in
+    every-append (Below n) (map pair ss) _ .1 (pairs-below n pair p ss (λ s g. (g, (a, tt))) h, ((a, minuses-below n p ss h), tt))
+
 -- a table of N nodes
 module _ (T M N : ℕ) where
   slack-below : (n t : ℕ) → n < N → 1 ≤ t → t ≤ T → slack T M n t < (M + N) * T
@@ -57,6 +81,9 @@ module _ (T M N : ℕ) where
       unary-below ((M + N) * T) u (ltb t T) (slack-below n t h s e) (slack-below c t (omega arith) s e) (next-below n t h)
   at-below n (binary o l r) t h g s e =
       binary-below ((M + N) * T) o (ltb t T) (slack-below n t h s e) (slack-below l t (omega arith) s e) (slack-below r t (omega arith) s e) (next-below n t h)
+  at-below n (windowed w a b c) t h g s e =
+      window-below ((M + N) * T) w (slack T M n t) (slack T M c) (windowSlots T t a b) (slack-below n t h s e)
+      (every-passing (inWindow T t a b) (λ i. slack T M c i < (M + N) * T) T 1 (λ i u v x. slack-below c i (omega arith) u (omega arith)))
 
   slots-below : (n : ℕ) (nd : Node) (k t : ℕ) → n < N → NodeGood M n nd → 1 ≤ t → t + k ≤ T + 1 → Every (Below ((M + N) * T)) (slotsRows T M n nd k t)
   slots-below n nd zero t h g s e = tt

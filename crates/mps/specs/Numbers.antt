@@ -10,7 +10,7 @@ use lib.ListN.{length, length-append}
 use Rattle.lists.specs.Every.{Every, every-append}
 use Rattle.rules.specs.Grammar.{Numeral}
 use Rattle.rules.specs.Grammar.Numeral.{digit, more}
-use Rattle.text.specs.Decimal.{decimal, numeral-decimal, below-100000}
+use Rattle.text.specs.Decimal.{decimal, numeral-decimal, below-1000000}
 use Rattle.text.specs.Decimal.{signedText}
 use Rattle.mps.specs.Reading.{digitsIn, numberIn, with, wholeIn}
 
@@ -80,5 +80,5 @@ whole-signed (negsuc n) = rw (number-decimal (suc n)) refl
 
 -- ---- how long a name is
 
-pub name-short : (letter n : ℕ) → n < 100000 → length (letter ∷ decimal n) ≤ 10
-name-short letter n h = omega (arith, below-100000 n h)
+pub name-short : (letter n : ℕ) → n < 1000000 → length (letter ∷ decimal n) ≤ 10
+name-short letter n h = omega (arith, below-1000000 n h)

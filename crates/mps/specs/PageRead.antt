@@ -1,4 +1,4 @@
--- A page of any rows, read back: at most 100000 rows and variables, so that every name fits its field.
+-- A page of any rows, read back: at most 1000000 rows and variables, so that every name fits its field.
 use mathlib.Core.Path.{_≡_, refl}
 use mathlib.Core.List.{List, [], _∷_, _++_}
 use mathlib.Core.Option.{some}
@@ -18,13 +18,13 @@ use Rattle.mps.specs.Blocks.{Block, block-both, block-cond, block-flat, 
 use Rattle.mps.specs.LineFacts.{free-line, row-line, entry-unless-zero, cost-line, right-unless-zero, bound-line}
 use Rattle.mps.specs.Gathered.{rows-gathered, costs-gathered, flat-tabulate}
 
-module _ (atoms variables : ℕ) (rs : List Row) (short : variables ≤ 100000) (few : length rs ≤ 100000) where
+module _ (atoms variables : ℕ) (rs : List Row) (short : variables ≤ 1000000) (few : length rs ≤ 1000000) where
   -- ---- what each section's lines say
 
   row-block : Block rowFact (typeLine N COST ++ eachRow rowLine 0 rs) (free ∷ eachRow rowFacts 0 rs)
   row-block = block-both rowFact free-line (block-each rowFact rowLine rowFacts 0 rs (λ i r h. row-line i r (omega arith)))
 
-  column-block : (v : ℕ) → v < 100000 → Block columnFact (columnLines rs v) (columnFacts rs v)
+  column-block : (v : ℕ) → v < 1000000 → Block columnFact (columnLines rs v) (columnFacts rs v)
   unfolding columnLines
   column-block v h =
       block-cond columnFact (stands v rs)

@@ -14,4 +14,5 @@ unfolding page
 page-says T M table ns slots atoms good =
     let e : (M + length ns) * T ≤ 144 * 64 = mul-le-mul {n₂ = 144} {m₂ = 64} (omega arith) (omega arith) in
     let f : length ns * T ≤ 128 * 64 = mul-le-mul {n₂ = 128} {m₂ = 64} (omega arith) (omega arith) in
+    let g : (T + 4) * (length ns * T) ≤ 68 * 8192 = mul-le-mul {n₂ = 68} {m₂ = 8192} (omega arith) (omega arith) in
     page-read (M * T) ((M + length ns) * T) (rowsOf T M ns) (omega arith) (omega (arith, rows-count T M ns))

@@ -46,12 +46,12 @@ module _ (T M : ℕ) (ns : List Node) (line : ℕ → Row → List ℕ) (at : �
   no-nodes = listed-as line 0 at l (sym (flat-zero _)) (listed-none line 0 at l)
 
   pub one-node : {i next to next′ to′ : ℕ} {m n : List ℕ} {nd : Placed} → 1 ≤ T → PlacedAt T M ns i nd → Listed line 0 (rowsTo T M ns i) next at l m to →
-      Sent to (eachRow line next (nodeRows (nd .kind) T (nd .big) (nd .p) (nd .q))) m n to′ → next′ ≡ next + nodeCount (nd .kind) T → Listed line 0 (rowsTo T M ns (i + 1)) next′ at l n to′
+      Sent to (eachRow line next (nodeRows (nd .kind) T (nd .big) (nd .p) (nd .q) (nd .from) (nd .to))) m n to′ → next′ ≡ next + nodeCount (nd .kind) T (nd .from) (nd .to) → Listed line 0 (rowsTo T M ns (i + 1)) next′ at l n to′
   unfolding rowsTo
   one-node {i} {next} {nd = nd} h a d s e =
-      let part : nodeRows (nd .kind) T (nd .big) (nd .p) (nd .q) ≡ partRows T M ns i = node-part T M ns i (nd .kind) (a .left) (a .right) (a .is) (a .big-is) (a .p-is) (a .q-is) in
-      let long : length (partRows T M ns i) ≡ nodeCount (nd .kind) T =
-      ap (λ (x : Node). length (slotsRows T M i x T 1)) (sym (a .is)) ∙ length-node T M i (nd .kind) (a .left) (a .right) h in
+      let part : nodeRows (nd .kind) T (nd .big) (nd .p) (nd .q) (nd .from) (nd .to) ≡ partRows T M ns i = node-part T M ns i (nd .kind) (a .left) (a .right) (nd .from) (nd .to) (a .is) (a .big-is) (a .p-is) (a .q-is) in
+      let long : length (partRows T M ns i) ≡ nodeCount (nd .kind) T (nd .from) (nd .to) =
+      ap (λ (x : Node). length (slotsRows T M i x T 1)) (sym (a .is)) ∙ length-node T M i (nd .kind) (a .left) (a .right) (nd .from) (nd .to) h in
       listed-as line 0 at l (sym (flat-more (partRows T M ns) i))
       (listed-more line 0 at l (partRows T M ns i) d (sent-as (ap (eachRow line next) part) s) (e ∙ ap (λ (k : ℕ). next + k) (sym long)))
 

@@ -10,25 +10,26 @@ use lib.ListN.{length, length-append}
 use Rattle.lists.specs.Flat.{flat, flat-same, flat-zero, flat-more}
 use Rattle.lists.specs.Splice.{splice}
 use Rattle.lists.specs.Filling.{splice-as, splice-then}
+use Rattle.rules.specs.Rule.Window.{within, throughout}
 use Rattle.rules.specs.Rows.{sameRows, notRows, andRows, orRows, impliesRows, rowsBytes}
 use Rattle.rules.specs.RowParts.{rowsBytes-flat}
 use Rattle.table.specs.declared.Kind.{Kind}
-use Rattle.table.specs.declared.Kind.the-variants.{Atom, Not, And, Or, Implies, Eventually, Always, Until}
+use Rattle.table.specs.declared.Kind.the-variants.{Atom, Not, And, Or, Implies, Eventually, Always, Until, Within, Throughout}
 use Rattle.row.specs.Kinds.{rowsOn}
 use Rattle.row.specs.NodeRows.{nodeRows}
 use Rattle.families.specs.Put.{untilNext}
-use Rattle.noderows.specs.Slots.{pairAt, tripleAt, pairs, triples}
+use Rattle.noderows.specs.Slots.{pairAt, tripleAt, pairs, triples, windows}
 
 -- P, p and q are the variables of the node and its parts at the first slot; the node's rows at slot s + 1
-abbrev pub slotBytes : Kind → (T P p q s : ℕ) → List ℕ
-slotBytes k T P p q s = rowsBytes (rowsOn k T P p q s)
+abbrev pub slotBytes : Kind → (T P p q a b s : ℕ) → List ℕ
+slotBytes k T P p q a b s = rowsBytes (rowsOn k T P p q a b s)
 
-unfoldable pub nodeBytes : Kind → (T P p q : ℕ) → List ℕ
-nodeBytes k T P p q = flat (slotBytes k T P p q) T
+unfoldable pub nodeBytes : Kind → (T P p q a b : ℕ) → List ℕ
+nodeBytes k T P p q a b = flat (slotBytes k T P p q a b) T
 
-pub node-bytes : (k : Kind) (T P p q : ℕ) → nodeBytes k T P p q ≡ rowsBytes (nodeRows k T P p q)
+pub node-bytes : (k : Kind) (T P p q a b : ℕ) → nodeBytes k T P p q a b ≡ rowsBytes (nodeRows k T P p q a b)
 unfolding nodeBytes nodeRows
-node-bytes k T P p q = sym (rowsBytes-flat (rowsOn k T P p q) T)
+node-bytes k T P p q a b = sym (rowsBytes-flat (rowsOn k T P p q a b) T)
 
 -- ---- bytes said in another way, as one part or as two
 
@@ -53,30 +54,38 @@ module _ (at : ℕ) {n : ℕ} {bytes : List ℕ} (xs ys : List ℕ) (e : bytes �
       (r ≡ at + length bytes) × (o ≡ splice at bytes l)
   both-done l {m} {o} {next} k f g = (omega (arith, total, f .0, g .0), splice-as at l (splice-then at next xs ys l m o (f .1) (g .1) (f .0) (omega (arith, total, f .0))) (sym e))
 
-pub by-kind : {k j : Kind} {bytes : List ℕ} (T P p q : ℕ) → k ≡ j → nodeBytes j T P p q ≡ bytes → nodeBytes k T P p q ≡ bytes
-by-kind T P p q e f = ap (λ (k : Kind). nodeBytes k T P p q) e ∙ f
+pub by-kind : {k j : Kind} {bytes : List ℕ} (T P p q a b : ℕ) → k ≡ j → nodeBytes j T P p q a b ≡ bytes → nodeBytes k T P p q a b ≡ bytes
+by-kind T P p q a b e f = ap (λ (k : Kind). nodeBytes k T P p q a b) e ∙ f
 
 -- the rows of a node whose kind has one family of rows at every slot, and of one whose last slot has another
-module _ (T P p q : ℕ) where
-  pub node-same : nodeBytes Atom T P p q ≡ pairs sameRows P p T
+module _ (T P p q a b : ℕ) where
+  pub node-same : nodeBytes Atom T P p q a b ≡ pairs sameRows P p T
   unfolding nodeBytes pairs
   node-same = refl
 
-  pub node-not : nodeBytes Not T P p q ≡ pairs notRows P p T
+  pub node-not : nodeBytes Not T P p q a b ≡ pairs notRows P p T
   unfolding nodeBytes pairs
   node-not = refl
 
-  pub node-and : nodeBytes And T P p q ≡ triples andRows P p q T
+  pub node-and : nodeBytes And T P p q a b ≡ triples andRows P p q T
   unfolding nodeBytes triples
   node-and = refl
 
-  pub node-or : nodeBytes Or T P p q ≡ triples orRows P p q T
+  pub node-or : nodeBytes Or T P p q a b ≡ triples orRows P p q T
   unfolding nodeBytes triples
   node-or = refl
 
-  pub node-implies : nodeBytes Implies T P p q ≡ triples impliesRows P p q T
+  pub node-implies : nodeBytes Implies T P p q a b ≡ triples impliesRows P p q T
   unfolding nodeBytes triples
   node-implies = refl
+
+  pub node-within : nodeBytes Within T P p q a b ≡ windows within T P p a b
+  unfolding nodeBytes windows
+  node-within = refl
+
+  pub node-throughout : nodeBytes Throughout T P p q a b ≡ windows throughout T P p a b
+  unfolding nodeBytes windows
+  node-throughout = refl
 
   module _ (h : 1 ≤ T) where
     -- all slots but the last have the rows of g, and the last has P − r = 0
@@ -98,18 +107,18 @@ module _ (T P p q : ℕ) where
     next : (s : ℕ) → P + s + 1 ≡ P + 1 + s
     next s = omega arith
 
-    pub node-eventually : nodeBytes Eventually T P p q ≡ triples orRows P p (P + 1) (T - 1) ++ pairs sameRows (P + (T - 1)) (p + (T - 1)) 1
+    pub node-eventually : nodeBytes Eventually T P p q a b ≡ triples orRows P p (P + 1) (T - 1) ++ pairs sameRows (P + (T - 1)) (p + (T - 1)) 1
     unfolding nodeBytes triples
     node-eventually =
-        ended (slotBytes Eventually T P p q) (tripleAt orRows P p (P + 1)) p
+        ended (slotBytes Eventually T P p q a b) (tripleAt orRows P p (P + 1)) p
         (λ s g. rw (inner s g) (ap (λ (x : ℕ). rowsBytes (orRows (P + s) (p + s) x)) (next s))) (rw last refl)
 
-    pub node-always : nodeBytes Always T P p q ≡ triples andRows P p (P + 1) (T - 1) ++ pairs sameRows (P + (T - 1)) (p + (T - 1)) 1
+    pub node-always : nodeBytes Always T P p q a b ≡ triples andRows P p (P + 1) (T - 1) ++ pairs sameRows (P + (T - 1)) (p + (T - 1)) 1
     unfolding nodeBytes triples
     node-always =
-        ended (slotBytes Always T P p q) (tripleAt andRows P p (P + 1)) p
+        ended (slotBytes Always T P p q a b) (tripleAt andRows P p (P + 1)) p
         (λ s g. rw (inner s g) (ap (λ (x : ℕ). rowsBytes (andRows (P + s) (p + s) x)) (next s))) (rw last refl)
 
-    pub node-until : nodeBytes Until T P p q ≡ triples untilNext P p q (T - 1) ++ pairs sameRows (P + (T - 1)) (q + (T - 1)) 1
+    pub node-until : nodeBytes Until T P p q a b ≡ triples untilNext P p q (T - 1) ++ pairs sameRows (P + (T - 1)) (q + (T - 1)) 1
     unfolding nodeBytes triples
-    node-until = ended (slotBytes Until T P p q) (tripleAt untilNext P p q) q (λ s g. rw (inner s g) refl) (rw last refl)
+    node-until = ended (slotBytes Until T P p q a b) (tripleAt untilNext P p q) q (λ s g. rw (inner s g) refl) (rw last refl)

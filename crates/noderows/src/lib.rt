@@ -5,8 +5,10 @@ ghost use Prim.Native.Nat.{_+_, _≤_};
 ghost use lib.ListN.{length};
 ghost use Rattle.lists.specs.Splice.{splice};
 ghost use Rattle.rules.specs.Rows.{sameRows, notRows, andRows, orRows, impliesRows};
+ghost use Rattle.rules.specs.Rule.Window.{within, throughout};
+ghost use Rattle.row.specs.Kinds.{Allowed};
 ghost use Rattle.families.specs.Put.{untilNext};
-ghost use Rattle.noderows.specs.Slots.{pairs, triples};
+ghost use Rattle.noderows.specs.Slots.{pairs, triples, windows};
 ghost use Rattle.noderows.specs.Node.{nodeBytes};
 
 // P − p = 0 at t slots, from the place `at` on; the result is the next place. The variables are those of the first slot.
@@ -99,12 +101,54 @@ fn write_until(out: &mut [u8], at: usize, t: u16, big: u16, p: u16, q: u16) -> u
     next
 }
 
+// The rows of F[a,b], at t slots, from the place `at` on; the result is the next place. The variables are those of the first slot.
+fn write_within(out: &mut [u8], at: usize, t: u16, big: u16, p: u16, a: u16, b: u16) -> usize
+    requires { ⌜ (1 ≤ t) × (t ≤ 64) × (big ≤ 25600) × (p ≤ 25600) × (a ≤ b) × (b ≤ 63) ⌝ }
+    requires { ⌜ at + length (windows within t big p a b) ≤ length (now out) ⌝ }
+    ensures { λ r. ⌜ (r ≡ at + length (windows within t big p a b)) × (now (out .exit) ≡ splice at (windows within t big p a b) (now (out .entry))) ⌝ }
+{
+    let mut next = at;
+    let mut s: u16 = 0;
+    while s < t {
+        let looks = window::look(t, s, a, b);
+        next = families::put_within(out, next, big + s, p, looks);
+        s += 1;
+    }
+    next
+}
+
+// The rows of G[a,b], at t slots, from the place `at` on; the result is the next place. The variables are those of the first slot.
+fn write_throughout(out: &mut [u8], at: usize, t: u16, big: u16, p: u16, a: u16, b: u16) -> usize
+    requires { ⌜ (1 ≤ t) × (t ≤ 64) × (big ≤ 25600) × (p ≤ 25600) × (a ≤ b) × (b ≤ 63) ⌝ }
+    requires { ⌜ at + length (windows throughout t big p a b) ≤ length (now out) ⌝ }
+    ensures { λ r. ⌜ (r ≡ at + length (windows throughout t big p a b)) × (now (out .exit) ≡ splice at (windows throughout t big p a b) (now (out .entry))) ⌝ }
+{
+    let mut next = at;
+    let mut s: u16 = 0;
+    while s < t {
+        let looks = window::look(t, s, a, b);
+        next = families::put_throughout(out, next, big + s, p, looks);
+        s += 1;
+    }
+    next
+}
+
 // Writes the rows of a node of this kind at t slots from the place `at` on, and returns the next place.
-// `big`, `p` and `q` are the variables of the node and its parts at the first slot.
-pub fn write_node(out: &mut [u8], at: usize, kind: Kind, t: u16, big: u16, p: u16, q: u16) -> usize
-    requires { ⌜ (1 ≤ t) × (t ≤ 64) × (big ≤ 25600) × (p ≤ 25600) × (q ≤ 25600) ⌝ }
-    requires { ⌜ at + length (nodeBytes kind t big p q) ≤ length (now out) ⌝ }
-    ensures { λ r. ⌜ (r ≡ at + length (nodeBytes kind t big p q)) × (now (out .exit) ≡ splice at (nodeBytes kind t big p q) (now (out .entry))) ⌝ }
+// `big`, `p` and `q` are the variables of the node and its parts at the first slot, and a, b is its window.
+pub fn write_node(
+    out: &mut [u8],
+    at: usize,
+    kind: Kind,
+    t: u16,
+    big: u16,
+    p: u16,
+    q: u16,
+    a: u16,
+    b: u16,
+) -> usize
+    requires { ⌜ (1 ≤ t) × (t ≤ 64) × (big ≤ 25600) × (p ≤ 25600) × (q ≤ 25600) × Allowed kind a b ⌝ }
+    requires { ⌜ at + length (nodeBytes kind t big p q a b) ≤ length (now out) ⌝ }
+    ensures { λ r. ⌜ (r ≡ at + length (nodeBytes kind t big p q a b)) × (now (out .exit) ≡ splice at (nodeBytes kind t big p q a b) (now (out .entry))) ⌝ }
 {
     let inner = t - 1;
     match kind {
@@ -125,5 +169,7 @@ pub fn write_node(out: &mut [u8], at: usize, kind: Kind, t: u16, big: u16, p: u1
             let last = write_until(out, at, inner, big, p, q);
             write_same(out, last, 1, big + inner, q + inner)
         }
+        Kind::Within => write_within(out, at, t, big, p, a, b),
+        Kind::Throughout => write_throughout(out, at, t, big, p, a, b),
     }
 }

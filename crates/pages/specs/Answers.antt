@@ -33,7 +33,7 @@ module _ (T M : ℕ) (table : List ℕ) (room : ℕ) where
   unfolding pageAnswer
   long-enough h = rw (le-leb (length text) room h)
 
--- a page's length fits 32 bits
+-- a page has at most 120,000,000 bytes, so its length fits 32 bits
 abbrev pub Short : Answer ℕ → Type 0
 Short (refused k) = Unit {0}
-Short (answered n) = n ≤ 500000000
+Short (answered n) = n ≤ 120000000

@@ -17,8 +17,8 @@ ghost use Rattle.pages.specs.Answers.{pageAnswer, Short};
 
 // COLUMNS: the lines of each variable.
 fn put_columns(out: &mut [u8], at: usize, table: &[u8], n: usize, t: usize, m: usize) -> usize
-    requires { ⌜ (at ≤ 3000000000) × Ready t m (now table) × (n ≡ recordCount (now table)) ⌝ }
-    ensures { λ r. ⌜ Sent at (columnSection ((m + n) * t) (rowsOf t m (nodesIn (now (table .entry))))) (now (out .entry)) (now (out .exit)) r × (r ≤ at + 400000000) ⌝ }
+    requires { ⌜ (at ≤ 700000000000) × Ready t m (now table) × (n ≡ recordCount (now table)) ⌝ }
+    ensures { λ r. ⌜ Sent at (columnSection ((m + n) * t) (rowsOf t m (nodesIn (now (table .entry))))) (now (out .entry)) (now (out .exit)) r × (r ≤ at + 196294164520) ⌝ }
 {
     let first = lines::put_text(out, at, b"COLUMNS\n");
     columnlines::put_columns(out, first, table, n, t, m)
@@ -27,7 +27,7 @@ fn put_columns(out: &mut [u8], at: usize, table: &[u8], n: usize, t: usize, m: u
 // Puts the page of a checked table of n nodes at the start of `out`, where there is room for it, and returns its length.
 fn put_page(out: &mut [u8], table: &[u8], n: usize, t: usize, m: usize) -> usize
     requires { ⌜ Ready t m (now table) × (n ≡ recordCount (now table)) ⌝ }
-    ensures { λ r. ⌜ Sent 0 (page t m (nodesIn (now (table .entry)))) (now (out .entry)) (now (out .exit)) r × (r ≤ 500000000) ⌝ }
+    ensures { λ r. ⌜ Sent 0 (page t m (nodesIn (now (table .entry)))) (now (out .entry)) (now (out .exit)) r ⌝ }
 {
     let columns = sections::put_rows(out, 0, table, n, t, m);
     let rights = put_columns(out, columns, table, n, t, m);
@@ -35,15 +35,6 @@ fn put_page(out: &mut [u8], table: &[u8], n: usize, t: usize, m: usize) -> usize
     let atoms = row::place(m, t) as usize;
     let variables = row::place(m + n, t) as usize;
     sections::put_bounds(out, bounds, atoms, variables)
-}
-
-// The page's length.
-fn page_length(table: &[u8], n: usize, t: usize, m: usize) -> usize
-    requires { ⌜ Ready t m (now table) × (n ≡ recordCount (now table)) ⌝ }
-    ensures { λ r. ⌜ (r ≡ length (page t m (nodesIn (now (table .entry))))) × (r ≤ 500000000) ⌝ }
-{
-    let mut nothing = [0u8; 1];
-    put_page(&mut nothing, table, n, t, m)
 }
 
 // Writes the page, where the checks are passed and there is room.
@@ -54,7 +45,7 @@ fn write_checked(table: &[u8], t: usize, m: usize, out: &mut [u8]) -> Answer
     ensures { λ r. ⌜ Short (told r) ⌝ }
 {
     let n = table::count(table);
-    let length = page_length(table, n, t, m);
+    let length = pagelength::page_length(table, n, t, m);
     if out.len() < length {
         return Answer::Refused(Refusal::Room);
     }

@@ -14,7 +14,7 @@ abbrev pub pageThen : (T M room : ℕ) → Answer Written → Answer Written
 pageThen T M room (refused k) = refused k
 pageThen T M room (answered (wrote N table)) = pageOutcome T M table room
 
--- of the refusals of reader and page writer, the lowest: 1 is the page writer's, 2 both's, 3 to 6 the reader's, 11 the page writer's
+-- of the refusals of reader and page writer, the first in the order: 1 is the page writer's, 2 both's, 3, 4, 5, 12 and 6 the reader's, 11 the page writer's
 unfoldable pub paged : (T M : ℕ) (text : List ℕ) (room : ℕ) → Answer Written
 paged T M text room = pageThen T M room (ruleOutcome T M text)
 

@@ -6,7 +6,7 @@ ghost use Rattle.input.specs.Scanning.{state};
 ghost use Rattle.mps.specs.Outcome.{pageOutcome};
 ghost use Rattle.paging.specs.Print.{paged, pagePrinted, pageShown};
 
-// The page of a table, or the lowest refusal.
+// The page of a table, or the first refusal.
 fn page_table(table: &[u8], t: usize, m: usize, out: &mut [u8]) -> usize
     requires { ⌜ 20 ≤ length (now out) ⌝ }
     ensures { λ r. ⌜ Put 0 (pagePrinted (pageOutcome t m (now (table .entry)) (length (now (out .entry))))) (now (out .entry)) (now (out .exit)) r × (r ≤ length (now (out .entry))) ⌝ }
@@ -17,16 +17,16 @@ fn page_table(table: &[u8], t: usize, m: usize, out: &mut [u8]) -> usize
     }
 }
 
-// The page of a rule, or the lowest refusal.
+// The page of a rule, or the first refusal.
 fn page_rule(text: &[u8], t: usize, m: usize, out: &mut [u8]) -> usize
     requires { ⌜ 20 ≤ length (now out) ⌝ }
     ensures { λ r. ⌜ Put 0 (pagePrinted (paged t m (now (text .entry)) (length (now (out .entry))))) (now (out .entry)) (now (out .exit)) r × (r ≤ length (now (out .entry))) ⌝ }
 {
-    let mut table = [0u8; 640];
+    let mut table = [0u8; 896];
     match listing::read_rule(text, t, m, &mut table) {
         answers::Answer::Refused(refusal) => listing::put_refusal(out, refusal),
         answers::Answer::Value(n) => {
-            let end = 5 * n;
+            let end = 7 * n;
             page_table(&table[..end], t, m, out)
         }
     }

@@ -1,13 +1,14 @@
 -- What the outcome of read is, for each return of the code.
 use mathlib.Core.Path.{_≡_, refl, sym, ap, _∙_}
-use mathlib.Core.Bool.{Bool, cond}
+use mathlib.Core.Bool.{Bool, true, cond}
 use mathlib.Core.Option.{Option, none, some}
 use mathlib.Core.List.{List, _++_}
 use Prim.Native.Nat.{ℕ, _+_, _*_, _≤_, _<_}
 use native.Mathlib.Omega.{arith}
+use lib.Dec.{eqb}
 use lib.ListN.{length, drop, take}
 use lib.Seq.{length-sets, sets-eq, take-at, take-length}
-use borrow.Author.Tests.{le-leb, lt-leb, le-ltb, lt-ltb}
+use borrow.Author.Tests.{le-leb, lt-leb, le-ltb, lt-ltb, eq-eqb, ne-eqb}
 use Rattle.rules.specs.Rule.{Rule, size}
 use Rattle.rules.specs.Rule.Binary.{implies}
 use Rattle.rules.specs.Grammar.Level.{of}
@@ -21,16 +22,16 @@ use Rattle.rules.specs.Reading.Lexer.{start}
 use Rattle.rules.specs.Reading.Parser.{parsed}
 use Rattle.rules.specs.Outcome.{result, buffer, ruleChecked, readOutcome}
 use Rattle.answers.specs.declared.Refusal.{Refusal}
-use Rattle.answers.specs.declared.Refusal.the-variants.{Atoms, LongText, Grammar, AtomNumber, Nodes, Room}
+use Rattle.answers.specs.declared.Refusal.the-variants.{Atoms, LongText, Grammar, AtomNumber, Window, Nodes, Room}
 use Rattle.answers.specs.declared.Answer.{Answer}
 use Rattle.answers.specs.declared.Answer.the-variants.{Value, Refused}
 use Rattle.answers.specs.Told.{numberOf, told}
 use Rattle.levels.specs.declared.Step.{Step}
 use Rattle.levels.specs.declared.Step.the-variants.{Fail, Part}
-use Rattle.levels.specs.Records.{top, records, length-records}
+use Rattle.levels.specs.Records.{top, flaw, records, length-records}
 use Rattle.levels.specs.Steps.{Told}
 use Rattle.levels.specs.Parts.{Got, got, failed}
-use Rattle.reader.proofs.Records.{records-table, below-top, top-below}
+use Rattle.reader.proofs.Records.{records-table, below-top, top-below, good-flaw}
 
 -- what is promised of an answer, and of the buffer
 abbrev Kept : ℕ → List ℕ → List ℕ → List ℕ → Answer → Type 0
@@ -64,9 +65,9 @@ module _ (m : ℕ) (s out : List ℕ) where
           unfolding reading
           no-rule e = refuses Grammar (outcome-of none (ap (whole s) (failed s (parsed (of implies) s 0) 0 scratch scratch₁ r told-is e)))
 
-          module _ (next nodes high-atom : ℕ) (part-is : r ≡ Part next nodes high-atom) where
-            first : Got s (parsed (of implies) s 0) 0 scratch scratch₁ next nodes high-atom
-            first = got s (parsed (of implies) s 0) 0 scratch scratch₁ r next nodes high-atom told-is part-is
+          module _ (next nodes high-atom fault : ℕ) (part-is : r ≡ Part next nodes high-atom fault) where
+            first : Got s (parsed (of implies) s 0) 0 scratch scratch₁ next nodes high-atom fault
+            first = got s (parsed (of implies) s 0) 0 scratch scratch₁ r next nodes high-atom fault told-is part-is
 
             pub more-text : next < length s → Kept m s out out (Refused Grammar)
             unfolding reading
@@ -84,50 +85,60 @@ module _ (m : ℕ) (s out : List ℕ) where
                   refuses AtomNumber (outcome-of (some p) reading-is ∙ rw (below-top m p (omega arith), le-ltb (top p) m (omega (arith, first .highest))) refl)
 
               module _ (atoms : high-atom < m) where
-                pub many-nodes : 128 < nodes → Kept m s out out (Refused Nodes)
-                many-nodes h =
+                pub window-refused : 0 < fault → Kept m s out out (Refused Window)
+                window-refused h =
                     let p = first .rule in
-                    refuses Nodes (outcome-of (some p) reading-is
-                    ∙ rw (below-top m p (omega arith), lt-ltb (top p) m (omega (arith, first .highest)), lt-leb (size p) 128 (omega (arith, first .count))) refl)
+                    refuses Window (outcome-of (some p) reading-is
+                    ∙ rw (below-top m p (omega arith), lt-ltb (top p) m (omega (arith, first .highest)), good-flaw p, ne-eqb (flaw p) 0 (λ z. omega (arith, first .faulty))) refl)
 
-                module _ (few : nodes ≤ 128) where
-                  pub small-buffer : length out < 5 * nodes → Kept m s out out (Refused Room)
-                  small-buffer h =
+                module _ (allowed : fault ≤ 0) where
+                  no-flaw : eqb (flaw (first .rule)) 0 ≡ true
+                  no-flaw = eq-eqb (flaw (first .rule)) 0 (omega (arith, first .faulty))
+
+                  pub many-nodes : 128 < nodes → Kept m s out out (Refused Nodes)
+                  many-nodes h =
                       let p = first .rule in
-                      refuses Room (outcome-of (some p) reading-is
-                      ∙ rw (below-top m p (omega arith), lt-ltb (top p) m (omega (arith, first .highest)), le-leb (size p) 128 (omega (arith, first .count)), lt-leb (5 * size p) (length out) (omega (arith, first .count))) refl)
+                      refuses Nodes (outcome-of (some p) reading-is
+                      ∙ rw (below-top m p (omega arith), lt-ltb (top p) m (omega (arith, first .highest)), good-flaw p, no-flaw, lt-leb (size p) 128 (omega (arith, first .count))) refl)
 
-                  module _ (room : 5 * nodes ≤ length out) (wide : length scratch ≡ 640) where
-                    outcome-is : readOutcome m s (length out) ≡ answered (wrote (size (first .rule)) (tableBytes (nodesOf (first .rule))))
-                    outcome-is =
+                  module _ (few : nodes ≤ 128) where
+                    pub small-buffer : length out < 7 * nodes → Kept m s out out (Refused Room)
+                    small-buffer h =
                         let p = first .rule in
-                        outcome-of (some p) reading-is
-                        ∙ rw (below-top m p (omega arith), lt-ltb (top p) m (omega (arith, first .highest)), le-leb (size p) 128 (omega (arith, first .count)), le-leb (5 * size p) (length out) (omega (arith, first .count))) refl
+                        refuses Room (outcome-of (some p) reading-is
+                        ∙ rw (below-top m p (omega arith), lt-ltb (top p) m (omega (arith, first .highest)), good-flaw p, no-flaw, le-leb (size p) 128 (omega (arith, first .count)), lt-leb (7 * size p) (length out) (omega (arith, first .count))) refl)
 
-                    -- the first records of the scratch
-                    scratch-is : take (5 * nodes) scratch₁ ≡ records 0 (first .rule)
-                    scratch-is =
-                        let g = first in
-                        let l = length-records 0 (g .rule) in
-                        ap (take (5 * nodes)) (g .wrote wide ∙ sets-eq (records 0 (g .rule)) scratch 0 (omega (arith, g .count)))
-                        ∙ take-at (records 0 (g .rule)) (drop (0 + length (records 0 (g .rule))) scratch) (5 * nodes) (omega (arith, g .count))
+                    module _ (room : 7 * nodes ≤ length out) (wide : length scratch ≡ 896) where
+                      outcome-is : readOutcome m s (length out) ≡ answered (wrote (size (first .rule)) (tableBytes (nodesOf (first .rule))))
+                      outcome-is =
+                          let p = first .rule in
+                          outcome-of (some p) reading-is
+                          ∙ rw (below-top m p (omega arith), lt-ltb (top p) m (omega (arith, first .highest)), good-flaw p, no-flaw, le-leb (size p) 128 (omega (arith, first .count)), le-leb (7 * size p) (length out) (omega (arith, first .count))) refl
 
-                    table-is : take (5 * nodes) scratch₁ ≡ tableBytes (nodesOf (first .rule))
-                    table-is =
-                        let p = first .rule in
-                        scratch-is ∙ records-table 0 p (top-below m p (omega arith) (omega (arith, first .highest))) (omega (arith, first .count))
+                      -- the first records of the scratch
+                      scratch-is : take (7 * nodes) scratch₁ ≡ records 0 (first .rule)
+                      scratch-is =
+                          let g = first in
+                          let l = length-records 0 (g .rule) in
+                          ap (take (7 * nodes)) (g .wrote wide ∙ sets-eq (records 0 (g .rule)) scratch 0 (omega (arith, g .count)))
+                          ∙ take-at (records 0 (g .rule)) (drop (0 + length (records 0 (g .rule))) scratch) (7 * nodes) (omega (arith, g .count))
 
-                    pub part-length : 5 * nodes ≡ length (take (5 * nodes) scratch₁)
-                    part-length = omega (arith, ap length scratch-is, length-records 0 (first .rule), first .count)
+                      table-is : take (7 * nodes) scratch₁ ≡ tableBytes (nodesOf (first .rule))
+                      table-is =
+                          let p = first .rule in
+                          scratch-is ∙ records-table 0 p (top-below m p (omega arith) (omega (arith, first .highest))) (omega (arith, first .faulty)) (omega (arith, first .count))
 
-                    pub part-fits : 5 * nodes ≤ length scratch₁
-                    part-fits = omega (arith, ap length (first .wrote wide), length-sets scratch (5 * 0) (records 0 (first .rule)))
+                      pub part-length : 7 * nodes ≡ length (take (7 * nodes) scratch₁)
+                      part-length = omega (arith, ap length scratch-is, length-records 0 (first .rule), first .count)
 
-                    pub all-read : (out₁ : List ℕ) → out₁ ≡ take (length (take (5 * nodes) scratch₁)) (take (5 * nodes) scratch₁) ++ drop (length (take (5 * nodes) scratch₁)) out → Kept m s out out₁ (Value nodes)
-                    all-read out₁ e =
-                        let t = take (5 * nodes) scratch₁ in
-                        let c : nodes ≡ size (first .rule) = omega (arith, first .count) in (
-                          ap answered c ∙ sym (ap result outcome-is),
-                          e ∙ ap (λ (l : List ℕ). l ++ drop (length t) out) (take-length t) ∙ ap (λ (l : List ℕ). l ++ drop (length l) out) table-is
-                              ∙ sym (ap (λ (x : Demands.Answer Written). buffer x out) outcome-is),
-                        )
+                      pub part-fits : 7 * nodes ≤ length scratch₁
+                      part-fits = omega (arith, ap length (first .wrote wide), length-sets scratch (7 * 0) (records 0 (first .rule)))
+
+                      pub all-read : (out₁ : List ℕ) → out₁ ≡ take (length (take (7 * nodes) scratch₁)) (take (7 * nodes) scratch₁) ++ drop (length (take (7 * nodes) scratch₁)) out → Kept m s out out₁ (Value nodes)
+                      all-read out₁ e =
+                          let t = take (7 * nodes) scratch₁ in
+                          let c : nodes ≡ size (first .rule) = omega (arith, first .count) in (
+                            ap answered c ∙ sym (ap result outcome-is),
+                            e ∙ ap (λ (l : List ℕ). l ++ drop (length t) out) (take-length t) ∙ ap (λ (l : List ℕ). l ++ drop (length l) out) table-is
+                                ∙ sym (ap (λ (x : Demands.Answer Written). buffer x out) outcome-is),
+                          )

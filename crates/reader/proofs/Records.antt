@@ -1,18 +1,49 @@
--- The records that the levels write are the node table where numbers fit a byte, and their highest atom number tells refusal 5.
+-- The records that the levels write are the node table where numbers fit a byte, their highest atom number tells refusal 5, and the mark of a window that is not allowed refusal 12.
 use mathlib.Core.Path.{_≡_, refl, sym, ap, _∙_}
-use mathlib.Core.Bool.{Bool, true, false, _&&_}
+use mathlib.Core.Bool.{Bool, true, false, cond, _&&_, and-false}
 use mathlib.Core.List.{List, [], _∷_, _++_, append-assoc}
 use Prim.Native.Nat.{ℕ, _+_, _-_, _%_, min, max, _≤_, _<_}
+use native.Mathlib.Decide.{decLe}
 use native.Mathlib.Omega.{arith}
-use lib.Dec.{ltb}
-use borrow.Author.Tests.{ltb-true, ltb-false, lt-ltb, le-ltb}
+use lib.Dec.{leb, ltb, eqb}
+use borrow.Author.Tests.{leb-true, leb-false, le-leb, lt-leb, eqb-true, eqb-false, eq-eqb, ne-eqb, ltb-true, ltb-false, lt-ltb, le-ltb}
 use Rattle.rules.specs.RuleSize.{size-positive}
 use Rattle.rules.specs.Rule.{Rule, size, AtomsBelow}
-use Rattle.rules.specs.Rule.Rule.{atom, unary, binary}
+use Rattle.rules.specs.Rule.Rule.{atom, unary, binary, windowed}
 use Rattle.rules.specs.Table
-use Rattle.rules.specs.Table.{Node, unaryKind, binaryKind, nodeBytes, tableBytes, nodesFrom}
-use Rattle.rules.specs.Outcome.{atomsBelow}
-use Rattle.levels.specs.Records.{top, entry, records}
+use Rattle.rules.specs.Table.{Node, unaryKind, binaryKind, windowKind, nodeBytes, tableBytes, nodesFrom}
+use Rattle.rules.specs.TableTest.{windowGood}
+use Rattle.rules.specs.Outcome.{atomsBelow, windowsGood}
+use Rattle.levels.specs.Records.{top, bad, flaw, entry, records}
+
+-- ---- a window that is not allowed
+
+bad-cases : (a b : ℕ) (x y : Bool) → leb a b ≡ x → leb b 63 ≡ y → _≡_ {A = ℕ} (cond (x && y) 0 1) 0 → (a ≤ b) × (b ≤ 63)
+bad-cases a b true true e f h = (leb-true a b e, leb-true b 63 f)
+bad-cases a b true false e f h = absurd (omega arith)
+bad-cases a b false y e f h = absurd (omega arith)
+
+bad-none : (a b : ℕ) → bad a b ≡ 0 → (a ≤ b) × (b ≤ 63)
+bad-none a b h = bad-cases a b (leb a b) (leb b 63) refl refl h
+
+-- numbers up to 255 decide it
+cut-cases : (a b : ℕ) (x y : Bool) → leb a b ≡ x → leb b 63 ≡ y → (x && y) ≡ windowGood (min 255 a) (min 255 b)
+cut-cases a b true true e f =
+    let h = leb-true a b e in
+    let k = leb-true b 63 f in
+    rw (le-leb (min 255 a) (min 255 b) (omega arith), le-leb (min 255 b) 63 (omega arith)) refl
+cut-cases a b true false e f =
+    let h = leb-true a b e in
+    let k = leb-false b 63 f in
+    rw (le-leb (min 255 a) (min 255 b) (omega arith), lt-leb (min 255 b) 63 (omega arith)) refl
+cut-cases a b false y e f = cut-high (leb-false a b e) (decLe b 63)
+  where
+    cut-high : b < a → Dec (b ≤ 63) → false ≡ windowGood (min 255 a) (min 255 b)
+    cut-high h (yes k) = rw (lt-leb (min 255 a) (min 255 b) (omega arith)) refl
+    cut-high h (no k) = rw (lt-leb (min 255 b) 63 (omega arith), and-false (leb (min 255 a) (min 255 b))) refl
+
+good-cut : (a b : ℕ) → windowGood a b ≡ windowGood (min 255 a) (min 255 b)
+good-cut a b = cut-cases a b (leb a b) (leb b 63) refl refl
 
 -- ---- where numbers fit a byte, the records are the table's
 
@@ -20,30 +51,41 @@ table-append : (a b : List Node) → tableBytes (a ++ b) ≡ tableBytes a ++ tab
 table-append [] b = refl
 table-append (n ∷ a) b = ap (λ (l : List ℕ). nodeBytes n ++ l) (table-append a b) ∙ sym (append-assoc (nodeBytes n) (tableBytes a) (tableBytes b))
 
-entry-fits : (k l r : ℕ) → l < 256 → r < 256 → entry k l r ≡ 0x4E ∷ 0x44 ∷ k ∷ l ∷ r ∷ []
-entry-fits k l r h i =
-    let e : l % 256 ≡ l = omega arith in
-    let f : r % 256 ≡ r = omega arith in
-    rw (e, f) refl
+entry-fits : (k l r a b : ℕ) → l < 256 → r < 256 → a < 256 → b < 256 → entry k l r a b ≡ 0x4E ∷ 0x44 ∷ k ∷ l ∷ r ∷ a ∷ b ∷ []
+entry-fits k l r a b h i f g =
+    let u : l % 256 ≡ l = omega arith in
+    let v : r % 256 ≡ r = omega arith in
+    let w : a % 256 ≡ a = omega arith in
+    let x : b % 256 ≡ b = omega arith in
+    rw (u, v, w, x) refl
 
-pub records-table : (n : ℕ) (p : Rule) → AtomsBelow 256 p → n + size p ≤ 256 → records n p ≡ tableBytes (nodesFrom n p)
+pub records-table : (n : ℕ) (p : Rule) → AtomsBelow 256 p → flaw p ≡ 0 → n + size p ≤ 256 → records n p ≡ tableBytes (nodesFrom n p)
 unfolding records
-records-table n (atom a) low few =
+records-table n (atom a) low good few =
     let e : min 255 a ≡ a = omega arith in
-    entry-fits 1 (min 255 a) 0 (omega arith) (omega arith) ∙ ap (λ (x : ℕ). 0x4E ∷ 0x44 ∷ 1 ∷ x ∷ 0 ∷ []) e
-records-table n (unary u p) low few =
-    let h = records-table n p low (omega arith) in
+    entry-fits 1 (min 255 a) 0 0 0 (omega arith) (omega arith) (omega arith) (omega arith) ∙ ap (λ (x : ℕ). 0x4E ∷ 0x44 ∷ 1 ∷ x ∷ 0 ∷ 0 ∷ 0 ∷ []) e
+records-table n (unary u p) low good few =
+    let h = records-table n p low good (omega arith) in
     let s = size-positive p in
-    let e = entry-fits (unaryKind u) (n + size p - 1) 0 (omega arith) (omega arith) in
+    let e = entry-fits (unaryKind u) (n + size p - 1) 0 0 0 (omega arith) (omega arith) (omega arith) (omega arith) in
     rw (h, e) (sym (table-append (nodesFrom n p) (Node.unary u (n + size p - 1) ∷ [])))
-records-table n (binary o p q) low few =
-    let h = records-table n p (low .0) (omega arith) in
-    let k = records-table (n + size p) q (low .1) (omega arith) in
+records-table n (binary o p q) low good few =
+    let h = records-table n p (low .0) (omega arith) (omega arith) in
+    let k = records-table (n + size p) q (low .1) (omega arith) (omega arith) in
     let s = size-positive p in
     let t = size-positive q in
-    let e = entry-fits (binaryKind o) (n + size p - 1) (n + size p + size q - 1) (omega arith) (omega arith) in
+    let e = entry-fits (binaryKind o) (n + size p - 1) (n + size p + size q - 1) 0 0 (omega arith) (omega arith) (omega arith) (omega arith) in
     let last = Node.binary o (n + size p - 1) (n + size p + size q - 1) in
     rw (h, k, e) (sym (table-append (nodesFrom n p) (nodesFrom (n + size p) q ++ (last ∷ [])) ∙ ap (λ (l : List ℕ). tableBytes (nodesFrom n p) ++ l) (table-append (nodesFrom (n + size p) q) (last ∷ []))))
+records-table n (windowed w a b p) low good few =
+    let h = records-table n p low (omega arith) (omega arith) in
+    let s = size-positive p in
+    let g = bad-none (min 255 a) (min 255 b) (omega arith) in
+    let i : min 255 a ≡ a = omega (arith, g) in
+    let j : min 255 b ≡ b = omega (arith, g) in
+    let e = entry-fits (windowKind w) (n + size p - 1) 0 (min 255 a) (min 255 b) (omega arith) (omega arith) (omega arith) (omega arith) in
+    let last = Node.windowed w a b (n + size p - 1) in
+    rw (h, e, i, j) (sym (table-append (nodesFrom n p) (last ∷ [])))
 
 -- ---- the highest atom number tells whether all are below M
 
@@ -59,10 +101,41 @@ max-cases x y M false c e f = let k = ltb-false x M e in sym (le-ltb (max x y) M
 pub below-top : (M : ℕ) (p : Rule) → M ≤ 255 → atomsBelow M p ≡ ltb (top p) M
 below-top M (atom a) h = atom-cases a M (ltb a M) refl h
 below-top M (unary u p) h = below-top M p h
+below-top M (windowed w a b p) h = below-top M p h
 below-top M (binary o p q) h = rw (below-top M p h, below-top M q h) (max-cases (top p) (top q) M (ltb (top p) M) (ltb (top q) M) refl refl)
+
+-- ---- the mark tells whether all windows are allowed
+
+either-cases : (x y : ℕ) (b c : Bool) → eqb x 0 ≡ b → eqb y 0 ≡ c → (b && c) ≡ eqb (max x y) 0
+either-cases x y true true e f = let k = eqb-true x 0 e in let l = eqb-true y 0 f in sym (eq-eqb (max x y) 0 (omega arith))
+either-cases x y true false e f = let l = eqb-false y 0 f in sym (ne-eqb (max x y) 0 (λ z. l (omega arith)))
+either-cases x y false c e f = let l = eqb-false x 0 e in sym (ne-eqb (max x y) 0 (λ z. l (omega arith)))
+
+either : (x y : ℕ) → (eqb x 0 && eqb y 0) ≡ eqb (max x y) 0
+either x y = either-cases x y (eqb x 0) (eqb y 0) refl refl
+
+mark-is : (b : Bool) → b ≡ eqb (cond b 0 1) 0
+mark-is true = refl
+mark-is false = refl
+
+turned : (b c : Bool) → (b && c) ≡ (c && b)
+turned true true = refl
+turned true false = refl
+turned false true = refl
+turned false false = refl
+
+pub good-flaw : (p : Rule) → windowsGood p ≡ eqb (flaw p) 0
+good-flaw (atom a) = refl
+good-flaw (unary u p) = good-flaw p
+good-flaw (binary o p q) = rw (good-flaw p, good-flaw q) (either (flaw p) (flaw q))
+good-flaw (windowed w a b p) =
+    let x = bad (min 255 a) (min 255 b) in
+    let e : windowGood a b ≡ eqb x 0 = good-cut a b ∙ mark-is (windowGood (min 255 a) (min 255 b)) in
+    rw (e, good-flaw p) (turned (eqb x 0) (eqb (flaw p) 0) ∙ either (flaw p) x)
 
 -- atoms whose highest is below M are below 256
 pub top-below : (M : ℕ) (p : Rule) → M ≤ 255 → top p < M → AtomsBelow 256 p
 top-below M (atom a) h l = omega arith
 top-below M (unary u p) h l = top-below M p h l
+top-below M (windowed w a b p) h l = top-below M p h l
 top-below M (binary o p q) h l = (top-below M p h (omega arith), top-below M q h (omega arith))

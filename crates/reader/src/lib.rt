@@ -5,7 +5,7 @@ ghost use lib.ListN.{length};
 ghost use Rattle.rules.specs.Outcome.{result, buffer, readOutcome};
 ghost use Rattle.answers.specs.Told.{told};
 
-// The text's node table into `out`, and its node count; or the lowest refusal, with `out` as it was.
+// The text's node table into `out`, and its node count; or the first refusal that applies, with `out` as it was.
 pub fn read(text: &[u8], m: usize, out: &mut [u8]) -> answers::Answer
     ensures { λ r. ⌜ told r ≡ result (readOutcome m (now (text .entry)) (length (now (out .entry)))) ⌝ }
     ensures { λ _. ⌜ now (out .exit) ≡ buffer (readOutcome m (now (text .entry)) (length (now (out .entry)))) (now (out .entry)) ⌝ }
@@ -19,20 +19,28 @@ pub fn read(text: &[u8], m: usize, out: &mut [u8]) -> answers::Answer
     if 1024 < text.len() {
         return answers::Answer::Refused(answers::Refusal::LongText);
     }
-    let mut scratch = [0u8; 640];
+    let mut scratch = [0u8; 896];
     match levels::whole(text, &mut scratch) {
         Step::Fail => answers::Answer::Refused(answers::Refusal::Grammar),
-        Step::Part { next, nodes, top } => {
+        Step::Part {
+            next,
+            nodes,
+            top,
+            bad,
+        } => {
             if next < text.len() {
                 return answers::Answer::Refused(answers::Refusal::Grammar);
             }
             if m <= top {
                 return answers::Answer::Refused(answers::Refusal::AtomNumber);
             }
+            if 0 < bad {
+                return answers::Answer::Refused(answers::Refusal::Window);
+            }
             if 128 < nodes {
                 return answers::Answer::Refused(answers::Refusal::Nodes);
             }
-            let k = 5 * nodes;
+            let k = 7 * nodes;
             if out.len() < k {
                 return answers::Answer::Refused(answers::Refusal::Room);
             }

@@ -2,11 +2,11 @@
 use table::Kind;
 ghost use mathlib.Core.Path.{_≡_};
 ghost use mathlib.Core.List.{[], _∷_};
-ghost use Prim.Native.Nat.{_+_, _*_, _≤_, _<_};
-ghost use lib.IntN.{pos, negsuc};
+ghost use Prim.Native.Nat.{_+_, _-_, _*_, _≤_, _<_};
+ghost use lib.IntN.{pos, negsuc, negℤ};
 ghost use Rattle.rules.specs.Rows as Definitions;
 ghost use Rattle.rules.specs.Rows.{ge, eq, plus, minus};
-ghost use Rattle.row.specs.Kinds.{slotCount, leftPart, nodeCount};
+ghost use Rattle.row.specs.Kinds.{slotCount, leftPart, Allowed, nodeCount};
 ghost use Rattle.row.specs.Meaning.{rowOf};
 
 pub enum Relation {
@@ -61,6 +61,8 @@ pub fn left_part(kind: Kind, m: usize, left: usize) -> usize
         Kind::Eventually => m + left,
         Kind::Always => m + left,
         Kind::Until => m + left,
+        Kind::Within => m + left,
+        Kind::Throughout => m + left,
     }
 }
 
@@ -206,9 +208,18 @@ pub fn goal(a: u16) -> Row
     }
 }
 
-// How many rows a node of this kind has at a slot; `inner` is whether a slot follows.
-pub fn slot_count(kind: Kind, inner: bool) -> usize
-    ensures { λ r. ⌜ (r ≡ slotCount kind inner) × (r ≤ 4) ⌝ }
+// −(k − 1), the right side of the last row of G[a,b] over k slots
+pub fn less_one(k: u16) -> i8
+    requires { ⌜ (1 ≤ k) × (k ≤ 64) ⌝ }
+    ensures { λ r. ⌜ r ≡ negℤ (pos (k - 1)) ⌝ }
+{
+    1 - (k as i8)
+}
+
+// How many rows a node of this kind has at a slot; `inner` is whether a slot follows, and `looks` how many slots its window has.
+pub fn slot_count(kind: Kind, inner: bool, looks: usize) -> usize
+    requires { ⌜ looks ≤ 64 ⌝ }
+    ensures { λ r. ⌜ (r ≡ slotCount kind inner looks) × (r ≤ 65) ⌝ }
 {
     match kind {
         Kind::Atom => 1,
@@ -219,21 +230,35 @@ pub fn slot_count(kind: Kind, inner: bool) -> usize
         Kind::Eventually => { if inner { 3 } else { 1 } }
         Kind::Always => { if inner { 3 } else { 1 } }
         Kind::Until => { if inner { 4 } else { 1 } }
+        Kind::Within => looks + 1,
+        Kind::Throughout => looks + 1,
     }
 }
 
 // A slot, times rows to a slot.
 pub fn times(a: usize, b: usize) -> usize
-    requires { ⌜ (a ≤ 63) × (b ≤ 4) ⌝ }
-    ensures { λ r. ⌜ (r ≡ a * b) × (r ≤ 252) ⌝ }
+    requires { ⌜ (a ≤ 63) × (b ≤ 65) ⌝ }
+    ensures { λ r. ⌜ (r ≡ a * b) × (r ≤ 4095) ⌝ }
 {
     a * b
 }
 
-// How many rows a node of this kind has at t slots.
-pub fn node_count(kind: Kind, t: usize) -> usize
-    requires { ⌜ (1 ≤ t) × (t ≤ 64) ⌝ }
-    ensures { λ r. ⌜ (r ≡ nodeCount kind t) × (r ≤ 256) ⌝ }
+// How many rows a node of this kind and with this window has at t slots.
+pub fn node_count(kind: Kind, t: u16, a: u16, b: u16) -> usize
+    requires { ⌜ (1 ≤ t) × (t ≤ 64) × Allowed kind a b ⌝ }
+    ensures { λ r. ⌜ (r ≡ nodeCount kind t a b) × (t ≤ r) × (r ≤ 65 * t) ⌝ }
 {
-    times(t - 1, slot_count(kind, true)) + slot_count(kind, false)
+    let slots = t as usize;
+    match kind {
+        Kind::Atom => slots,
+        Kind::Not => slots,
+        Kind::And => 3 * slots,
+        Kind::Or => 3 * slots,
+        Kind::Implies => 3 * slots,
+        Kind::Eventually => 3 * (slots - 1) + 1,
+        Kind::Always => 3 * (slots - 1) + 1,
+        Kind::Until => 4 * (slots - 1) + 1,
+        Kind::Within => window::total(t, a, b) + slots,
+        Kind::Throughout => window::total(t, a, b) + slots,
+    }
 }

@@ -13,11 +13,11 @@ lineOf Typed i r = rowLine i r
 lineOf Right i r = rightLine i r
 lineOf (Entry v) i r = entryLine v i r
 
--- a variable's number has at most five digits
+-- a variable's number has at most six digits
 abbrev pub TextFits : Text → Type 0
 TextFits Typed = Unit {0}
 TextFits Right = Unit {0}
-TextFits (Entry v) = v < 100000
+TextFits (Entry v) = v < 1000000
 
 -- the letter of a row's type
 abbrev pub typeLetter : Relation → ℕ

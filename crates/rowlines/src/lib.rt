@@ -57,7 +57,7 @@ fn letter(relation: Relation) -> u8
 
 // A line with the number c of row i, unless it is 0.
 fn put_unless_zero(out: &mut [u8], at: usize, name: Name, i: usize, c: i64) -> usize
-    requires { ⌜ (at ≤ 4294967296) × NameFits name × (i < 100000) × (natAbs c ≤ 384) ⌝ }
+    requires { ⌜ (at ≤ 1099511627776) × NameFits name × (i < 1000000) × (natAbs c ≤ 384) ⌝ }
     ensures { λ r. ⌜ Sent at (numberUnlessZero (nameText name) i c) (now (out .entry)) (now (out .exit)) r × (r ≤ at + 40) ⌝ }
 {
     if text::size(c) == 0 {
@@ -68,7 +68,7 @@ fn put_unless_zero(out: &mut [u8], at: usize, name: Name, i: usize, c: i64) -> u
 
 // The line of row i.
 pub fn put_row(out: &mut [u8], at: usize, text: Text, i: usize, row: Row) -> usize
-    requires { ⌜ (at ≤ 4294967296) × TextFits text × (i < 100000) ⌝ }
+    requires { ⌜ (at ≤ 1099511627776) × TextFits text × (i < 1000000) ⌝ }
     ensures { λ r. ⌜ Sent at (lineOf text i (rowOf row)) (now (out .entry)) (now (out .exit)) r × (r ≤ at + 40) ⌝ }
 {
     let relation = row.relation;

@@ -1,7 +1,7 @@
 -- What the row writer answers once the checks of T, M and the table are passed.
 use mathlib.Core.Path.{_≡_}
 use mathlib.Core.List.{List}
-use Prim.Native.Nat.{ℕ, _*_, _≤_, _<_}
+use Prim.Native.Nat.{ℕ, _≤_, _<_}
 use borrow.Author.Tests.{lt-leb, le-leb}
 use lib.Dec.{leb}
 use lib.ListN.{length}
@@ -15,7 +15,7 @@ use Rattle.table.specs.Checks.{checkOf, afterCheck, checked}
 
 unfoldable pub rowsAnswer : (T M : ℕ) (table : List ℕ) (room : ℕ) → Answer Written
 rowsAnswer T M table room =
-    require (leb (14 * length (rowsOf T M (nodesIn table))) room) 11
+    require (leb (length (rowsBytes (rowsOf T M (nodesIn table)))) room) 11
     (answered (wrote (length (rowsOf T M (nodesIn table))) (rowsBytes (rowsOf T M (nodesIn table)))))
 
 pub rows-checked : (T M : ℕ) (table : List ℕ) (room : ℕ) → rowsOutcome T M table room ≡ afterCheck (checkOf T M table) (rowsAnswer T M table room)
@@ -23,13 +23,13 @@ unfolding rowsOutcome rowsAnswer
 rows-checked T M table room = checked T M table _
 
 module _ (T M : ℕ) (table : List ℕ) (room : ℕ) where
-  abbrev count : ℕ
-  count = length (rowsOf T M (nodesIn table))
+  abbrev bytes : List ℕ
+  bytes = rowsBytes (rowsOf T M (nodesIn table))
 
-  pub too-short : room < 14 * count → rowsAnswer T M table room ≡ refused 11
+  pub too-short : room < length bytes → rowsAnswer T M table room ≡ refused 11
   unfolding rowsAnswer
-  too-short h = rw (lt-leb (14 * count) room h)
+  too-short h = rw (lt-leb (length bytes) room h)
 
-  pub long-enough : 14 * count ≤ room → rowsAnswer T M table room ≡ answered (wrote count (rowsBytes (rowsOf T M (nodesIn table))))
+  pub long-enough : length bytes ≤ room → rowsAnswer T M table room ≡ answered (wrote (length (rowsOf T M (nodesIn table))) bytes)
   unfolding rowsAnswer
-  long-enough h = rw (le-leb (14 * count) room h)
+  long-enough h = rw (le-leb (length bytes) room h)

@@ -2,6 +2,7 @@
 use answers::Answer;
 use answers::Refusal;
 use table::Checked;
+use table::Kind;
 ghost use mathlib.Core.Path.{_≡_};
 ghost use Prim.Native.Nat.{ℕ, _+_, _-_, _*_, _≤_, _<_};
 ghost use lib.ListN.{length};
@@ -11,14 +12,16 @@ ghost use Rattle.rules.specs.TableTest.{recordCount, nodesIn};
 ghost use Rattle.rules.specs.Outcome.{result, buffer, rowsOutcome};
 ghost use Rattle.answers.specs.Told.{told};
 ghost use Rattle.table.specs.Checks.{Ready};
-ghost use Rattle.rows.specs.Parts.{nodesBytes, countTo};
+ghost use Rattle.row.specs.Kinds.{nodeCount};
+ghost use Rattle.rows.specs.Sizes.{nodeLength};
+ghost use Rattle.rows.specs.Parts.{nodesBytes, lengthTo, countTo};
 ghost use Rattle.rows.specs.Answers.{rowsAnswer};
 
 // Writes the rows of the first n nodes at the start of `out`, and returns the next place.
 fn write_nodes(table: &[u8], n: usize, t: usize, m: usize, out: &mut [u8]) -> usize
-    requires { ⌜ (1 ≤ t) × (t ≤ 64) × (m ≤ 16) × (n ≤ 128) × (n ≤ recordCount (now table)) ⌝ }
-    requires { ⌜ length (nodesBytes t m (nodesIn (now table)) n) ≤ length (now out) ⌝ }
-    ensures { λ r. ⌜ (r ≡ length (nodesBytes t m (nodesIn (now (table .entry))) n)) × (now (out .exit) ≡ splice 0 (nodesBytes t m (nodesIn (now (table .entry))) n) (now (out .entry))) ⌝ }
+    requires { ⌜ Ready t m (now table) × (n ≤ recordCount (now table)) ⌝ }
+    requires { ⌜ lengthTo t m (nodesIn (now table)) n ≤ length (now out) ⌝ }
+    ensures { λ r. ⌜ (r ≡ lengthTo t m (nodesIn (now (table .entry))) n) × (now (out .exit) ≡ splice 0 (nodesBytes t m (nodesIn (now (table .entry))) n) (now (out .entry))) ⌝ }
 {
     let mut next: usize = 0;
     let mut i: usize = 0;
@@ -28,32 +31,68 @@ fn write_nodes(table: &[u8], n: usize, t: usize, m: usize, out: &mut [u8]) -> us
         let big = row::place(m + i, t);
         let p = row::place(row::left_part(kind, m, node.left), t);
         let q = row::place(m + node.right, t);
-        next = noderows::write_node(out, next, kind, t as u16, big, p, q);
+        let a = node.from as u16;
+        let b = node.to as u16;
+        next = noderows::write_node(out, next, kind, t as u16, big, p, q, a, b);
         i += 1;
     }
     next
 }
 
-// How many rows the first n nodes have, for any number of atoms.
-fn count_nodes(table: &[u8], n: usize, t: usize) -> usize
-    requires { ⌜ (1 ≤ t) × (t ≤ 64) × (n ≤ 128) × (n ≤ recordCount (now table)) ⌝ }
-    ensures { λ r. ⌜ ((M : ℕ) → r ≡ countTo t M (nodesIn (now (table .entry))) n) ⌝ ∗ ⌜ r ≤ 32768 ⌝ }
+// How many rows there are, and how many bytes.
+struct Size {
+    rows: usize,
+    bytes: usize,
+}
+
+// How many bytes the rows of a node of this kind have at t slots, where they are so many.
+fn node_bytes(kind: Kind, t: u16, rows: usize) -> usize
+    requires { ⌜ (1 ≤ t) × (t ≤ 64) × (t ≤ rows) × (rows ≤ 4160) ⌝ }
+    ensures { λ r. ⌜ ((a b : ℕ) → rows ≡ nodeCount kind t a b → r ≡ nodeLength kind t a b) × (r ≤ 58240) ⌝ }
 {
-    let mut sum: usize = 0;
+    let slots = t as usize;
+    match kind {
+        Kind::Atom => 11 * slots,
+        Kind::Not => 11 * slots,
+        Kind::And => 36 * slots,
+        Kind::Or => 36 * slots,
+        Kind::Implies => 36 * slots,
+        Kind::Eventually => 36 * (slots - 1) + 11,
+        Kind::Always => 36 * (slots - 1) + 11,
+        Kind::Until => 53 * (slots - 1) + 11,
+        Kind::Within => 14 * (rows - slots) + 8 * slots,
+        Kind::Throughout => 14 * (rows - slots) + 8 * slots,
+    }
+}
+
+// How many rows the first n nodes have, and how many bytes.
+fn measure(table: &[u8], n: usize, t: usize, m: usize) -> Size
+    requires { ⌜ Ready t m (now table) × (n ≤ recordCount (now table)) ⌝ }
+    ensures { λ r. ⌜ (r .rows ≡ countTo t m (nodesIn (now (table .entry))) n) × (r .bytes ≡ lengthTo t m (nodesIn (now (table .entry))) n) × (r .rows ≤ 532480) × (r .bytes ≤ 7454720) ⌝ }
+{
+    let mut rows: usize = 0;
+    let mut bytes: usize = 0;
     let mut i: usize = 0;
     while i < n {
         let node = table::node_at(table, i);
         let kind = node.kind;
-        sum += row::node_count(kind, t);
+        let a = node.from as u16;
+        let b = node.to as u16;
+        let count = row::node_count(kind, t as u16, a, b);
+        rows += count;
+        bytes += node_bytes(kind, t as u16, count);
         i += 1;
     }
-    sum
+    Size {
+        rows: rows,
+        bytes: bytes,
+    }
 }
 
 // Writes all rows of a checked table of n nodes at the start of `out`.
 fn write_all(table: &[u8], n: usize, t: usize, m: usize, out: &mut [u8])
     requires { ⌜ Ready t m (now table) × (n ≡ recordCount (now table)) ⌝ }
-    requires { ⌜ 14 * length (rowsOf t m (nodesIn (now table))) ≤ length (now out) ⌝ }
+    requires { ⌜ length (rowsBytes (rowsOf t m (nodesIn (now table)))) ≤ length (now out) ⌝ }
     ensures { λ _. ⌜ now (out .exit) ≡ splice 0 (rowsBytes (rowsOf t m (nodesIn (now (table .entry))))) (now (out .entry)) ⌝ }
 {
     let next = write_nodes(table, n, t, m, out);
@@ -67,8 +106,9 @@ fn write_checked(table: &[u8], t: usize, m: usize, out: &mut [u8]) -> Answer
     ensures { λ _. ⌜ now (out .exit) ≡ buffer (rowsAnswer t m (now (table .entry)) (length (now (out .entry)))) (now (out .entry)) ⌝ }
 {
     let n = table::count(table);
-    let count = count_nodes(table, n, t) + 1;
-    if out.len() < 14 * count {
+    let size = measure(table, n, t, m);
+    let count = size.rows + 1;
+    if out.len() < size.bytes + 8 {
         return Answer::Refused(Refusal::Room);
     }
     write_all(table, n, t, m, out);

@@ -4,11 +4,11 @@ use mathlib.Core.List.{List, [], _∷_, _++_}
 use Prim.Native.Nat.{ℕ, zero, suc, _+_, _-_, _*_, _≤_, _<_}
 use native.Mathlib.Nat.{add-zero}
 use native.Mathlib.Omega.{arith}
-use lib.ListN.{length, getD, take, drop, length-append, length-drop}
-use lib.Seq.{sets, getD-drop, getD-take, drop-drop, length-take-le}
-use Rattle.rules.specs.Rows.{signedIn, termsIn, rowIn, rowsIn}
-use Rattle.text.specs.Decimal.{decimal}
-use Rattle.rowtext.specs.RowText.{signOf, termsText, rowText, rowsText}
+use lib.ListN.{length, getD, drop, length-append, length-drop}
+use lib.Seq.{sets, getD-drop, drop-drop}
+use Rattle.rules.specs.Rows.{signedIn, relationIn, termsIn, rowIn, rowsIn}
+use Rattle.text.specs.Decimal.{decimal, signedText}
+use Rattle.rowtext.specs.RowText.{relationText, signOf, termsText, rowText, rowsText, Whole}
 use Rattle.text.specs.Put.{Put, sets-append}
 
 -- ---- terms
@@ -44,36 +44,53 @@ rest-next {at} {k} {at₀} {xs} {ys} {l} {m} r p = record {
 pub rest-done : {at at₀ : ℕ} {l xs₀ l₀ : List ℕ} → Rest at [] l at₀ xs₀ l₀ → Put at₀ xs₀ l₀ l at
 rest-done r = record { content = r .content; ends = omega (arith, r .ends) }
 
--- the lines from row i on
-abbrev pub linesFrom : (i count : ℕ) → List ℕ → List ℕ
-linesFrom i count b = rowsText i (rowsIn (count - i) (drop (14 * i) b))
+-- a row by its record from byte p on
+pub row-at : (i p : ℕ) (b : List ℕ) →
+    decimal i ++ (32 ∷ (relationText (relationIn (getD b (p + 2) 0)) ++ (32 ∷ (signedText (signedIn (getD b (p + 4) 0)) ++ (termsText (termsIn (getD b (p + 3) 0) (drop (p + 5) b)) ++ (10 ∷ [])))))) ≡ rowText i (rowIn (drop p b))
+unfolding rowText
+row-at i p b = rw (getD-drop p b 2 0, getD-drop p b 3 0, getD-drop p b 4 0, drop-drop 5 p b) refl
 
-pub lines-next : (i count : ℕ) (b : List ℕ) → i < count → linesFrom i count b ≡ rowText i (rowIn (take 14 (drop (14 * i) b))) ++ linesFrom (i + 1) count b
+-- the lines from row i on, whose record begins at byte `start`
+abbrev pub linesFrom : (i start count : ℕ) → List ℕ → List ℕ
+linesFrom i start count b = rowsText i (rowsIn (count - i) (drop start b))
+
+-- what is left of the records
+abbrev pub WholeFrom : (i start count : ℕ) → List ℕ → Type 0
+WholeFrom i start count b = Whole (count - i) (drop start b)
+
+module _ (i start count : ℕ) (b : List ℕ) (h : i < count) where
+  abbrev next : ℕ
+  next = start + (5 + 3 * getD b (start + 3) 0)
+
+  terms-here : getD (drop start b) 3 0 ≡ getD b (start + 3) 0
+  terms-here = getD-drop start b 3 0
+
+  one-more : count - i ≡ suc (count - (i + 1))
+  one-more = omega arith
+
+  -- the record that begins there is whole, and so are those behind it
+  pub whole-next : WholeFrom i start count b → (5 + 3 * getD b (start + 3) 0 ≤ length b - start) × WholeFrom (i + 1) next count b
+  whole-next w =
+      let v : Whole (suc (count - (i + 1))) (drop start b) = rw one-more at w in
+      (rw (terms-here, length-drop) at (v .0), rw (terms-here, drop-drop) at (v .1))
+
+  lines-next : linesFrom i start count b ≡ rowText i (rowIn (drop start b)) ++ linesFrom (i + 1) next count b
+  unfolding rowsText
+  lines-next = rw (one-more, ← drop-drop (5 + 3 * getD b (start + 3) 0) start b, ← terms-here) refl
+
+  -- a turn of the loop
+  pub lines-turn : {at k at₀ : ℕ} {l m xs₀ l₀ : List ℕ} → Rest at (linesFrom i start count b) l at₀ xs₀ l₀ → Put at (rowText i (rowIn (drop start b))) l m k → Rest k (linesFrom (i + 1) next count b) m at₀ xs₀ l₀
+  lines-turn r p = rest-next (rw lines-next at r) p
+
+lines-done : (i start count : ℕ) (b : List ℕ) → count ≤ i → linesFrom i start count b ≡ []
 unfolding rowsText
-lines-next i count b h =
-    let e : count - i ≡ suc (count - (i + 1)) = omega arith in
-    let d : 14 * i + 14 ≡ 14 * (i + 1) = omega arith in
-    rw (e, ← d, ← drop-drop 14 (14 * i) b) refl
+lines-done i start count b h = let e : count - i ≡ 0 = omega arith in rw e refl
 
-pub lines-done : (i count : ℕ) (b : List ℕ) → count ≤ i → linesFrom i count b ≡ []
-unfolding rowsText
-lines-done i count b h = let e : count - i ≡ 0 = omega arith in rw e refl
-
-pub lines-start : (count at : ℕ) (b l : List ℕ) → Rest at (linesFrom 0 count b) l at (rowsText 0 (rowsIn count b)) l
+pub lines-start : (count at : ℕ) (b l : List ℕ) → Rest at (linesFrom 0 0 count b) l at (rowsText 0 (rowsIn count b)) l
 lines-start count at b l = let e : count - 0 ≡ count = omega arith in rw e (record { content = refl; ends = refl })
 
--- a turn of the loop; n is 14
-pub lines-turn : {at k at₀ : ℕ} {l m xs₀ l₀ : List ℕ} (i count n : ℕ) (b : List ℕ) → i < count → n ≡ 14 → Rest at (linesFrom i count b) l at₀ xs₀ l₀ → Put at (rowText i (rowIn (take n (drop (14 * i) b)))) l m k → Rest k (linesFrom (i + 1) count b) m at₀ xs₀ l₀
-lines-turn i count n b h e r p = rest-next (rw (lines-next i count b h) at r) (rw e at p)
+pub whole-start : (count : ℕ) (b : List ℕ) → Whole count b → WholeFrom 0 0 count b
+whole-start count b w = let e : count - 0 ≡ count = omega arith in rw e w
 
-pub lines-end : {at at₀ : ℕ} {l xs₀ l₀ : List ℕ} (i count : ℕ) (b : List ℕ) → count ≤ i → Rest at (linesFrom i count b) l at₀ xs₀ l₀ → Put at₀ xs₀ l₀ l at
-lines-end i count b h r = rest-done (rw (lines-done i count b h) at r)
-
--- a record of the rows
-pub record-length : (i count n : ℕ) (b : List ℕ) → i < count → 14 * count ≤ length b → n ≡ 14 → length (take n (drop (14 * i) b)) ≡ 14
-record-length i count n b h r e =
-    let f : 14 ≤ length b - 14 * i = omega arith in
-    rw e (length-take-le 14 (drop (14 * i) b) (rw length-drop f))
-
-pub record-few : (i n : ℕ) (b : List ℕ) → getD b (14 * i + 3) 0 ≤ 3 → n ≡ 14 → getD (take n (drop (14 * i) b)) 3 0 ≤ 3
-record-few i n b h e = rw (e, getD-take 14 (drop (14 * i) b) 3 0 (omega arith), getD-drop (14 * i) b 3 0) h
+pub lines-end : {at at₀ : ℕ} {l xs₀ l₀ : List ℕ} (i start count : ℕ) (b : List ℕ) → count ≤ i → Rest at (linesFrom i start count b) l at₀ xs₀ l₀ → Put at₀ xs₀ l₀ l at
+lines-end i start count b h r = rest-done (rw (lines-done i start count b h) at r)

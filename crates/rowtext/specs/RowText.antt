@@ -1,7 +1,7 @@
 -- The printed text of rows: "counts of rows and variables, then row number, relation, right side, signed terms". Each line ends in a line feed.
 use mathlib.Core.List.{List, [], _∷_, _++_}
-use Prim.Native.Nat.{ℕ, _+_, _*_, _≤_, _<_}
-use lib.ListN.{getD}
+use Prim.Native.Nat.{ℕ, zero, suc, _+_, _*_, _≤_}
+use lib.ListN.{length, getD, drop}
 use lib.IntN.{ℤ, pos, negsuc}
 use Rattle.rules.specs.Rows.{Relation, Term, Row}
 use Rattle.rules.specs.Rows.Relation.{at-least, equal}
@@ -40,6 +40,7 @@ unfoldable pub headText : (rows variables : ℕ) → List ℕ
 headText rows variables =
     (114 ∷ 111 ∷ 119 ∷ 115 ∷ 32 ∷ []) ++ (decimal rows ++ ((32 ∷ 118 ∷ 97 ∷ 114 ∷ 115 ∷ 32 ∷ []) ++ (decimal variables ++ (10 ∷ []))))
 
--- each of the first `count` records has at most three terms
-abbrev pub FewTerms : (count : ℕ) → List ℕ → Type 0
-FewTerms count bytes = (i : ℕ) → i < count → getD bytes (14 * i + 3) 0 ≤ 3
+-- the bytes begin with `count` whole records, each of the length that its term count says
+abbrev pub Whole : (count : ℕ) → List ℕ → Type 0
+Whole zero b = Unit {0}
+Whole (suc n) b = (5 + 3 * getD b 3 0 ≤ length b) × Whole n (drop (5 + 3 * getD b 3 0) b)

@@ -5,12 +5,12 @@ ghost use Prim.Native.Nat.{_+_, _*_, _≤_, _<_};
 ghost use lib.ListN.{length, getD, drop};
 ghost use Rattle.rules.specs.Rows.{signedIn, relationIn, termsIn, rowIn, rowsIn};
 ghost use Rattle.text.specs.Decimal.{decimal, signedText};
-ghost use Rattle.rowtext.specs.RowText.{relationText, signOf, termsText, rowText, rowsText, headText, FewTerms};
+ghost use Rattle.rowtext.specs.RowText.{relationText, signOf, termsText, rowText, rowsText, headText, Whole};
 ghost use Rattle.text.specs.Put.{Put};
 
 // `>=` and `=`, by the relation byte of a record.
-fn put_relation(out: &mut [u8; 160000], at: usize, relation: u8) -> usize
-    requires { ⌜ at + 2 ≤ 160000 ⌝ }
+fn put_relation(out: &mut [u8; 184000], at: usize, relation: u8) -> usize
+    requires { ⌜ at + 2 ≤ 184000 ⌝ }
     ensures { λ r. ⌜ Put at (relationText (relationIn relation)) (now (out .entry)) (now (out .exit)) r × (r ≤ at + 2) ⌝ }
 {
     if relation == 1 {
@@ -20,8 +20,8 @@ fn put_relation(out: &mut [u8; 160000], at: usize, relation: u8) -> usize
 }
 
 // A signed byte as a whole number.
-fn put_signed(out: &mut [u8; 160000], at: usize, b: u8) -> usize
-    requires { ⌜ at + 4 ≤ 160000 ⌝ }
+fn put_signed(out: &mut [u8; 184000], at: usize, b: u8) -> usize
+    requires { ⌜ at + 4 ≤ 184000 ⌝ }
     ensures { λ r. ⌜ Put at (signedText (signedIn b)) (now (out .entry)) (now (out .exit)) r × (r ≤ at + 4) ⌝ }
 {
     if b < 128 {
@@ -45,8 +45,8 @@ fn variable(low: u8, high: u8) -> usize
 }
 
 // A space, the sign and the variable.
-fn put_term(out: &mut [u8; 160000], at: usize, coefficient: u8, v: usize) -> usize
-    requires { ⌜ (at + 7 ≤ 160000) × (v < 100000) ⌝ }
+fn put_term(out: &mut [u8; 184000], at: usize, coefficient: u8, v: usize) -> usize
+    requires { ⌜ (at + 7 ≤ 184000) × (v < 100000) ⌝ }
     ensures { λ r. ⌜ Put at (32 ∷ signOf (signedIn coefficient) ∷ decimal v) (now (out .entry)) (now (out .exit)) r × (r ≤ at + 7) ⌝ }
 {
     let space = text::put_byte(out, at, b' ');
@@ -55,8 +55,8 @@ fn put_term(out: &mut [u8; 160000], at: usize, coefficient: u8, v: usize) -> usi
 }
 
 // The `k` terms of a record from its byte `p` on.
-fn put_terms(out: &mut [u8; 160000], at: usize, bytes: &[u8], p: usize, k: usize) -> usize
-    requires { ⌜ (p + 3 * k ≤ length (now bytes)) × (at + 7 * k ≤ 160000) ⌝ }
+fn put_terms(out: &mut [u8; 184000], at: usize, bytes: &[u8], p: usize, k: usize) -> usize
+    requires { ⌜ (p + 3 * k ≤ length (now bytes)) × (at + 7 * k ≤ 184000) ⌝ }
     ensures { λ r. ⌜ Put at (termsText (termsIn k (drop p (now (bytes .entry))))) (now (out .entry)) (now (out .exit)) r × (r ≤ at + 7 * k) ⌝ }
 {
     if k == 0 {
@@ -67,39 +67,39 @@ fn put_terms(out: &mut [u8; 160000], at: usize, bytes: &[u8], p: usize, k: usize
     put_terms(out, next, bytes, p + 3, k - 1)
 }
 
-// The line of row `i`, by its record.
-fn put_row(out: &mut [u8; 160000], at: usize, i: usize, bytes: &[u8]) -> usize
-    requires { ⌜ (at + 34 ≤ 160000) × (i < 10000) × (length (now bytes) ≡ 14) × (getD (now bytes) 3 0 ≤ 3) ⌝ }
-    ensures { λ r. ⌜ Put at (rowText i (rowIn (now (bytes .entry)))) (now (out .entry)) (now (out .exit)) r × (r ≤ at + 34) ⌝ }
+// The line of row `i`, by its record from byte `p` on.
+fn put_row(out: &mut [u8; 184000], at: usize, i: usize, bytes: &[u8], p: usize) -> usize
+    requires { ⌜ (at + 14 + 7 * getD (now bytes) (p + 3) 0 ≤ 184000) × (i < 100000) × (p + 5 + 3 * getD (now bytes) (p + 3) 0 ≤ length (now bytes)) ⌝ }
+    ensures { λ r. ⌜ Put at (rowText i (rowIn (drop p (now (bytes .entry))))) (now (out .entry)) (now (out .exit)) r × (r ≤ at + 14 + 7 * getD (now (bytes .entry)) (p + 3) 0) ⌝ }
 {
     let a = text::put_decimal(out, at, i);
     let b = text::put_byte(out, a, b' ');
-    let c = put_relation(out, b, bytes[2]);
+    let c = put_relation(out, b, bytes[p + 2]);
     let d = text::put_byte(out, c, b' ');
-    let e = put_signed(out, d, bytes[4]);
-    let f = put_terms(out, e, bytes, 5, bytes[3] as usize);
+    let e = put_signed(out, d, bytes[p + 4]);
+    let f = put_terms(out, e, bytes, p + 5, bytes[p + 3] as usize);
     text::put_byte(out, f, b'\n')
 }
 
-// The lines of `count` records.
-pub fn put_rows(out: &mut [u8; 160000], from: usize, count: usize, rows: &[u8]) -> usize
-    requires { ⌜ (from + 34 * count ≤ 160000) × (count ≤ 10000) × (14 * count ≤ length (now rows)) ⌝ }
-    requires { ⌜ FewTerms count (now rows) ⌝ }
-    ensures { λ r. ⌜ Put from (rowsText 0 (rowsIn count (now (rows .entry)))) (now (out .entry)) (now (out .exit)) r × (r ≤ from + 34 * count) ⌝ }
+// The lines of `count` records. "a row is 5 bytes and 3 per term"
+pub fn put_rows(out: &mut [u8; 184000], from: usize, count: usize, rows: &[u8]) -> usize
+    requires { ⌜ (5 * from + 14 * length (now rows) ≤ 920000) × (length (now rows) ≤ 65536) ⌝ }
+    requires { ⌜ Whole count (now rows) ⌝ }
+    ensures { λ r. ⌜ Put from (rowsText 0 (rowsIn count (now (rows .entry)))) (now (out .entry)) (now (out .exit)) r × (5 * r ≤ 5 * from + 14 * length (now (rows .entry))) ⌝ }
 {
     let mut at = from;
+    let mut start: usize = 0;
     let mut i: usize = 0;
     while i < count {
-        let start = 14 * i;
-        let end = start + 14;
-        at = put_row(out, at, i, &rows[start..end]);
+        at = put_row(out, at, i, rows, start);
+        start += 5 + 3 * (rows[start + 3] as usize);
         i += 1;
     }
     at
 }
 
 // The first line.
-pub fn put_head(out: &mut [u8; 160000], count: usize, variables: usize) -> usize
+pub fn put_head(out: &mut [u8; 184000], count: usize, variables: usize) -> usize
     requires { ⌜ (count < 100000) × (variables < 100000) ⌝ }
     ensures { λ r. ⌜ Put 0 (headText count variables) (now (out .entry)) (now (out .exit)) r × (r ≤ 22) ⌝ }
 {

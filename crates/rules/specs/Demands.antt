@@ -14,8 +14,8 @@ use Rattle.rules.specs.Grammar.{Says}
 use Rattle.rules.specs.Table.{Node, Good, tableBytes, nodesOf, ruleAt, root}
 use Rattle.rules.specs.Truth.{Holds, endless, TruthByte, TruthBytes}
 use Rattle.rules.specs.Rows.{Row, Meets, valueAt, atomVariable, rowsOf, rowsBytes, rowsIn}
-use Rattle.rules.specs.Judge.{Lowest, None, Verdict, Judged}
-use Rattle.rules.specs.Refusals.{RunGood, TextRefused, ReadRefused, EvaluateRefused, RowsRefused, JudgeRefused}
+use Rattle.rules.specs.Judge.{None, Verdict, Judged}
+use Rattle.rules.specs.Refusals.{Wins, RunGood, TextRefused, ReadRefused, EvaluateRefused, RowsRefused, JudgeRefused}
 
 -- What a call answers: "A refusal returns its number and changes no byte."
 pub data Answer (A : Type 0) : Type 0 where
@@ -26,10 +26,10 @@ pub data Answer (A : Type 0) : Type 0 where
 pub data Written : Type 0 where
   wrote : ℕ → List ℕ → Written
 
--- Demands 1 and 2. "Where several apply, the lowest wins, and none is returned otherwise": refused with k exactly when k is the lowest
--- that applies, and answered exactly when none does, with what `Is` says.
+-- Demands 1 and 2. Where several refusals apply, "the first in this order wins" (request N4), "and none is returned otherwise": refused with k exactly
+-- when k is the first that applies, and answered exactly when none does, with what `Is` says.
 pub record Exact {A : Type 0} (Refused : ℕ → Type 0) (Is : A → Type 0) (answer : Answer A) : Type 0 where
-  pub refuses : (k : ℕ) → (answer ≡ refused k) ↔ Lowest Refused k
+  pub refuses : (k : ℕ) → (answer ≡ refused k) ↔ Wins Refused k
   pub answers : (x : A) → (answer ≡ answered x) ↔ (None Refused × Is x)
 
 abbrev pub ReaderExact : ((M : ℕ) (text : List ℕ) (room : ℕ) → Answer Written) → Type 0
@@ -112,7 +112,7 @@ Demand3 read rows evaluate =
     (M : ℕ) (text : List ℕ) → None (TextRefused M text) →
     (T D : ℕ) (run : List ℕ) → SlotsAllowed T → RunGood T M run → 1 ≤ D →
     (p : Rule) × Says text p ×
-    ((room₁ room₂ room₃ : ℕ) → 5 * size p ≤ room₁ → 14 * length (rowsOf T M (nodesOf p)) ≤ room₂ → size p * T ≤ room₃ →
+    ((room₁ room₂ room₃ : ℕ) → 7 * size p ≤ room₁ → length (rowsBytes (rowsOf T M (nodesOf p))) ≤ room₂ → size p * T ≤ room₃ →
     (table written truth : List ℕ) × (count answer : ℕ) ×
     (read M text room₁ ≡ answered (wrote (size p) table)) ×
     (rows T M table room₂ ≡ answered (wrote count written)) ×

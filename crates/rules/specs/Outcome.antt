@@ -9,10 +9,10 @@ use lib.IntN.{ℤ, pos, negsuc}
 use Rattle.lists.specs.All.{all}
 use Rattle.lists.specs.Tabulate.{tabulate}
 use Rattle.rules.specs.Rule.{Rule, size}
-use Rattle.rules.specs.Rule.Rule.{atom, unary, binary}
+use Rattle.rules.specs.Rule.Rule.{atom, unary, binary, windowed}
 use Rattle.rules.specs.Reading.{reading}
 use Rattle.rules.specs.Table.{Node, tableBytes, nodesOf, ruleAt, root}
-use Rattle.rules.specs.TableTest.{good, nodesIn}
+use Rattle.rules.specs.TableTest.{windowGood, good, nodesIn}
 use Rattle.rules.specs.Evaluation.{bitOf, truth}
 use Rattle.rules.specs.Rows.{rowsOf, rowsBytes}
 use Rattle.rules.specs.Judge.{Verdict}
@@ -45,12 +45,20 @@ abbrev pub atomsBelow : ℕ → Rule → Bool
 atomsBelow M (atom a) = ltb a M
 atomsBelow M (unary u p) = atomsBelow M p
 atomsBelow M (binary o p q) = atomsBelow M p && atomsBelow M q
+atomsBelow M (windowed w a b p) = atomsBelow M p
 
--- refusals 5, 6 and 11 of a text's rule, and 4 where it has none
+abbrev pub windowsGood : Rule → Bool
+windowsGood (atom a) = true
+windowsGood (unary u p) = windowsGood p
+windowsGood (binary o p q) = windowsGood p && windowsGood q
+windowsGood (windowed w a b p) = windowGood a b && windowsGood p
+
+-- refusals 5, 12, 6 and 11 of a text's rule, and 4 where it has none
 abbrev pub ruleChecked : (M room : ℕ) → Option Rule → Answer Written
 ruleChecked M room none = refused 4
 ruleChecked M room (some p) =
-    require (atomsBelow M p) 5 (require (leb (size p) 128) 6 (require (leb (5 * size p) room) 11 (answered (wrote (size p) (tableBytes (nodesOf p))))))
+    require (atomsBelow M p) 5
+    (require (windowsGood p) 12 (require (leb (size p) 128) 6 (require (leb (7 * size p) room) 11 (answered (wrote (size p) (tableBytes (nodesOf p)))))))
 
 unfoldable pub readOutcome : (M : ℕ) (text : List ℕ) (room : ℕ) → Answer Written
 readOutcome M text room = require (between 1 16 M) 2 (require (leb (length text) 1024) 3 (ruleChecked M room (reading text)))
@@ -78,7 +86,7 @@ evaluateOutcome T M table run room =
 unfoldable pub rowsOutcome : (T M : ℕ) (table : List ℕ) (room : ℕ) → Answer Written
 rowsOutcome T M table room =
     tableChecked T M table
-    (require (leb (14 * length (rowsOf T M (nodesIn table))) room) 11
+    (require (leb (length (rowsBytes (rowsOf T M (nodesIn table)))) room) 11
     (answered (wrote (length (rowsOf T M (nodesIn table))) (rowsBytes (rowsOf T M (nodesIn table))))))
 
 -- "tolerance not 0 to 1,000"

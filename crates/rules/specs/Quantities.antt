@@ -18,6 +18,10 @@ textLimit = 1024
 abbrev pub nodeLimit : ℕ
 nodeLimit = 128
 
+-- Request N4: a window F[a,b] or G[a,b] is refused "when a is above b or b above 63".
+abbrev pub WindowAllowed : (a b : ℕ) → Type 0
+WindowAllowed a b = (a ≤ b) × (b ≤ 63)
+
 -- "Run: T numbers of 16 bits, one per slot; bit a (value 2 to the power a) is the truth of atom a." (A run is a finite trace.)
 abbrev pub bitAt : List ℕ → (t a : ℕ) → ℕ
 bitAt run t a = getD run (t - 1) 0 / 2 ^ a % 2

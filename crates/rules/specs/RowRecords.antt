@@ -1,21 +1,23 @@
 -- Row records: their length, and that reading the records of a table's rows back gives the rows.
 use mathlib.Core.Path.{_≡_, refl, ap, ap₂, _∙_}
 use mathlib.Core.Bool.{Bool, true, false, cond}
-use mathlib.Core.List.{List, [], _∷_, _++_}
+use mathlib.Core.List.{List, [], _∷_, _++_, map, append-assoc}
 use Prim.Native.Nat.{ℕ, zero, suc, _+_, _-_, _*_, _≤_, _<_}
 use native.Mathlib.Omega.{arith}
 use lib.Dec.{ltb}
 use borrow.Author.Tests.{lt-ltb, le-ltb}
-use lib.ListN.{length, replicate, length-append, length-replicate}
-use lib.Seq.{take-at, drop-at}
-use lib.IntN.{ℤ, pos, negsuc}
+use lib.ListN.{length, getD, drop, length-append, length-map}
+use lib.Seq.{drop-at}
+use lib.IntN.{ℤ, pos, negsuc, negℤ}
 use Rattle.lists.specs.Every.{Every, every-append}
-use Rattle.rules.specs.Rule.{Unary, Binary}
+use Rattle.lists.specs.Passing.{passing-length}
+use Rattle.rules.specs.Rule.{Unary, Binary, Window}
 use Rattle.rules.specs.Rule.Unary.{not, eventually, always}
 use Rattle.rules.specs.Rule.Binary.{and, or, implies, until}
+use Rattle.rules.specs.Rule.Window.{within, throughout}
 use Rattle.rules.specs.Table.{Node}
-use Rattle.rules.specs.Table.Node.{atom, unary, binary}
-use Rattle.rules.specs.Rows.{Relation, Term, Row, signedByte, signedIn, relationByte, relationIn, termsBytes, termsIn, rowBytes, rowIn, rowsBytes, rowsIn, unaryRows, binaryRows, rowsAt, slotsRows, nodesRows, slackRows, goalRow, rowsOf}
+use Rattle.rules.specs.Table.Node.{atom, unary, binary, windowed}
+use Rattle.rules.specs.Rows.{Relation, Term, Row, signedByte, signedIn, relationByte, relationIn, termsBytes, termsIn, rowBytes, rowIn, rowsBytes, rowsIn, plus, minus, ge, inWindow, windowSlots, unaryRows, binaryRows, windowRows, slack, rowsAt, slotsRows, nodesRows, slackRows, goalRow, rowsOf}
 use Rattle.rules.specs.Rows.Relation.{at-least, equal}
 
 -- ---- a record
@@ -24,19 +26,22 @@ length-terms : (ts : List Term) → length (termsBytes ts) ≡ 3 * length ts
 length-terms [] = refl
 length-terms (t ∷ ts) = omega (arith, length-terms ts)
 
--- a row of at most three terms, whose right side and coefficients fit a signed byte
+-- a row of fewer than 256 terms, whose right side and coefficients fit a signed byte
 abbrev pub Small : ℤ → Type 0
 Small (pos n) = n < 128
 Small (negsuc n) = n < 128
 
 pub record Recordable (r : Row) : Type 0 where
-  pub few : length (r .terms) ≤ 3
+  pub few : length (r .terms) < 256
   pub right-small : Small (r .right)
   pub small : Every (λ (t : Term). Small (t .coefficient)) (r .terms)
 
-pub length-row : (r : Row) → Recordable r → length (rowBytes r) ≡ 14
-length-row r h =
-    simp (length-append, length-replicate, length-terms) (omega (arith, h .few))
+-- "a row is 5 bytes and 3 per term"
+abbrev pub rowLength : Row → ℕ
+rowLength r = 5 + 3 * length (r .terms)
+
+pub length-row : (r : Row) → length (rowBytes r) ≡ rowLength r
+length-row r = omega (arith, length-terms (r .terms))
 
 signed-back : (z : ℤ) → Small z → signedIn (signedByte z) ≡ z
 signed-back (pos n) h = ap (λ (b : Bool). cond b (pos n) (negsuc (255 - n))) (lt-ltb n 128 h)
@@ -58,24 +63,19 @@ terms-back (t ∷ ts) rest h =
 row-is : (r : Row) (o : Relation) (b : ℤ) (ts : List Term) → o ≡ r .relation → b ≡ r .right → ts ≡ r .terms → _≡_ {A = Row} (record { relation = o; terms = ts; right = b }) r
 row-is r o b ts e f g = λ i. record { relation = e i; terms = g i; right = f i }
 
-pub row-back : (r : Row) → Recordable r → rowIn (rowBytes r) ≡ r
-row-back r h =
-    row-is r (relationIn (relationByte (r .relation))) (signedIn (signedByte (r .right)))
-    (termsIn (length (r .terms)) (termsBytes (r .terms) ++ replicate (9 - 3 * length (r .terms)) 0))
-    (relation-back (r .relation)) (signed-back (r .right) (h .right-small)) (terms-back (r .terms) (replicate (9 - 3 * length (r .terms)) 0) (h .small))
+-- a record, whatever follows it
+pub row-back : (r : Row) (rest : List ℕ) → Recordable r → rowIn (rowBytes r ++ rest) ≡ r
+row-back r rest h =
+    row-is r (relationIn (relationByte (r .relation))) (signedIn (signedByte (r .right))) (termsIn (length (r .terms)) (termsBytes (r .terms) ++ rest))
+    (relation-back (r .relation)) (signed-back (r .right) (h .right-small)) (terms-back (r .terms) rest (h .small))
 
 -- ---- records one after the other
-
-pub length-rows : (rs : List Row) → Every Recordable rs → length (rowsBytes rs) ≡ 14 * length rs
-length-rows [] h = refl
-length-rows (r ∷ rs) h = length-append (rowBytes r) (rowsBytes rs) ∙ omega (arith, length-row r (h .0), length-rows rs (h .1))
 
 pub rows-back : (rs : List Row) → Every Recordable rs → rowsIn (length rs) (rowsBytes rs) ≡ rs
 rows-back [] h = refl
 rows-back (r ∷ rs) h =
-    let e = length-row r (h .0) in
-    ap₂ _∷_ (ap rowIn (take-at (rowBytes r) (rowsBytes rs) 14 e) ∙ row-back r (h .0))
-    (ap (rowsIn (length rs)) (drop-at (rowBytes r) (rowsBytes rs) 14 e) ∙ rows-back rs (h .1))
+    ap₂ _∷_ (row-back r (rowsBytes rs) (h .0))
+    (ap (rowsIn (length rs)) (drop-at (rowBytes r) (rowsBytes rs) (rowLength r) (length-row r)) ∙ rows-back rs (h .1))
 
 -- ---- every row of a table has a record
 
@@ -93,11 +93,53 @@ binary-recordable implies inner P p q P′ = omega arith
 binary-recordable until true P p q P′ = omega arith
 binary-recordable until false P p q P′ = omega arith
 
-module _ (T M : ℕ) where
+-- a window of at most 64 slots
+small-less : (k : ℕ) → k ≤ 64 → Small (negℤ (pos (k - 1)))
+small-less zero h = omega arith
+small-less (suc zero) h = omega arith
+small-less (suc (suc k)) h = let e : suc (suc k) - 1 ≡ suc k = omega arith in rw e (omega arith)
+
+pluses-small : (p : ℕ → ℕ) (ss : List ℕ) (rest : List Term) → Every (λ (t : Term). Small (t .coefficient)) rest → Every (λ (t : Term). Small (t .coefficient)) (map (λ s. plus (p s)) ss ++ rest)
+pluses-small p [] rest h = h
+pluses-small p (s ∷ ss) rest h = (omega arith, pluses-small p ss rest h)
+
+minuses-small : (p : ℕ → ℕ) (ss : List ℕ) → Every (λ (t : Term). Small (t .coefficient)) (map (λ s. minus (p s)) ss)
+minuses-small p [] = tt
+minuses-small p (s ∷ ss) = (omega arith, minuses-small p ss)
+
+every-pair : (f : ℕ → Row) → ((s : ℕ) → Recordable (f s)) → (ss : List ℕ) → Every Recordable (map f ss)
+every-pair f h [] = tt
+every-pair f h (s ∷ ss) = (h s, every-pair f h ss)
+
+window-recordable : (w : Window) (P : ℕ) (p : ℕ → ℕ) (ss : List ℕ) → length ss ≤ 64 → Every Recordable (windowRows w P p ss)
+window-recordable within P p ss h =
+    let pair : ℕ → Row = λ s. ge (plus P ∷ minus (p s) ∷ []) (pos 0) in
+    let long : Row = ge (map (λ s. plus (p s)) ss ++ (minus P ∷ [])) (pos 0) in
+    every-append Recordable (map pair ss) (long ∷ []) .1 (
+      every-pair pair (λ s. omega arith) ss,
+      (
+        record {
+          few = omega (arith, length-append (map (λ (s : ℕ). plus (p s)) ss) (minus P ∷ []), length-map ss (λ (s : ℕ). plus (p s)));
+          right-small = omega arith;
+          small = pluses-small p ss (minus P ∷ []) (omega arith);
+        },
+        tt,
+      ),
+    )
+window-recordable throughout P p ss h =
+    let pair : ℕ → Row = λ s. ge (plus (p s) ∷ minus P ∷ []) (pos 0) in
+    let long : Row = ge (plus P ∷ map (λ s. minus (p s)) ss) (negℤ (pos (length ss - 1))) in
+    every-append Recordable (map pair ss) (long ∷ []) .1 (
+      every-pair pair (λ s. omega arith) ss,
+      (record { few = omega (arith, length-map ss (λ (s : ℕ). minus (p s))); right-small = small-less (length ss) h; small = (omega arith, minuses-small p ss) }, tt),
+    )
+
+module _ (T M : ℕ) (T≤64 : T ≤ 64) where
   pub at-recordable : (n : ℕ) (nd : Node) (t : ℕ) → Every Recordable (rowsAt T M n nd t)
   at-recordable n (atom a) t = omega arith
   at-recordable n (unary u c) t = unary-recordable u (ltb t T) _ _ _
   at-recordable n (binary o l r) t = binary-recordable o (ltb t T) _ _ _ _
+  at-recordable n (windowed w a b c) t = window-recordable w (slack T M n t) (slack T M c) (windowSlots T t a b) (omega (arith, passing-length (inWindow T t a b) T 1))
 
   slots-recordable : (n : ℕ) (nd : Node) (k t : ℕ) → Every Recordable (slotsRows T M n nd k t)
   slots-recordable n nd zero t = tt

@@ -1,17 +1,21 @@
--- "Rows": the linear rows of a table, their records, and what it is for numerators to meet a row.
+-- "Rows", with the windows of request N4: the linear rows of a table, their records, and what it is for numerators to meet a row.
 use mathlib.Core.Path.{_≡_}
-use mathlib.Core.Bool.{Bool, cond}
-use mathlib.Core.List.{List, [], _∷_, _++_}
+use mathlib.Core.Bool.{Bool, cond, _&&_}
+use mathlib.Core.List.{List, [], _∷_, _++_, map}
 use Prim.Native.Nat.{ℕ, zero, suc, _+_, _-_, _*_, _/_, _%_}
-use lib.Dec.{eqb, ltb}
-use lib.ListN.{length, getD, take, drop, replicate}
-use lib.IntN.{ℤ, pos, negsuc, _+ℤ_, _*ℤ_}
+use lib.Dec.{eqb, leb, ltb}
+use lib.ListN.{length, getD, drop}
+use lib.IntN.{ℤ, pos, negsuc, negℤ, _+ℤ_, _*ℤ_}
 use lib.Signed.{_≤ℤ_}
-use Rattle.rules.specs.Rule.{Unary, Binary}
+use Rattle.lists.specs.Any.{any}
+use Rattle.lists.specs.Passing.{passing}
+use Rattle.rules.specs.Rule.{Unary, Binary, Window}
 use Rattle.rules.specs.Rule.Unary.{not, eventually, always}
 use Rattle.rules.specs.Rule.Binary.{and, or, implies, until}
+use Rattle.rules.specs.Rule.Window.{within, throughout}
 use Rattle.rules.specs.Table.{Node, root}
-use Rattle.rules.specs.Table.Node.{atom, unary, binary}
+use Rattle.rules.specs.Table.Node.{atom, unary, binary, windowed}
+use Rattle.rules.specs.Truth.{slotOf}
 
 pub data Relation : Type 0 where
   at-least equal : Relation
@@ -85,11 +89,28 @@ binaryRows or inner P p q P′ = orRows P p q
 binaryRows implies inner P p q P′ = impliesRows P p q
 binaryRows until inner P p q P′ = cond inner (untilRows P p q P′) (sameRows P q)
 
+-- Request N4. Whether slot s is one that the window of a, b looks at from slot t: "slots t + a to t + b, and a slot after T counts as T"
+abbrev pub inWindow : (T t a b s : ℕ) → Bool
+inWindow T t a b s = any (λ j. leb a j && eqb (slotOf T (t + j)) s) (b + 1)
+
+-- "the different slots of the window, k of them, lowest slot first both in rows and in terms"
+abbrev pub windowSlots : (T t a b : ℕ) → List ℕ
+windowSlots T t a b = passing (inWindow T t a b) T 1
+
+-- Kinds 9 and 10; `p s` is the part at slot s, and `ss` has the slots of the window. "F has P − p(s) ≥ 0 for each s, then the sum of all p(s),
+-- less P, ≥ 0. G has p(s) − P ≥ 0 for each s, then P less all p(s) ≥ −(k − 1)."
+abbrev pub windowRows : Window → (P : ℕ) → (p : ℕ → ℕ) → (ss : List ℕ) → List Row
+windowRows within P p ss =
+    map (λ s. ge (plus P ∷ minus (p s) ∷ []) (pos 0)) ss ++ (ge (map (λ s. plus (p s)) ss ++ (minus P ∷ [])) (pos 0) ∷ [])
+windowRows throughout P p ss =
+    map (λ s. ge (plus (p s) ∷ minus P ∷ []) (pos 0)) ss ++ (ge (plus P ∷ map (λ s. minus (p s)) ss) (negℤ (pos (length ss - 1))) ∷ [])
+
 -- the rows of node n at slot t
 abbrev pub rowsAt : (T M n : ℕ) → Node → (t : ℕ) → List Row
 rowsAt T M n (atom a) t = sameRows (slack T M n t) (atomVariable T a t)
 rowsAt T M n (unary u c) t = unaryRows u (ltb t T) (slack T M n t) (slack T M c t) (slack T M n (t + 1))
 rowsAt T M n (binary o l r) t = binaryRows o (ltb t T) (slack T M n t) (slack T M l t) (slack T M r t) (slack T M n (t + 1))
+rowsAt T M n (windowed w a b c) t = windowRows w (slack T M n t) (slack T M c) (windowSlots T t a b)
 
 -- "Nodes run in number order, slots within a node, rows within a slot.": k slots from slot t on; the nodes from node n on
 abbrev pub slotsRows : (T M n : ℕ) → Node → (k t : ℕ) → List Row
@@ -111,8 +132,9 @@ goalRow T M ns = eq (plus (slack T M (root ns) 1) ∷ []) (pos 1)
 abbrev pub rowsOf : (T M : ℕ) → List Node → List Row
 rowsOf T M ns = slackRows T M ns ++ (goalRow T M ns ∷ [])
 
--- ---- "A row record has 14 bytes: mark 52 57 (hexadecimal), relation (1 for ≥, 2 for =), term count, right side as a signed byte,
--- then three terms of a signed coefficient byte and a 16-bit variable, low byte first."
+-- ---- "A row record has ..: mark 52 57 (hexadecimal), relation (1 for ≥, 2 for =), term count, right side as a signed byte,
+-- then .. terms of a signed coefficient byte and a 16-bit variable, low byte first." Request N4: "Row records now end after their last term,
+-- so a row is 5 bytes and 3 per term."
 
 abbrev pub relationByte : Relation → ℕ
 relationByte at-least = 1
@@ -131,11 +153,8 @@ abbrev pub termsBytes : List Term → List ℕ
 termsBytes [] = []
 termsBytes (t ∷ ts) = termBytes t ++ termsBytes ts
 
--- "unused ones are zero"
 abbrev pub rowBytes : Row → List ℕ
-rowBytes r =
-    0x52 ∷ 0x57 ∷ relationByte (r .relation) ∷ length (r .terms) ∷ signedByte (r .right) ∷
-    (termsBytes (r .terms) ++ replicate (9 - 3 * length (r .terms)) 0)
+rowBytes r = 0x52 ∷ 0x57 ∷ relationByte (r .relation) ∷ length (r .terms) ∷ signedByte (r .right) ∷ termsBytes (r .terms)
 
 abbrev pub rowsBytes : List Row → List ℕ
 rowsBytes [] = []
@@ -156,10 +175,10 @@ termsIn (suc n) b = record { coefficient = signedIn (getD b 0 0); variable = get
 abbrev pub rowIn : List ℕ → Row
 rowIn b = record { relation = relationIn (getD b 2 0); terms = termsIn (getD b 3 0) (drop 5 b); right = signedIn (getD b 4 0) }
 
--- n records
+-- n records, each of the length that its term count says
 abbrev pub rowsIn : ℕ → List ℕ → List Row
 rowsIn zero b = []
-rowsIn (suc n) b = rowIn (take 14 b) ∷ rowsIn n (drop 14 b)
+rowsIn (suc n) b = rowIn b ∷ rowsIn n (drop (5 + 3 * getD b 3 0) b)
 
 -- ---- meeting a row, over numerators in the order of the variables
 

@@ -1,18 +1,20 @@
--- "Node table": the nodes of a rule, their records, and which byte strings are good tables.
+-- "Node table", with the windows of request N4: the nodes of a rule, their records, and which byte strings are good tables.
 use mathlib.Core.Path.{_≡_}
 use mathlib.Core.List.{List, [], _∷_, _++_}
 use Prim.Native.Nat.{ℕ, zero, suc, _+_, _-_, _≤_, _<_}
 use lib.ListN.{length, getD}
-use Rattle.rules.specs.Quantities.{nodeLimit}
-use Rattle.rules.specs.Rule.{Unary, Binary, Rule, size}
+use Rattle.rules.specs.Quantities.{nodeLimit, WindowAllowed}
+use Rattle.rules.specs.Rule.{Unary, Binary, Window, Rule, size}
 use Rattle.rules.specs.Rule.Unary.{not, eventually, always}
 use Rattle.rules.specs.Rule.Binary.{and, or, implies, until}
+use Rattle.rules.specs.Rule.Window.{within, throughout}
 
--- A node: an atom's number, or the numbers of its children.
+-- A node: an atom's number, or the numbers of its children, with the window a, b where it has one.
 pub data Node : Type 0 where
   atom : ℕ → Node
   unary : Unary → ℕ → Node
   binary : Binary → ℕ → ℕ → Node
+  windowed : Window → (a b child : ℕ) → Node
 
 -- "Kinds: 1 atom, 2 not, 3 and, 4 or, 5 implies (>), 6 eventually (F), 7 always (G), 8 until (U)"
 abbrev pub unaryKind : Unary → ℕ
@@ -26,26 +28,47 @@ binaryKind or = 4
 binaryKind implies = 5
 binaryKind until = 8
 
+-- "New kinds are 9 for F and 10 for G"
+abbrev pub windowKind : Window → ℕ
+windowKind within = 9
+windowKind throughout = 10
+
 abbrev pub kindOf : Node → ℕ
 kindOf (atom a) = 1
 kindOf (unary u c) = unaryKind u
 kindOf (binary o l r) = binaryKind o
+kindOf (windowed w a b c) = windowKind w
 
--- "For an atom, left is its number. For kinds 2, 6, 7, left is the child."
+-- "For an atom, left is its number. For kinds 2, 6, 7, left is the child." For kinds 9 and 10, "left the child and right 0".
 abbrev pub leftOf : Node → ℕ
 leftOf (atom a) = a
 leftOf (unary u c) = c
 leftOf (binary o l r) = l
+leftOf (windowed w a b c) = c
 
 -- "Right is 0 for kinds 1, 2, 6, 7."
 abbrev pub rightOf : Node → ℕ
 rightOf (atom a) = 0
 rightOf (unary u c) = 0
 rightOf (binary o l r) = r
+rightOf (windowed w a b c) = 0
 
--- "Each record begins with its two-byte mark, here hexadecimal 4E 44. Then kind, left, right: 5 bytes in all."
+-- "Every node record gains two bytes after right, a and then b, 0 in the other kinds."
+abbrev pub fromOf : Node → ℕ
+fromOf (atom a) = 0
+fromOf (unary u c) = 0
+fromOf (binary o l r) = 0
+fromOf (windowed w a b c) = a
+
+abbrev pub toOf : Node → ℕ
+toOf (atom a) = 0
+toOf (unary u c) = 0
+toOf (binary o l r) = 0
+toOf (windowed w a b c) = b
+
+-- "Each record begins with its two-byte mark, here hexadecimal 4E 44. Then kind, left, right", and a and b: 7 bytes in all.
 abbrev pub nodeBytes : Node → List ℕ
-nodeBytes n = 0x4E ∷ 0x44 ∷ kindOf n ∷ leftOf n ∷ rightOf n ∷ []
+nodeBytes n = 0x4E ∷ 0x44 ∷ kindOf n ∷ leftOf n ∷ rightOf n ∷ fromOf n ∷ toOf n ∷ []
 
 abbrev pub tableBytes : List Node → List ℕ
 tableBytes [] = []
@@ -57,6 +80,7 @@ nodesFrom k (Rule.atom a) = atom a ∷ []
 nodesFrom k (Rule.unary u p) = nodesFrom k p ++ (unary u (k + size p - 1) ∷ [])
 nodesFrom k (Rule.binary o p q) =
     nodesFrom k p ++ (nodesFrom (k + size p) q ++ (binary o (k + size p - 1) (k + size p + size q - 1) ∷ []))
+nodesFrom k (Rule.windowed w a b p) = nodesFrom k p ++ (windowed w a b (k + size p - 1) ∷ [])
 
 abbrev pub nodesOf : Rule → List Node
 nodesOf p = nodesFrom 0 p
@@ -64,14 +88,16 @@ nodesOf p = nodesFrom 0 p
 abbrev pub nodeAt : List Node → ℕ → Node
 nodeAt ns n = getD ns n (atom 0)
 
--- "each child number is below its own node's number, atoms are below M"
+-- "each child number is below its own node's number, atoms are below M"; "not good when a is above b, b is above 63"
 abbrev pub NodeGood : ℕ → ℕ → Node → Type 0
 NodeGood M n (atom a) = a < M
 NodeGood M n (unary u c) = c < n
 NodeGood M n (binary o l r) = (l < n) × (r < n)
+NodeGood M n (windowed w a b c) = (c < n) × WindowAllowed a b
 
 -- "A table is good when it is 1 to 128 whole records, marks and kinds are as above, each child number is below its own node's number,
--- atoms are below M and unused rights are 0": the bytes are the records of the nodes ns, and those are good.
+-- atoms are below M and unused rights are 0", and "not good when .. another kind has a window": the bytes are the records of the nodes ns,
+-- and those are good.
 pub record Good (M : ℕ) (bytes : List ℕ) (ns : List Node) : Type 0 where
   pub records : bytes ≡ tableBytes ns
   pub some : 1 ≤ length ns
@@ -83,6 +109,7 @@ abbrev pub grow : (ℕ → Rule) → Node → Rule
 grow f (atom a) = Rule.atom a
 grow f (unary u c) = Rule.unary u (f c)
 grow f (binary o l r) = Rule.binary o (f l) (f r)
+grow f (windowed w a b c) = Rule.windowed w a b (f c)
 
 -- k levels deep; n + 1 levels are enough for node n, since children stand below their node
 abbrev pub ruleTo : List Node → ℕ → ℕ → Rule

@@ -7,8 +7,8 @@ use native.Mathlib.Omega.{arith}
 use lib.ListN.{length, length-append, List·getD-append}
 use lib.Seq.{getD-append-add}
 use Rattle.rules.specs.RuleSize.{size-positive}
-use Rattle.rules.specs.Rule.{Rule, size, AtomsBelow}
-use Rattle.rules.specs.Rule.Rule.{atom, unary, binary}
+use Rattle.rules.specs.Rule.{Rule, size, AtomsBelow, WindowsAllowed}
+use Rattle.rules.specs.Rule.Rule.{atom, unary, binary, windowed}
 use Rattle.rules.specs.Table.{Node, NodeGood, Good, tableBytes, nodesFrom, nodesOf, nodeAt, grow, ruleTo, ruleAt, root}
 
 abbrev pub NodesGood : ℕ → List Node → Type 0
@@ -19,6 +19,7 @@ grow-cong : (M n : ℕ) (f g : ℕ → Rule) → ((c : ℕ) → c < n → f c �
 grow-cong M n f g e (Node.atom a) h = refl
 grow-cong M n f g e (Node.unary u c) h = ap (unary u) (e c h)
 grow-cong M n f g e (Node.binary o l r) h = ap₂ (binary o) (e l (h .0)) (e r (h .1))
+grow-cong M n f g e (Node.windowed w a b c) h = ap (windowed w a b) (e c (h .0))
 
 module _ (M : ℕ) (ns : List Node) (good : NodesGood M ns) where
   ruleTo-enough : (k m n : ℕ) → n < k → n < m → n < length ns → ruleTo ns k n ≡ ruleTo ns m n
@@ -37,6 +38,7 @@ pub length-nodesFrom : (k : ℕ) (p : Rule) → length (nodesFrom k p) ≡ size 
 length-nodesFrom k (atom a) = refl
 length-nodesFrom k (unary u p) = simp length-append (omega (arith, length-nodesFrom k p))
 length-nodesFrom k (binary o p q) = simp length-append (omega (arith, length-nodesFrom k p, length-nodesFrom (k + size p) q))
+length-nodesFrom k (windowed w a b p) = simp length-append (omega (arith, length-nodesFrom k p))
 
 -- good as a part of a table, its first node being node k
 abbrev GoodFrom : (M k : ℕ) → List Node → Type 0
@@ -57,26 +59,29 @@ good-one : (M k : ℕ) (nd : Node) → NodeGood M k nd → GoodFrom M k (nd ∷ 
 good-one M k nd h zero u = subst (λ (j : ℕ). NodeGood M j nd) (omega arith) h
 good-one M k nd h (suc i) u = absurd (omega arith)
 
-nodes-good-from : (M : ℕ) (p : Rule) → AtomsBelow M p → (k : ℕ) → GoodFrom M k (nodesFrom k p)
-nodes-good-from M (atom a) h k = good-one M k (Node.atom a) h
-nodes-good-from M (unary u p) h k =
-    good-append M k (size p) (nodesFrom k p) (Node.unary u (k + size p - 1) ∷ []) (length-nodesFrom k p) (nodes-good-from M p h k)
+nodes-good-from : (M : ℕ) (p : Rule) → AtomsBelow M p → WindowsAllowed p → (k : ℕ) → GoodFrom M k (nodesFrom k p)
+nodes-good-from M (atom a) h i k = good-one M k (Node.atom a) h
+nodes-good-from M (windowed w a b p) h i k =
+    good-append M k (size p) (nodesFrom k p) (Node.windowed w a b (k + size p - 1) ∷ []) (length-nodesFrom k p) (nodes-good-from M p h (i .1) k)
+    (good-one M (k + size p) (Node.windowed w a b (k + size p - 1)) (omega (arith, size-positive p), i .0))
+nodes-good-from M (unary u p) h i k =
+    good-append M k (size p) (nodesFrom k p) (Node.unary u (k + size p - 1) ∷ []) (length-nodesFrom k p) (nodes-good-from M p h i k)
     (good-one M (k + size p) (Node.unary u (k + size p - 1)) (omega (arith, size-positive p)))
-nodes-good-from M (binary o p q) h k =
-    good-append M k (size p) (nodesFrom k p) _ (length-nodesFrom k p) (nodes-good-from M p (h .0) k)
-    (good-append M (k + size p) (size q) (nodesFrom (k + size p) q) _ (length-nodesFrom (k + size p) q) (nodes-good-from M q (h .1) (k + size p))
+nodes-good-from M (binary o p q) h i k =
+    good-append M k (size p) (nodesFrom k p) _ (length-nodesFrom k p) (nodes-good-from M p (h .0) (i .0) k)
+    (good-append M (k + size p) (size q) (nodesFrom (k + size p) q) _ (length-nodesFrom (k + size p) q) (nodes-good-from M q (h .1) (i .1) (k + size p))
     (good-one M (k + size p + size q) (Node.binary o (k + size p - 1) (k + size p + size q - 1)) (omega (arith, size-positive p, size-positive q), omega (arith, size-positive p, size-positive q))))
 
-pub nodes-good : (M : ℕ) (p : Rule) → AtomsBelow M p → NodesGood M (nodesOf p)
-nodes-good M p h n u = subst (λ (j : ℕ). NodeGood M j (nodeAt (nodesOf p) n)) (omega arith) (nodes-good-from M p h 0 n u)
+pub nodes-good : (M : ℕ) (p : Rule) → AtomsBelow M p → WindowsAllowed p → NodesGood M (nodesOf p)
+nodes-good M p h i n u = subst (λ (j : ℕ). NodeGood M j (nodeAt (nodesOf p) n)) (omega arith) (nodes-good-from M p h i 0 n u)
 
--- "which is what the reader writes": the table of a rule with few enough nodes and atoms is good
-pub rule-good : (M : ℕ) (p : Rule) → AtomsBelow M p → size p ≤ 128 → Good M (tableBytes (nodesOf p)) (nodesOf p)
-rule-good M p h k = record {
+-- "which is what the reader writes": the table of a rule with few enough nodes and atoms, and windows that are allowed, is good
+pub rule-good : (M : ℕ) (p : Rule) → AtomsBelow M p → WindowsAllowed p → size p ≤ 128 → Good M (tableBytes (nodesOf p)) (nodesOf p)
+rule-good M p h i k = record {
   records = refl;
   some = omega (arith, length-nodesFrom 0 p, size-positive p);
   few = omega (arith, length-nodesFrom 0 p);
-  nodes = nodes-good M p h;
+  nodes = nodes-good M p h i;
 }
 
 -- ---- the root stands for the rule
@@ -103,6 +108,11 @@ module _ (M : ℕ) (ns : List Node) (good : NodesGood M ns) where
       ap (ruleAt ns) (omega arith)
       ∙ last-is (k + size p) top (has-right ns k (size p) (nodesFrom k p) (top ∷ []) (length-nodesFrom k p) h) (omega arith)
       ∙ ap (unary v) (stands p k (has-left ns k (nodesFrom k p) (top ∷ []) h) (omega arith))
+  stands (windowed w a b p) k h u =
+      let top = Node.windowed w a b (k + size p - 1) in
+      ap (ruleAt ns) (omega arith)
+      ∙ last-is (k + size p) top (has-right ns k (size p) (nodesFrom k p) (top ∷ []) (length-nodesFrom k p) h) (omega arith)
+      ∙ ap (windowed w a b) (stands p k (has-left ns k (nodesFrom k p) (top ∷ []) h) (omega arith))
   stands (binary o p q) k h u =
       let top = Node.binary o (k + size p - 1) (k + size p + size q - 1) in
       let behind = nodesFrom (k + size p) q ++ (top ∷ []) in
@@ -112,7 +122,7 @@ module _ (M : ℕ) (ns : List Node) (good : NodesGood M ns) where
       ∙ ap₂ (binary o) (stands p k (has-left ns k (nodesFrom k p) behind h) (omega arith))
       (stands q (k + size p) (has-left ns (k + size p) (nodesFrom (k + size p) q) (top ∷ []) right) (omega arith))
 
-pub root-is : (M : ℕ) (p : Rule) → AtomsBelow M p → ruleAt (nodesOf p) (root (nodesOf p)) ≡ p
-root-is M p h =
+pub root-is : (M : ℕ) (p : Rule) → AtomsBelow M p → WindowsAllowed p → ruleAt (nodesOf p) (root (nodesOf p)) ≡ p
+root-is M p h i =
     ap (λ (n : ℕ). ruleAt (nodesOf p) (n - 1)) (length-nodesFrom 0 p) ∙ ap (ruleAt (nodesOf p)) (omega arith)
-    ∙ stands M (nodesOf p) (nodes-good M p h) p 0 (λ i u. ap (nodeAt (nodesOf p)) (omega arith)) (omega (arith, length-nodesFrom 0 p))
+    ∙ stands M (nodesOf p) (nodes-good M p h i) p 0 (λ i u. ap (nodeAt (nodesOf p)) (omega arith)) (omega (arith, length-nodesFrom 0 p))

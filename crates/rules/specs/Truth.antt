@@ -5,10 +5,11 @@ use mathlib.Core.List.{List}
 use Prim.Native.Nat.{ℕ, _+_, _-_, _*_, _≤_, _<_, min}
 use lib.ListN.{length, getD}
 use Rattle.rules.specs.Quantities.{bitAt}
-use Rattle.rules.specs.Rule.{Unary, Binary, Rule}
+use Rattle.rules.specs.Rule.{Unary, Binary, Window, Rule}
 use Rattle.rules.specs.Rule.Unary.{not, eventually, always}
 use Rattle.rules.specs.Rule.Binary.{and, or, implies, until}
-use Rattle.rules.specs.Rule.Rule.{atom, unary, binary}
+use Rattle.rules.specs.Rule.Window.{within, throughout}
+use Rattle.rules.specs.Rule.Rule.{atom, unary, binary, windowed}
 use Rattle.rules.specs.Table.{Node, ruleAt}
 
 -- "A slot after T has the atoms of slot T."
@@ -35,10 +36,16 @@ HoldsBinary or P Q t = P t ⊎ Q t
 HoldsBinary implies P Q t = P t → Q t
 HoldsBinary until P Q t = (k : ℕ) × (t ≤ k) × Q k × ((j : ℕ) → t ≤ j → j < k → P j)
 
+-- Request N4: "They look at slots t + a to t + b, and a slot after T counts as T." (The run goes on in its last slot for good.)
+abbrev pub HoldsWindow : Window → (a b : ℕ) → (ℕ → Type 0) → ℕ → Type 0
+HoldsWindow within a b P t = (k : ℕ) × (t + a ≤ k) × (k ≤ t + b) × P k
+HoldsWindow throughout a b P t = (k : ℕ) → t + a ≤ k → k ≤ t + b → P k
+
 abbrev pub Holds : Endless → Rule → ℕ → Type 0
 Holds w (atom a) t = w t a
 Holds w (unary u p) t = HoldsUnary u (Holds w p) t
 Holds w (binary o p q) t = HoldsBinary o (Holds w p) (Holds w q) t
+Holds w (windowed i a b p) t = HoldsWindow i a b (Holds w p) t
 
 -- "one byte, 0 or 1": 1 where P holds and 0 where not
 pub data TruthByte (P : Type 0) : ℕ → Type 0 where

@@ -11,8 +11,8 @@ ghost use Rattle.mps.specs.Page.{rowSection, rightSection, boundLine, boundSect
 
 // NAME and ROWS: the free row, and a line for each row.
 pub fn put_rows(out: &mut [u8], at: usize, table: &[u8], n: usize, t: usize, m: usize) -> usize
-    requires { ⌜ (at ≤ 4000000000) × Ready t m (now table) × (n ≡ recordCount (now table)) ⌝ }
-    ensures { λ r. ⌜ Sent at (rowSection (rowsOf t m (nodesIn (now (table .entry))))) (now (out .entry)) (now (out .exit)) r × (r ≤ at + 1400000) ⌝ }
+    requires { ⌜ (at ≤ 1099480000000) × Ready t m (now table) × (n ≡ recordCount (now table)) ⌝ }
+    ensures { λ r. ⌜ Sent at (rowSection (rowsOf t m (nodesIn (now (table .entry))))) (now (out .entry)) (now (out .exit)) r × (r ≤ at + 21400000) ⌝ }
 {
     let rows = lines::put_text(out, at, b"NAME\n");
     let free = lines::put_text(out, rows, b"ROWS\n");
@@ -22,8 +22,8 @@ pub fn put_rows(out: &mut [u8], at: usize, table: &[u8], n: usize, t: usize, m: 
 
 // RHS: the right sides that are not 0.
 pub fn put_rights(out: &mut [u8], at: usize, table: &[u8], n: usize, t: usize, m: usize) -> usize
-    requires { ⌜ (at ≤ 4000000000) × Ready t m (now table) × (n ≡ recordCount (now table)) ⌝ }
-    ensures { λ r. ⌜ Sent at (rightSection (rowsOf t m (nodesIn (now (table .entry))))) (now (out .entry)) (now (out .exit)) r × (r ≤ at + 1400000) ⌝ }
+    requires { ⌜ (at ≤ 1099480000000) × Ready t m (now table) × (n ≡ recordCount (now table)) ⌝ }
+    ensures { λ r. ⌜ Sent at (rightSection (rowsOf t m (nodesIn (now (table .entry))))) (now (out .entry)) (now (out .exit)) r × (r ≤ at + 21400000) ⌝ }
 {
     let first = lines::put_text(out, at, b"RHS\n");
     nodelines::put_all(out, first, Text::Right, table, n, t, m)
@@ -31,7 +31,7 @@ pub fn put_rights(out: &mut [u8], at: usize, table: &[u8], n: usize, t: usize, m
 
 // The bound of a variable; the first ones are the atoms'.
 fn put_bound(out: &mut [u8], at: usize, atoms: usize, v: usize) -> usize
-    requires { ⌜ (at ≤ 4294967296) × (v < 100000) ⌝ }
+    requires { ⌜ (at ≤ 1099511600000) × (v < 1000000) ⌝ }
     ensures { λ r. ⌜ Sent at (boundLine atoms v) (now (out .entry)) (now (out .exit)) r × (r ≤ at + 40) ⌝ }
 {
     if v < atoms {
@@ -43,7 +43,7 @@ fn put_bound(out: &mut [u8], at: usize, atoms: usize, v: usize) -> usize
 
 // BOUNDS and ENDATA: a bound for each variable.
 pub fn put_bounds(out: &mut [u8], at: usize, atoms: usize, variables: usize) -> usize
-    requires { ⌜ (at ≤ 4000000000) × (variables ≤ 30000) ⌝ }
+    requires { ⌜ (at ≤ 1099480000000) × (variables ≤ 30000) ⌝ }
     ensures { λ r. ⌜ Sent at (boundSection atoms variables) (now (out .entry)) (now (out .exit)) r × (r ≤ at + 1300000) ⌝ }
 {
     let mut next = lines::put_text(out, at, b"BOUNDS\n");

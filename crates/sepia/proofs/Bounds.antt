@@ -49,10 +49,13 @@ evaluate-fits t m table run room =
     fits _ _ (evaluateOutcome t m table run room) (evaluator-exact t m table run room)
     (λ v bytes none i. let e : i .1 ≡ v = cc (i .6) in rw e at (byte-fits (i .5)))
 
--- ---- at most four rows for a node at a slot
+-- ---- at most T + 4 rows for a node at a slot
 
 rows-few : (T M : ℕ) (ns : List Node) → T ≤ 64 → length ns ≤ 128 → length (rowsOf T M ns) < 4294967296
-rows-few T M ns h k = omega (arith, rows-count T M ns, mul-le-mul k h)
+rows-few T M ns h k =
+    let e : length ns * T ≤ 128 * 64 = mul-le-mul {n₂ = 128} {m₂ = 64} k h in
+    let f : (T + 4) * (length ns * T) ≤ 68 * 8192 = mul-le-mul {n₂ = 68} {m₂ = 8192} (omega arith) (omega arith) in
+    omega (arith, rows-count T M ns)
 
 pub write-rows-fits : (t m : ℕ) (table : List ℕ) (room : ℕ) → Fits (result (rowsOutcome t m table room))
 write-rows-fits t m table room =

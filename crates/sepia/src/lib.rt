@@ -5,10 +5,18 @@ ghost use Rattle.rules.specs.Outcome.{result, buffer, readOutcome, evaluateOutc
 ghost use Rattle.answers.specs.Told.{told};
 ghost use Rattle.mps.specs.Outcome.{pageOutcome};
 ghost use Rattle.judge.specs.Ruled.{ruled, verdictOf};
-ghost use Rattle.sepia.specs.Boundary.{inC, Fits, verdictNumber, verdictValue, verdictShortfall, verdictInC, VerdictFits};
+ghost use Rattle.sepia.specs.Boundary.{version, inC, Fits, verdictNumber, verdictValue, verdictShortfall, verdictInC, VerdictFits};
 use answers::Answer;
 use judge::Ruling;
 use judge::Verdict;
+
+// The version of this boundary, for a caller to compare with its header's.
+#[no_mangle]
+pub extern "C" fn sepia_version() -> u32
+    ensures { λ r. ⌜ r ≡ version ⌝ }
+{
+    4
+}
 
 // A refusal's number, or 0 and the result.
 #[repr(C)]

@@ -92,7 +92,7 @@ reached-start = refl
 -- the rows of a node at a slot, as the call that tests them ensures
 pub record Tested (e : ℕ) (f : Row → ℤ) (s : Search) (rs : List Row) (x : Search) : Type 0 where
   pub is : x ≡ tested e f s rs
-  pub by-four : reached x ≤ reached s + 4
+  pub by-many : reached x ≤ reached s + 65
 
 module _ (e : ℕ) (f : Row → ℤ) where
   step-next : {i : ℤ} {a : Row} {s x : Search} → i ≡ f a → Step e i s x → x ≡ next e f s a
@@ -100,14 +100,14 @@ module _ (e : ℕ) (f : Row → ℤ) where
 
   pub one-tested : {i : ℤ} {a : Row} {s x : Search} → i ≡ f a → Step e i s x → Tested e f s (a ∷ []) x
   unfolding tested
-  one-tested t p = record { is = step-next t p; by-four = omega (arith, p .by-one) }
+  one-tested t p = record { is = step-next t p; by-many = omega (arith, p .by-one) }
 
   pub three-tested : {i j k : ℤ} {a b c : Row} {s x y z : Search} → i ≡ f a → j ≡ f b → k ≡ f c → Step e i s x → Step e j x y → Step e k y z → Tested e f s (a ∷ b ∷ c ∷ []) z
   unfolding tested
   three-tested {b = b} {c = c} t u v p q r =
       record {
         is = step-next v r ∙ ap (λ (o : Search). next e f o c) (step-next u q ∙ ap (λ (o : Search). next e f o b) (step-next t p));
-        by-four = omega (arith, p .by-one, q .by-one, r .by-one);
+        by-many = omega (arith, p .by-one, q .by-one, r .by-one);
       }
 
   pub four-tested : {i j k l : ℤ} {a b c d : Row} {s w x y z : Search} → i ≡ f a → j ≡ f b → k ≡ f c → l ≡ f d →
@@ -116,10 +116,26 @@ module _ (e : ℕ) (f : Row → ℤ) where
   four-tested {b = b} {c = c} {d = d} t u v w p q r o =
       record {
         is = step-next w o ∙ ap (λ (o : Search). next e f o d) (step-next v r ∙ ap (λ (o : Search). next e f o c) (step-next u q ∙ ap (λ (o : Search). next e f o b) (step-next t p)));
-        by-four = omega (arith, p .by-one, q .by-one, r .by-one, o .by-one);
+        by-many = omega (arith, p .by-one, q .by-one, r .by-one, o .by-one);
       }
 
-  stuck : (i : ℕ) (x : ℤ) (rs : List Row) → tested e f (Broken x i) rs ≡ Broken x i
+  -- rows one by one: one more
+  pub tested-next : (h : ℕ → Row) (s : Search) (k : ℕ) {d : ℤ} {y x : Search} → y ≡ tested e f s (flat (λ i. h i ∷ []) k) → d ≡ f (h k) → Step e d y x →
+      x ≡ tested e f s (flat (λ i. h i ∷ []) (k + 1))
+  tested-next h s k p t o =
+      step-next t o ∙ ap (λ (y : Search). next e f y (h k)) p
+      ∙ sym (tested-more e f s (λ i. h i ∷ []) k ∙ tested-one e f (tested e f s (flat (λ i. h i ∷ []) k)) (h k))
+
+  -- at most 64 rows, and a last one
+  pub last-tested : (rs : List Row) (a : Row) {d : ℤ} {n : ℕ} {s y x : Search} → y ≡ tested e f s rs → reached y ≤ reached s + n → n ≤ 64 → d ≡ f a → Step e d y x →
+      Tested e f s (rs ++ (a ∷ [])) x
+  last-tested rs a {s = s} p b h t o =
+      record {
+        is = step-next t o ∙ ap (λ (y : Search). next e f y a) p ∙ sym (tested-append e f s rs (a ∷ []) ∙ tested-one e f (tested e f s rs) a);
+        by-many = omega (arith, b, h, o .by-one);
+      }
+
+  pub stuck : (i : ℕ) (x : ℤ) (rs : List Row) → tested e f (Broken x i) rs ≡ Broken x i
   unfolding tested
   stuck i x [] = refl
   stuck i x (r ∷ rs) = stuck i x rs
@@ -147,6 +163,15 @@ module _ (e : ℕ) (f : Row → ℤ) (s : Search) (g : ℕ → List Row) where
   over-rest k n h p o =
       let z : k + (n - k) ≡ n = omega arith in
       p ∙ sym (later k (n - k) (ap over (sym p) ∙ o)) ∙ ap (λ (i : ℕ). tested e f s (flat g i)) z
+
+-- and a last row
+pub over-last : (e : ℕ) (f : Row → ℤ) (rs : List Row) (a : Row) {s x : Search} → x ≡ tested e f s rs → over x ≡ true → reached x ≤ reached s + 65 →
+    Tested e f s (rs ++ (a ∷ [])) x
+over-last e f rs a {s = s} {x = x} p o b =
+    record {
+      is = sym (tested-append e f s rs (a ∷ []) ∙ ap (λ (y : Search). tested e f y (a ∷ [])) (sym p) ∙ stays e f x (a ∷ []) o);
+      by-many = b;
+    }
 
 -- ---- of all rows: the first that is broken, and its shortfall
 

@@ -1,13 +1,25 @@
 -- The lines of rows, one after the other.
 use mathlib.Core.Path.{_≡_, refl, sym, ap, _∙_}
-use mathlib.Core.Bool.{Bool}
 use mathlib.Core.List.{List, [], _∷_, _++_, append-nil}
-use Prim.Native.Nat.{ℕ, _+_}
+use Prim.Native.Nat.{ℕ, _+_, _≤_}
 use native.Mathlib.Omega.{arith}
 use Rattle.rules.specs.Rows.{Row}
 use Rattle.table.specs.declared.Kind.{Kind}
-use Rattle.row.specs.Kinds.{kindRows}
+use Rattle.table.specs.declared.Kind.the-variants.{Atom, Not, And, Or, Implies, Eventually, Always, Until, Within, Throughout}
 use Rattle.mps.specs.Page.{eachRow}
+
+-- of a kind with a window: what is known of the part's variables at its slots
+abbrev pub Seen : Kind → (P first count : ℕ) → Type 0
+Seen Atom P first count = Unit {0}
+Seen Not P first count = Unit {0}
+Seen And P first count = Unit {0}
+Seen Or P first count = Unit {0}
+Seen Implies P first count = Unit {0}
+Seen Eventually P first count = Unit {0}
+Seen Always P first count = Unit {0}
+Seen Until P first count = Unit {0}
+Seen Within P first count = (1 ≤ count) × (count ≤ 64) × (first + count ≤ P)
+Seen Throughout P first count = (1 ≤ count) × (count ≤ 64) × (first + count ≤ P)
 
 module _ (line : ℕ → Row → List ℕ) (i : ℕ) where
   -- one row; a row before others; three rows
@@ -28,7 +40,3 @@ module _ (line : ℕ → Row → List ℕ) (i : ℕ) where
   -- the same rows, said in another way
   pub three-same : {a b c x y z : Row} → a ≡ x → b ≡ y → c ≡ z → eachRow line i (a ∷ b ∷ c ∷ []) ≡ eachRow line i (x ∷ y ∷ z ∷ [])
   three-same e f g = rw (e, f, g) refl
-
-  -- the rows of a kind at a slot, where kind and slot are known
-  pub of-kind : {k j : Kind} {a b : Bool} (P p q : ℕ) → k ≡ j → a ≡ b → eachRow line i (kindRows j b P p q) ≡ eachRow line i (kindRows k a P p q)
-  of-kind P p q e f = rw (e, f) refl

@@ -4,20 +4,18 @@ use rowlines::Text;
 use table::Kind;
 ghost use mathlib.Core.List.{[], _∷_};
 ghost use Prim.Native.Nat.{_+_, _*_, _-_, _≤_, _<_};
-ghost use lib.ListN.{length};
-ghost use Rattle.rules.specs.Rows.{rowsOf, sameRows, notRows, andRows, orRows, impliesRows, untilRows};
-ghost use Rattle.rules.specs.TableTest.{recordCount, nodesIn};
+ghost use Rattle.rules.specs.Rows.{sameRows, notRows, andRows, orRows, impliesRows, untilRows};
 ghost use Rattle.mps.specs.Page.{eachRow};
-ghost use Rattle.table.specs.Checks.{Ready};
 ghost use Rattle.row.specs.Meaning.{rowOf};
 ghost use Rattle.row.specs.Kinds.{kindRows};
-ghost use Rattle.row.specs.NodeRows.{nodeRows};
+ghost use Rattle.windowlines.specs.Over.{run};
+ghost use Rattle.slotlines.specs.Each.{Seen};
 ghost use Rattle.lines.specs.Sent.{Sent};
 ghost use Rattle.rowlines.specs.Texts.{lineOf, TextFits};
 
 // The lines of three rows, from row i on.
 fn put_three(out: &mut [u8], at: usize, text: Text, i: usize, a: Row, b: Row, c: Row) -> usize
-    requires { ⌜ (at ≤ 4294964000) × TextFits text × (i + 3 ≤ 100000) ⌝ }
+    requires { ⌜ (at ≤ 1099511604000) × TextFits text × (i + 3 ≤ 1000000) ⌝ }
     ensures { λ r. ⌜ Sent at (eachRow (lineOf text) i (rowOf a ∷ rowOf b ∷ rowOf c ∷ [])) (now (out .entry)) (now (out .exit)) r × (r ≤ at + 120) ⌝ }
 {
     let second = rowlines::put_row(out, at, text, i, a);
@@ -27,7 +25,7 @@ fn put_three(out: &mut [u8], at: usize, text: Text, i: usize, a: Row, b: Row, c:
 
 // P − p = 0
 fn put_same(out: &mut [u8], at: usize, text: Text, i: usize, big: u16, p: u16) -> usize
-    requires { ⌜ (at ≤ 4294960000) × TextFits text × (i + 4 ≤ 100000) ⌝ }
+    requires { ⌜ (at ≤ 1099511600000) × TextFits text × (i + 4 ≤ 1000000) ⌝ }
     ensures { λ r. ⌜ Sent at (eachRow (lineOf text) i (sameRows big p)) (now (out .entry)) (now (out .exit)) r × (r ≤ at + 160) ⌝ }
 {
     rowlines::put_row(out, at, text, i, row::same(big, p))
@@ -35,7 +33,7 @@ fn put_same(out: &mut [u8], at: usize, text: Text, i: usize, big: u16, p: u16) -
 
 // P + p = 1
 fn put_not(out: &mut [u8], at: usize, text: Text, i: usize, big: u16, p: u16) -> usize
-    requires { ⌜ (at ≤ 4294960000) × TextFits text × (i + 4 ≤ 100000) ⌝ }
+    requires { ⌜ (at ≤ 1099511600000) × TextFits text × (i + 4 ≤ 1000000) ⌝ }
     ensures { λ r. ⌜ Sent at (eachRow (lineOf text) i (notRows big p)) (now (out .entry)) (now (out .exit)) r × (r ≤ at + 160) ⌝ }
 {
     rowlines::put_row(out, at, text, i, row::opposite(big, p))
@@ -43,7 +41,7 @@ fn put_not(out: &mut [u8], at: usize, text: Text, i: usize, big: u16, p: u16) ->
 
 // p − P ≥ 0; q − P ≥ 0; P − p − q ≥ −1
 fn put_and(out: &mut [u8], at: usize, text: Text, i: usize, big: u16, p: u16, q: u16) -> usize
-    requires { ⌜ (at ≤ 4294960000) × TextFits text × (i + 4 ≤ 100000) ⌝ }
+    requires { ⌜ (at ≤ 1099511600000) × TextFits text × (i + 4 ≤ 1000000) ⌝ }
     ensures { λ r. ⌜ Sent at (eachRow (lineOf text) i (andRows big p q)) (now (out .entry)) (now (out .exit)) r × (r ≤ at + 160) ⌝ }
 {
     put_three(
@@ -59,7 +57,7 @@ fn put_and(out: &mut [u8], at: usize, text: Text, i: usize, big: u16, p: u16, q:
 
 // P − p ≥ 0; P − q ≥ 0; p + q − P ≥ 0
 fn put_or(out: &mut [u8], at: usize, text: Text, i: usize, big: u16, p: u16, q: u16) -> usize
-    requires { ⌜ (at ≤ 4294960000) × TextFits text × (i + 4 ≤ 100000) ⌝ }
+    requires { ⌜ (at ≤ 1099511600000) × TextFits text × (i + 4 ≤ 1000000) ⌝ }
     ensures { λ r. ⌜ Sent at (eachRow (lineOf text) i (orRows big p q)) (now (out .entry)) (now (out .exit)) r × (r ≤ at + 160) ⌝ }
 {
     put_three(
@@ -75,7 +73,7 @@ fn put_or(out: &mut [u8], at: usize, text: Text, i: usize, big: u16, p: u16, q: 
 
 // P + p ≥ 1; P − q ≥ 0; q − p − P ≥ −1
 fn put_implies(out: &mut [u8], at: usize, text: Text, i: usize, big: u16, p: u16, q: u16) -> usize
-    requires { ⌜ (at ≤ 4294960000) × TextFits text × (i + 4 ≤ 100000) ⌝ }
+    requires { ⌜ (at ≤ 1099511600000) × TextFits text × (i + 4 ≤ 1000000) ⌝ }
     ensures { λ r. ⌜ Sent at (eachRow (lineOf text) i (impliesRows big p q)) (now (out .entry)) (now (out .exit)) r × (r ≤ at + 160) ⌝ }
 {
     put_three(
@@ -91,7 +89,7 @@ fn put_implies(out: &mut [u8], at: usize, text: Text, i: usize, big: u16, p: u16
 
 // P − q ≥ 0; p + q − P ≥ 0; q + P' − P ≥ 0; P − p − P' ≥ −1
 fn put_until(out: &mut [u8], at: usize, text: Text, i: usize, big: u16, p: u16, q: u16) -> usize
-    requires { ⌜ (at ≤ 4294960000) × TextFits text × (i + 4 ≤ 100000) × (big ≤ 30000) ⌝ }
+    requires { ⌜ (at ≤ 1099511600000) × TextFits text × (i + 4 ≤ 1000000) × (big ≤ 30000) ⌝ }
     ensures { λ r. ⌜ Sent at (eachRow (lineOf text) i (untilRows big p q (big + 1))) (now (out .entry)) (now (out .exit)) r × (r ≤ at + 160) ⌝ }
 {
     let next = big + 1;
@@ -107,7 +105,8 @@ fn put_until(out: &mut [u8], at: usize, text: Text, i: usize, big: u16, p: u16, 
     )
 }
 
-// The lines of the rows of a node of this kind at a slot, from row i on. `inner` is whether a slot follows.
+// The lines of the rows of a node of this kind at a slot, from row i on. `inner` is whether a slot follows. For windows, the part's variables at
+// the slots of the window are the `count` from `first` on.
 pub fn put_slot(
     out: &mut [u8],
     at: usize,
@@ -118,9 +117,11 @@ pub fn put_slot(
     big: u16,
     p: u16,
     q: u16,
+    first: u16,
+    count: u16,
 ) -> usize
-    requires { ⌜ (at ≤ 4294960000) × TextFits text × (i + 4 ≤ 100000) × (big ≤ 30000) ⌝ }
-    ensures { λ r. ⌜ Sent at (eachRow (lineOf text) i (kindRows kind inner big p q)) (now (out .entry)) (now (out .exit)) r × (r ≤ at + 160) ⌝ }
+    requires { ⌜ (at ≤ 1099511600000) × TextFits text × (i + 65 ≤ 1000000) × (big ≤ 30000) × Seen kind big first count ⌝ }
+    ensures { λ r. ⌜ Sent at (eachRow (lineOf text) i (kindRows kind inner big p q (run first count))) (now (out .entry)) (now (out .exit)) r × (r ≤ at + 2600) ⌝ }
 {
     match kind {
         Kind::Atom => put_same(out, at, text, i, big, p),
@@ -148,6 +149,30 @@ pub fn put_slot(
             } else {
                 put_same(out, at, text, i, big, q)
             }
+        }
+        Kind::Within => {
+            windowlines::put_window(
+                out,
+                at,
+                text,
+                i,
+                true,
+                big as usize,
+                first as usize,
+                count as usize,
+            )
+        }
+        Kind::Throughout => {
+            windowlines::put_window(
+                out,
+                at,
+                text,
+                i,
+                false,
+                big as usize,
+                first as usize,
+                count as usize,
+            )
         }
     }
 }

@@ -1,8 +1,8 @@
 -- What a loop leaves that writes one node's bytes, from the last slot to the first. Slots count from 0 here.
-use mathlib.Core.Path.{_≡_, refl, sym, ap, _∙_}
+use mathlib.Core.Path.{_≡_, refl, sym, ap, ap₂, _∙_}
 use mathlib.Core.Bool.{cond}
 use mathlib.Core.List.{List}
-use Prim.Native.Nat.{ℕ, _+_, _-_, _*_, _/_, _%_, _^_, _≤_, _<_}
+use Prim.Native.Nat.{ℕ, zero, suc, min, _+_, _-_, _*_, _/_, _%_, _^_, _≤_, _<_}
 use native.Mathlib.Decide.{ℕ-discrete}
 use native.Mathlib.Omega.{arith}
 use borrow.Author.Tests.{lt-ltb, le-ltb}
@@ -45,6 +45,63 @@ module _ (T : ℕ) (l : List ℕ) where
 
   abbrev pub untilAt : (p q : ℕ) → (s e : ℕ) → ℕ
   untilAt p q s e = bitOr (byteOf T l q s) (bitAnd (byteOf T l p s) e)
+
+-- the k bytes from slot i on of the part whose bytes stand from `left` on
+unfoldable pub orOver : List ℕ → (left k i : ℕ) → ℕ
+orOver l left zero i = 0
+orOver l left (suc k) i = bitOr (getD l (left + i) 0) (orOver l left k (i + 1))
+
+unfoldable pub andOver : List ℕ → (left k i : ℕ) → ℕ
+andOver l left zero i = 1
+andOver l left (suc k) i = bitAnd (getD l (left + i) 0) (andOver l left k (i + 1))
+
+-- one slot lower
+or-more : (l : List ℕ) (left k i m j : ℕ) → m ≡ suc k → i + 1 ≡ j → bitOr (getD l (left + i) 0) (orOver l left k j) ≡ orOver l left m i
+unfolding orOver
+or-more l left k i m j e f = rw (e, ← f) refl
+
+and-more : (l : List ℕ) (left k i m j : ℕ) → m ≡ suc k → i + 1 ≡ j → bitAnd (getD l (left + i) 0) (andOver l left k j) ≡ andOver l left m i
+unfolding andOver
+and-more l left k i m j e f = rw (e, ← f) refl
+
+pub or-step : (l : List ℕ) (left high j found : ℕ) → 0 < j → j ≤ high + 1 → found ≡ orOver l left (high + 1 - j) j → bitOr (getD l (left + (j - 1)) 0) found ≡ orOver l left (high + 1 - (j - 1)) (j - 1)
+or-step l left high j found u v e = ap (bitOr (getD l (left + (j - 1)) 0)) e ∙ or-more l left (high + 1 - j) (j - 1) (high + 1 - (j - 1)) j (omega arith) (omega arith)
+
+pub and-step : (l : List ℕ) (left high j found : ℕ) → 0 < j → j ≤ high + 1 → found ≡ andOver l left (high + 1 - j) j → bitAnd (getD l (left + (j - 1)) 0) found ≡ andOver l left (high + 1 - (j - 1)) (j - 1)
+and-step l left high j found u v e = ap (bitAnd (getD l (left + (j - 1)) 0)) e ∙ and-more l left (high + 1 - j) (j - 1) (high + 1 - (j - 1)) j (omega arith) (omega arith)
+
+pub or-none : (l : List ℕ) (left k i : ℕ) → k ≡ 0 → 0 ≡ orOver l left k i
+unfolding orOver
+or-none l left k i e = rw e refl
+
+pub and-none : (l : List ℕ) (left k i : ℕ) → k ≡ 0 → 1 ≡ andOver l left k i
+unfolding andOver
+and-none l left k i e = rw e refl
+
+-- bytes that stand as they stood
+pub or-same : (l m : List ℕ) (left k i : ℕ) → ((j : ℕ) → i ≤ j → j < i + k → getD m (left + j) 0 ≡ getD l (left + j) 0) → orOver m left k i ≡ orOver l left k i
+unfolding orOver
+or-same l m left zero i h = refl
+or-same l m left (suc k) i h = ap₂ bitOr (h i (omega arith) (omega arith)) (or-same l m left k (i + 1) (λ j u v. h j (omega arith) (omega arith)))
+
+pub and-same : (l m : List ℕ) (left k i : ℕ) → ((j : ℕ) → i ≤ j → j < i + k → getD m (left + j) 0 ≡ getD l (left + j) 0) → andOver m left k i ≡ andOver l left k i
+unfolding andOver
+and-same l m left zero i h = refl
+and-same l m left (suc k) i h = ap₂ bitAnd (h i (omega arith) (omega arith)) (and-same l m left k (i + 1) (λ j u v. h j (omega arith) (omega arith)))
+
+-- a window: "slots t + a to t + b, and a slot after T counts as T"
+module _ (T : ℕ) (l : List ℕ) (p a b : ℕ) where
+  abbrev low : ℕ → ℕ
+  low s = min (s + a) (T - 1)
+
+  abbrev wide : ℕ → ℕ
+  wide s = min (s + b) (T - 1) + 1 - low s
+
+  abbrev pub withinAt : (s e : ℕ) → ℕ
+  withinAt s e = orOver l (p * T) (wide s) (low s)
+
+  abbrev pub throughoutAt : (s e : ℕ) → ℕ
+  throughoutAt s e = andOver l (p * T) (wide s) (low s)
 
 -- Node n has been worked from slot k on, and all else is as it was: at each slot s it has f s e, e being the node's byte one slot later.
 pub record Worked (T n past : ℕ) (f : (s e : ℕ) → ℕ) (l : List ℕ) (k : ℕ) (m : List ℕ) : Type 0 where

@@ -1,3 +1,4 @@
 pub mod Summed
 pub mod Sums
 pub mod Laws
+pub mod Windows

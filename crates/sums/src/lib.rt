@@ -5,11 +5,11 @@ use row::Row;
 use row::Term;
 use row::Terms;
 ghost use mathlib.Core.Path.{_≡_};
-ghost use mathlib.Core.List.{[], _∷_};
-ghost use Prim.Native.Nat.{_+_, _≤_};
-ghost use lib.IntN.{ℤ, pos, natAbs, _-ℤ_, _*ℤ_};
+ghost use mathlib.Core.List.{List, [], _∷_, _++_, map};
+ghost use Prim.Native.Nat.{ℕ, _+_, _≤_};
+ghost use lib.IntN.{ℤ, pos, natAbs, _+ℤ_, _-ℤ_, _*ℤ_};
 ghost use Rattle.rules.specs.Quantities as Quantities;
-ghost use Rattle.rules.specs.Rows.{valueAt};
+ghost use Rattle.rules.specs.Rows.{plus, minus, valueAt, sumOf};
 ghost use Rattle.rules.specs.Judge as Judge;
 ghost use Rattle.rules.specs.Verdicts.{apart, isOutside, isNotBinary};
 ghost use Rattle.sums.specs.Sums.{added, passed, term, RowSumOf, pairOf, tripleOf};
@@ -152,7 +152,7 @@ pub fn pair(j: i8, x: i32, k: i8, y: i32) -> RowSum
 }
 
 // What a sum falls short of the right side by.
-fn short(right: i8, sum: i64) -> i64
+pub fn short(right: i8, sum: i64) -> i64
     requires { ⌜ natAbs sum ≤ 824633720832 ⌝ }
     ensures { λ r. ⌜ (r ≡ shortOf right sum) × (natAbs r ≤ 1099511627776) ⌝ }
 {
@@ -165,6 +165,36 @@ fn off(right: i8, sum: i64) -> i64
     ensures { λ r. ⌜ (r ≡ offOf right sum) × (natAbs r ≤ 1099511627776) ⌝ }
 {
     size(less(sum, scaled(right)))
+}
+
+// A sum of figures, and one more.
+pub fn grown(sum: i64, figure: i32) -> i64
+    requires { ⌜ natAbs sum ≤ 137438953472 ⌝ }
+    ensures { λ r. ⌜ (r ≡ sum +ℤ figure) × (natAbs r ≤ natAbs sum + 2147483648) ⌝ }
+{
+    sum + (figure as i64)
+}
+
+// The row sum of a window's last row for F[a,b]: `sum` is that of the part's figures at the slots of the window, and x the node's figure.
+pub fn within_sum(sum: i64, x: i32) -> RowSum
+    requires { ⌜ natAbs sum ≤ 137438953472 ⌝ }
+    ensures { λ r. ⌜ ((xs : List ℤ) (vs : List ℕ) (v : ℕ) → sum ≡ sumOf xs (map plus vs) → x ≡ valueAt xs v → RowSumOf xs (map plus vs ++ (minus v ∷ [])) r) ⌝ }
+{
+    RowSum {
+        positive: sum,
+        whole: less(sum, x as i64),
+    }
+}
+
+// The row sum of a window's last row for G[a,b]: `sum` is that of the part's figures at the slots of the window, and x the node's figure.
+pub fn throughout_sum(sum: i64, x: i32) -> RowSum
+    requires { ⌜ natAbs sum ≤ 137438953472 ⌝ }
+    ensures { λ r. ⌜ ((xs : List ℤ) (vs : List ℕ) (v : ℕ) → sum ≡ sumOf xs (map plus vs) → x ≡ valueAt xs v → RowSumOf xs (plus v ∷ map minus vs) r) ⌝ }
+{
+    RowSum {
+        positive: x as i64,
+        whole: less(x as i64, sum),
+    }
 }
 
 // What jx + ky falls short of the right side by.

@@ -1,6 +1,6 @@
 // The node table: reading a node, the table test, and the checks that all calls but read share.
 ghost use mathlib.Core.Path.{_≡_};
-ghost use mathlib.Core.Bool.{_&&_};
+ghost use mathlib.Core.Bool.{_&&_, cond};
 ghost use Prim.Native.Nat.{_+_, _*_, _/_, _<_};
 ghost use lib.Dec.{eqb};
 ghost use lib.ListN.{length, getD};
@@ -8,6 +8,7 @@ ghost use Rattle.rules.specs.TableTest as TableTest;
 ghost use Rattle.rules.specs.TableTest.{nodeIn, nodeGood, someGood, recordGood, recordCount};
 ghost use Rattle.rules.specs.Outcome.{between};
 ghost use Rattle.table.specs.Nodes.{kindIn, nodeBy, NodeRead};
+ghost use Rattle.table.specs.Ends.{isAtom, isBinary, hasWindow};
 ghost use Rattle.table.specs.Checks.{checkOf};
 
 // The mark of a node record.
@@ -22,19 +23,23 @@ pub enum Kind {
     Eventually,
     Always,
     Until,
+    Within,
+    Throughout,
 }
 
-// The kind that a byte stands for, if it is one of the eight.
+// The kind that a byte stands for, if it is one of the ten.
 pub enum KindRead {
     Known(Kind),
     Unknown,
 }
 
-// A node as its record has it. Of an atom, left is its number; a child is a node's number.
+// A node as its record has it. Of an atom, left is its number; a child is a node's number; from and to are the window a, b.
 pub struct Node {
     pub kind: Kind,
     pub left: usize,
     pub right: usize,
+    pub from: usize,
+    pub to: usize,
 }
 
 // Whether a call goes on, or is refused.
@@ -68,6 +73,8 @@ pub fn kind_of(byte: u8) -> KindRead
         6 => KindRead::Known(Kind::Eventually),
         7 => KindRead::Known(Kind::Always),
         8 => KindRead::Known(Kind::Until),
+        9 => KindRead::Known(Kind::Within),
+        10 => KindRead::Known(Kind::Throughout),
         _ => KindRead::Unknown,
     }
 }
@@ -76,7 +83,7 @@ pub fn kind_of(byte: u8) -> KindRead
 pub fn count(table: &[u8]) -> usize
     ensures { λ r. ⌜ r ≡ recordCount (now (table .entry)) ⌝ }
 {
-    table.len() / 5
+    table.len() / 7
 }
 
 // Node n, read from its record. An unknown kind, which no good table has, is read as atom 0.
@@ -84,46 +91,128 @@ pub fn node_at(table: &[u8], n: usize) -> Node
     requires { ⌜ n < recordCount (now table) ⌝ }
     ensures { λ r. ⌜ NodeRead (now (table .entry)) n r ⌝ }
 {
-    let at = 5 * n;
+    let at = 7 * n;
     let left = wide(table[at + 3]);
     let right = wide(table[at + 4]);
+    let from = wide(table[at + 5]);
+    let to = wide(table[at + 6]);
     let read = kind_of(table[at + 2]);
     match read {
-        KindRead::Known(kind) => Node { kind, left, right },
+        KindRead::Known(kind) => Node {
+            kind,
+            left,
+            right,
+            from,
+            to,
+        },
         KindRead::Unknown => Node {
             kind: Kind::Atom,
             left: 0,
             right: 0,
+            from: 0,
+            to: 0,
         },
     }
 }
 
-// Whether left and right are as node n of this kind may have them.
-fn parts_good(kind: Kind, left: usize, right: usize, m: usize, n: usize) -> bool
-    ensures { λ r. ⌜ r ≡ nodeGood m n right (nodeBy kind left right) ⌝ }
+fn is_atom(kind: Kind) -> bool
+    ensures { λ r. ⌜ r ≡ isAtom kind ⌝ }
 {
     match kind {
-        Kind::Atom => both(left < m, right == 0),
-        Kind::Not => both(left < n, right == 0),
-        Kind::And => both(left < n, right < n),
-        Kind::Or => both(left < n, right < n),
-        Kind::Implies => both(left < n, right < n),
-        Kind::Eventually => both(left < n, right == 0),
-        Kind::Always => both(left < n, right == 0),
-        Kind::Until => both(left < n, right < n),
+        Kind::Atom => true,
+        Kind::Not => false,
+        Kind::And => false,
+        Kind::Or => false,
+        Kind::Implies => false,
+        Kind::Eventually => false,
+        Kind::Always => false,
+        Kind::Until => false,
+        Kind::Within => false,
+        Kind::Throughout => false,
     }
 }
 
-fn fields_good(kind: u8, left: u8, right: u8, m: usize, n: usize) -> bool
-    ensures { λ r. ⌜ r ≡ someGood m n right (nodeIn kind left right) ⌝ }
+fn is_binary(kind: Kind) -> bool
+    ensures { λ r. ⌜ r ≡ isBinary kind ⌝ }
+{
+    match kind {
+        Kind::Atom => false,
+        Kind::Not => false,
+        Kind::And => true,
+        Kind::Or => true,
+        Kind::Implies => true,
+        Kind::Eventually => false,
+        Kind::Always => false,
+        Kind::Until => true,
+        Kind::Within => false,
+        Kind::Throughout => false,
+    }
+}
+
+fn has_window(kind: Kind) -> bool
+    ensures { λ r. ⌜ r ≡ hasWindow kind ⌝ }
+{
+    match kind {
+        Kind::Atom => false,
+        Kind::Not => false,
+        Kind::And => false,
+        Kind::Or => false,
+        Kind::Implies => false,
+        Kind::Eventually => false,
+        Kind::Always => false,
+        Kind::Until => false,
+        Kind::Within => true,
+        Kind::Throughout => true,
+    }
+}
+
+fn pick(first: bool, a: usize, b: usize) -> usize
+    ensures { λ r. ⌜ r ≡ cond first a b ⌝ }
+{
+    if first { a } else { b }
+}
+
+// Whether left, right and window are as node n of this kind may have them: each is below an end, and a right that is
+// not used and a window that is not there are below 1.
+fn parts_good(
+    kind: Kind,
+    left: usize,
+    right: usize,
+    from: usize,
+    to: usize,
+    m: usize,
+    n: usize,
+) -> bool
+    ensures { λ r. ⌜ r ≡ nodeGood m n right from to (nodeBy kind left right from to) ⌝ }
+{
+    let left_end = pick(is_atom(kind), m, n);
+    let right_end = pick(is_binary(kind), n, 1);
+    let to_end = pick(has_window(kind), 64, 1);
+    both(
+        both(left < left_end, right < right_end),
+        both(from <= to, to < to_end),
+    )
+}
+
+fn fields_good(kind: u8, left: u8, right: u8, from: u8, to: u8, m: usize, n: usize) -> bool
+    ensures { λ r. ⌜ r ≡ someGood m n right from to (nodeIn kind left right from to) ⌝ }
 {
     let left = wide(left);
     let right = wide(right);
+    let from = wide(from);
+    let to = wide(to);
     let read = kind_of(kind);
     match read {
-        KindRead::Known(k) => parts_good(k, left, right, m, n),
+        KindRead::Known(k) => parts_good(k, left, right, from, to, m, n),
         KindRead::Unknown => false,
     }
+}
+
+// Two bytes as one number: the test of a mark is then one comparison.
+fn word(low: u8, high: u8) -> usize
+    ensures { λ r. ⌜ (r ≡ low + 256 * high) × (low < 256) ⌝ }
+{
+    wide(low) + 256 * wide(high)
 }
 
 // Whether the mark stands at a place.
@@ -131,30 +220,34 @@ fn marked(table: &[u8], at: usize) -> bool
     requires { ⌜ at + 1 < length (now table) ⌝ }
     ensures { λ r. ⌜ r ≡ (eqb (getD (now (table .entry)) at 0) 0x4E && eqb (getD (now (table .entry)) (at + 1) 0) 0x44) ⌝ }
 {
-    if table[at] == MARK[0] {
-        table[at + 1] == MARK[1]
-    } else {
-        false
-    }
+    word(table[at], table[at + 1]) == word(MARK[0], MARK[1])
 }
 
 fn record_good(table: &[u8], m: usize, n: usize) -> bool
     requires { ⌜ n < recordCount (now table) ⌝ }
     ensures { λ r. ⌜ r ≡ recordGood m (now (table .entry)) n ⌝ }
 {
-    let at = 5 * n;
+    let at = 7 * n;
     both(
         marked(table, at),
-        fields_good(table[at + 2], table[at + 3], table[at + 4], m, n),
+        fields_good(
+            table[at + 2],
+            table[at + 3],
+            table[at + 4],
+            table[at + 5],
+            table[at + 6],
+            m,
+            n,
+        ),
     )
 }
 
 // Whether a table of this many bytes is 1 to 128 whole records.
 fn size_good(len: usize) -> bool
-    ensures { λ r. ⌜ r ≡ (eqb (5 * (len / 5)) len && between 1 128 (len / 5)) ⌝ }
+    ensures { λ r. ⌜ r ≡ (eqb (7 * (len / 7)) len && between 1 128 (len / 7)) ⌝ }
 {
-    let n = len / 5;
-    both(5 * n == len, both(1 <= n, n <= 128))
+    let n = len / 7;
+    both(7 * n == len, both(1 <= n, n <= 128))
 }
 
 // Whether the bytes are a good table with m atoms.

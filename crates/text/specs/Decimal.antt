@@ -125,6 +125,9 @@ below-10000 n h = length-more 1000 3 n below-1000 (omega arith) h
 pub below-100000 : (n : ℕ) → n < 100000 → length (decimal n) ≤ 5
 below-100000 n h = length-more 10000 4 n below-10000 (omega arith) h
 
+pub below-1000000 : (n : ℕ) → n < 1000000 → length (decimal n) ≤ 6
+below-1000000 n h = length-more 100000 5 n below-100000 (omega arith) h
+
 -- ---- a whole number, with - before one below 0
 
 abbrev pub signedText : ℤ → List ℕ

@@ -17,7 +17,7 @@ use Rattle.columnlines.proofs.put_columns.Tie as tie
 
 abbrev Inv-loop : tie.InvT-loop
 Inv-loop out₀ at table n t m starts rows next₀ x₀ out next x =
-    (x ≤ m + n) × (next ≤ at + 2626560 * x) × Sent at (flat (λ y. flat (λ s. columnLines (rowsOf t m (nodesIn table)) (y * t + s)) t) x) out₀ out next
+    (x ≤ m + n) × (next ≤ at + 1363153920 * x) × Sent at (flat (λ y. flat (λ s. columnLines (rowsOf t m (nodesIn table)) (y * t + s)) t) x) out₀ out next
 
 abbrev μ-loop : tie.MeasureT-loop
 μ-loop out₀ at table n t m starts rows next₀ x₀ out next x = m + n - x
@@ -25,8 +25,7 @@ abbrev μ-loop : tie.MeasureT-loop
 find-starts-requires : tie.Need-find-starts-requires Inv-loop μ-loop
 find-starts-requires c κs =
     let s = c .before .before .before in
-    let r = s .pre .1 in
-    (r .slots-low, r .slots-high, omega (arith, r .few-nodes, s .pre .2), omega (arith, s .pre .2))
+    (s .pre .1, s .pre .2)
 
 loop-holds : tie.Need-loop-holds Inv-loop μ-loop
 loop-holds c = (omega arith, omega arith, turns-none _ _ _)

@@ -14,7 +14,7 @@ use Rattle.columnlines.proofs.put_part.Tie as tie
 
 abbrev Inv-loop : tie.InvT-loop
 Inv-loop out₀ at table starts rows x t m users count next₀ s₀ out next s =
-    (s ≤ t) × (next ≤ at + 41040 * s) × Sent at (flat (λ i. columnLines (rowsOf t m (nodesIn table)) (x * t + i)) s) out₀ out next
+    (s ≤ t) × (next ≤ at + 21299280 * s) × Sent at (flat (λ i. columnLines (rowsOf t m (nodesIn table)) (x * t + i)) s) out₀ out next
 
 abbrev μ-loop : tie.MeasureT-loop
 μ-loop out₀ at table starts rows x t m users count next₀ s₀ out next s = t - s

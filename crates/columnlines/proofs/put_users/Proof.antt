@@ -8,13 +8,13 @@ use Rattle.lists.specs.Flat.{flat}
 use Rattle.rules.specs.TableTest.{nodesIn}
 use Rattle.lines.specs.Sent.{Sent}
 use Rattle.lines.specs.Turns.{turns-none, turns-more, turns-all}
-use Rattle.columns.specs.Users.{aroundText}
+use Rattle.columns.specs.Users.{userText}
 use Rattle.columnlines.proofs.put_users.Statement.{statement}
 use Rattle.columnlines.proofs.put_users.Tie as tie
 
 abbrev Inv-loop : tie.InvT-loop
 Inv-loop out₀ at table starts users count v s t m next₀ j₀ out next j =
-    (j ≤ count) × (next ≤ at + 320 * j) × Sent at (flat (λ i. aroundText t m (nodesIn table) v s (getD users i 0)) j) out₀ out next
+    (j ≤ count) × (next ≤ at + 166400 * j) × Sent at (flat (λ i. userText t m (nodesIn table) v (getD users i 0)) j) out₀ out next
 
 abbrev μ-loop : tie.MeasureT-loop
 μ-loop out₀ at table starts users count v s t m next₀ j₀ out next j = count - j
@@ -36,7 +36,7 @@ put-user-requires : tie.Need-put-user-requires Inv-loop μ-loop
 put-user-requires c κs =
     let l = c .before .before in
     let s = l .before .before .before .before in
-    ((omega arith, omega arith, omega arith, s .pre .0 .3, s .pre .1 .1 (l .before .loop .j) (let t = l .loop-test in omega arith)), s .pre .1 .0)
+    ((omega arith, omega arith, omega arith, s .pre .0 .3, s .pre .1 .1 (l .before .loop .j) (let t = l .loop-test in omega arith), s .pre .0 .5), s .pre .1 .0)
 
 add-j : tie.Need-add-j Inv-loop μ-loop
 add-j c = search needs
@@ -50,7 +50,7 @@ loop-again c =
     let l = w .before .before .before .before in
     let a = l .before .before .before .args in
     let p = w .put-user .ensures in
-    (omega arith, omega (arith, p .1), turns-more (λ i. aroundText (a .t) (a .m) (nodesIn (a .table .now)) (a .v) (a .s) (getD (a .users .now) i 0)) (a .at) (a .out .now) (l .loop .inv .2) (p .0))
+    (omega arith, omega (arith, p .1), turns-more (λ i. userText (a .t) (a .m) (nodesIn (a .table .now)) (a .v) (getD (a .users .now) i 0)) (a .at) (a .out .now) (l .loop .inv .2) (p .0))
 
 same-length : tie.Need-same-length Inv-loop μ-loop
 same-length c = c .before .loop .inv .2 .same

@@ -52,7 +52,7 @@ put-users-requires : tie.Need-put-users-requires
 put-users-requires c κs =
     let s = c .before .before .before .before .before in
     let f = s .pre .1 .1 in
-    ((omega arith, omega (arith, c .before .before .place .ensures .1), omega arith, s .pre .0 .3, f .few), (s .pre .1 .0, λ j h. let e = f .low j h in omega (arith, length-nodesIn (s .args .m) (s .args .table .now))))
+    ((omega arith, omega (arith, c .before .before .place .ensures .1), omega arith, s .pre .0 .3, f .few, (s .args .x, ap (λ (k : ℕ). k + s .args .s) (c .before .before .place .ensures .0))), (s .pre .1 .0, λ j h. let e = f .low j h in omega (arith, length-nodesIn (s .args .m) (s .args .table .now))))
 
 sub-slack : tie.Need-sub-slack
 sub-slack c = search needs

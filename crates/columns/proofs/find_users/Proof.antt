@@ -45,7 +45,7 @@ loop-again c =
     let a = l .before .before .args in
     let d = l .loop .inv .1 in
     let e : u .is-used .result ≡ uses (a .m) (a .x) (l .loop .i) (nodeAt (nodesIn (a .table .now)) (l .loop .i)) =
-    rw (← u .before .node-at .ensures .is) (u .is-used .ensures) in (
+    rw (← u .before .node-at .ensures .is) (u .is-used .ensures (u .before .node-at .result .from) (u .before .node-at .result .to)) in (
       omega arith,
       ⊎-elim
           (λ w. found-more d (sym e ∙ w .0 .taken) (omega arith) (w .3 ∙ w .2 .ensures .content) (w .4 ∙ w .2 .ensures .ends))

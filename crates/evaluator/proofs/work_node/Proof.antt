@@ -76,6 +76,24 @@ until-requires c κs =
     let g = rw (c .before .enum-told8 .given .1) at (p .1) in
     (p .0 .0, omega arith, omega arith)
 
+enum-told-9 : tie.Need-enum-told-9
+enum-told-9 c = search needs
+
+within-requires : tie.Need-within-requires
+within-requires c κs =
+    let p = c .before .before .before .before .before .pre in
+    let g = rw (c .before .enum-told9 .given .1) at (p .1) in
+    (p .0 .0, g .0, g .1 .0)
+
+enum-told-10 : tie.Need-enum-told-10
+enum-told-10 c = search needs
+
+throughout-requires : tie.Need-throughout-requires
+throughout-requires c κs =
+    let p = c .before .before .before .before .before .pre in
+    let g = rw (c .before .enum-told10 .given .1) at (p .1) in
+    (p .0 .0, g .0, g .1 .0)
+
 same-length : tie.Need-same-length
 same-length c = search needs
 
@@ -124,6 +142,18 @@ same-length-8 c = search needs
 returns-8 : tie.Need-returns-8
 returns-8 c = rw (c .before .before .before .before .enum-told8 .given .1) (c .before .before .until .ensures)
 
+same-length-9 : tie.Need-same-length-9
+same-length-9 c = search needs
+
+returns-9 : tie.Need-returns-9
+returns-9 c = rw (c .before .before .before .before .enum-told9 .given .1) (c .before .before .within .ensures)
+
+same-length-10 : tie.Need-same-length-10
+same-length-10 c = search needs
+
+returns-10 : tie.Need-returns-10
+returns-10 c = rw (c .before .before .before .before .enum-told10 .given .1) (c .before .before .throughout .ensures)
+
 pub work-node-spec : {M : Type 1} → statement M
 work-node-spec =
     tie.close
@@ -144,6 +174,10 @@ work-node-spec =
     always-requires
     enum-told-8
     until-requires
+    enum-told-9
+    within-requires
+    enum-told-10
+    throughout-requires
     same-length
     returns
     same-length-2
@@ -159,4 +193,8 @@ work-node-spec =
     same-length-7
     returns-7
     same-length-8
-    returns-8)
+    returns-8
+    same-length-9
+    returns-9
+    same-length-10
+    returns-10)

@@ -5,7 +5,7 @@ use borrow.Author.Needs.{needs}
 use Rattle.rules.specs.Rule.Binary.{or as disjunction, implies as implication, and as conjunction, until as untils}
 use Rattle.rules.specs.Reading.Parser.{measure}
 use Rattle.levels.specs.Steps.{ruleLevel, orLevel, andLevel, untilLevel, singleLevel}
-use Rattle.levels.proofs.Laws.{level-fail, level-alone, level-next, level-room, level-joined, single-none, atom-room, atom-fits, inner-room, single-atom, sign-next, single-bracket, single-fail, single-prefix}
+use Rattle.levels.proofs.Laws.{level-fail, level-alone, level-next, level-room, level-joined, single-none, atom-room, atom-fits, inner-room, single-atom, sign-next, single-bracket, single-fail, small-kind, single-prefix, window-fail, window-next, window-room, single-window}
 use Prim.Native.Nat.{ℕ, _<_}
 use borrow.Fn.Kinds.{In}
 use borrow.Fn.PlainCycle.{Measures, is, falls, and}
@@ -26,10 +26,12 @@ use Rattle.levels.proofs.until.Kinds as until-kinds
 use Rattle.levels.proofs.+and+or+rule+single+until.Lts-until as until-lts
 use Rattle.lexer.proofs.sign_at.Reads as sign-at-reads
 use Rattle.lexer.proofs.skip.Reads as skip-reads
+use Rattle.lexer.proofs.span_at.Reads as span-at-reads
 use Rattle.lexer.proofs.token_at.Reads as token-at-reads
 use Rattle.levels.proofs.cap.Reads as cap-reads
 use Rattle.levels.proofs.close.Reads as close-reads
 use Rattle.levels.proofs.join.Reads as join-reads
+use Rattle.levels.proofs.opening.Reads as opening-reads
 use Rattle.levels.proofs.prefix_kind.Reads as prefix-kind-reads
 use Rattle.levels.proofs.pack.Reads as pack-reads
 use Rattle.levels.proofs.put.Reads as put-reads
@@ -104,19 +106,19 @@ and-sign-at-requires t c κs = search needs
 and-returns : (t : ℕ) → and-lts.Need-returns (and-env t) (and-at t) and′.Post
 and-returns t c =
     let k = c .before .before .before .before in
-    level-alone conjunction _ _ _ _ _ _ _ _ _ _ (k .before .before .before .until .ensures) (sym (k .before .before .unpack .ensures) ∙ k .next .given .1) (c .before .sign-at .ensures .0) (c .if1 .taken)
+    level-alone conjunction _ _ _ _ _ _ _ _ _ _ _ (k .before .before .before .until .ensures) (sym (k .before .before .unpack .ensures) ∙ k .next .given .1) (c .before .sign-at .ensures .0) (c .if1 .taken)
 
 and-and-requires : (t : ℕ) → and-lts.Need-and-requires (and-env t) (and-at t) and′.Post
 and-and-requires t c κs =
     let k = c .before .before .before .before .before in
     let pre = k .before .before .before .before .before .pre in
-    let h = level-next conjunction _ _ _ _ _ _ _ _ _ _ (k .before .before .before .until .ensures) (sym (k .before .before .unpack .ensures) ∙ k .next .given .1) (c .before .before .sign-at .ensures .0) (pre .1) (c .before .if1 .left) in
+    let h = level-next conjunction _ _ _ _ _ _ _ _ _ _ _ (k .before .before .before .until .ensures) (sym (k .before .before .unpack .ensures) ∙ k .next .given .1) (c .before .before .sign-at .ensures .0) (pre .1) (c .before .if1 .left) in
     (omega (arith, h .0, pre .0), h .1)
 
 and-join-requires : (t : ℕ) → and-lts.Need-join-requires (and-env t) (and-at t) and′.Post
 and-join-requires t c κs =
     let k = c .before .before .before .before .before .before .before in
-    level-room conjunction _ _ _ _ _ _ _ _ _ _ (k .before .before .before .until .ensures) (sym (k .before .before .unpack .ensures) ∙ k .next .given .1) (c .before .before .before .before .sign-at .ensures .0) (k .before .before .before .before .before .pre .1) (c .before .before .before .if1 .left) _ _ (c .before .and .ensures)
+    level-room conjunction _ _ _ _ _ _ _ _ _ _ _ (k .before .before .before .until .ensures) (sym (k .before .before .unpack .ensures) ∙ k .next .given .1) (c .before .before .before .before .sign-at .ensures .0) (k .before .before .before .before .before .pre .1) (c .before .before .before .if1 .left) _ _ (c .before .and .ensures)
 
 and-returns-2 : (t : ℕ) → and-lts.Need-returns-2 (and-env t) (and-at t) and′.Post
 and-returns-2 t c = level-fail conjunction _ _ _ _ _ _ (c .before .before .before .until .ensures) (sym (c .before .before .unpack .ensures) ∙ c .enum-told .given .1)
@@ -124,7 +126,7 @@ and-returns-2 t c = level-fail conjunction _ _ _ _ _ _ (c .before .before .befor
 and-returns-3 : (t : ℕ) → and-lts.Need-returns-3 (and-env t) (and-at t) and′.Post
 and-returns-3 t c =
     let k = c .before .before .before .before .before .before .before .before in
-    level-joined conjunction _ _ _ _ _ _ _ _ _ _ (k .before .before .before .until .ensures) (sym (k .before .before .unpack .ensures) ∙ k .next .given .1) (c .before .before .before .before .before .sign-at .ensures .0) (k .before .before .before .before .before .pre .1) (c .before .before .before .before .if1 .left) _ _ (c .before .before .and .ensures) _ _ (c .join .ensures .0) (c .join .ensures .1)
+    level-joined conjunction _ _ _ _ _ _ _ _ _ _ _ (k .before .before .before .until .ensures) (sym (k .before .before .unpack .ensures) ∙ k .next .given .1) (c .before .before .before .before .before .sign-at .ensures .0) (k .before .before .before .before .before .pre .1) (c .before .before .before .before .if1 .left) _ _ (c .before .before .and .ensures) _ _ (c .join .ensures .0) (c .join .ensures .1)
 
 -- what `or` has of those that it calls
 abbrev or-env : ℕ → or-lts.Claims
@@ -148,19 +150,19 @@ or-sign-at-requires t c κs = search needs
 or-returns : (t : ℕ) → or-lts.Need-returns (or-env t) (or-at t) or.Post
 or-returns t c =
     let k = c .before .before .before .before in
-    level-alone disjunction _ _ _ _ _ _ _ _ _ _ (k .before .before .before .and .ensures) (sym (k .before .before .unpack .ensures) ∙ k .next .given .1) (c .before .sign-at .ensures .0) (c .if1 .taken)
+    level-alone disjunction _ _ _ _ _ _ _ _ _ _ _ (k .before .before .before .and .ensures) (sym (k .before .before .unpack .ensures) ∙ k .next .given .1) (c .before .sign-at .ensures .0) (c .if1 .taken)
 
 or-or-requires : (t : ℕ) → or-lts.Need-or-requires (or-env t) (or-at t) or.Post
 or-or-requires t c κs =
     let k = c .before .before .before .before .before in
     let pre = k .before .before .before .before .before .pre in
-    let h = level-next disjunction _ _ _ _ _ _ _ _ _ _ (k .before .before .before .and .ensures) (sym (k .before .before .unpack .ensures) ∙ k .next .given .1) (c .before .before .sign-at .ensures .0) (pre .1) (c .before .if1 .left) in
+    let h = level-next disjunction _ _ _ _ _ _ _ _ _ _ _ (k .before .before .before .and .ensures) (sym (k .before .before .unpack .ensures) ∙ k .next .given .1) (c .before .before .sign-at .ensures .0) (pre .1) (c .before .if1 .left) in
     (omega (arith, h .0, pre .0), h .1)
 
 or-join-requires : (t : ℕ) → or-lts.Need-join-requires (or-env t) (or-at t) or.Post
 or-join-requires t c κs =
     let k = c .before .before .before .before .before .before .before in
-    level-room disjunction _ _ _ _ _ _ _ _ _ _ (k .before .before .before .and .ensures) (sym (k .before .before .unpack .ensures) ∙ k .next .given .1) (c .before .before .before .before .sign-at .ensures .0) (k .before .before .before .before .before .pre .1) (c .before .before .before .if1 .left) _ _ (c .before .or .ensures)
+    level-room disjunction _ _ _ _ _ _ _ _ _ _ _ (k .before .before .before .and .ensures) (sym (k .before .before .unpack .ensures) ∙ k .next .given .1) (c .before .before .before .before .sign-at .ensures .0) (k .before .before .before .before .before .pre .1) (c .before .before .before .if1 .left) _ _ (c .before .or .ensures)
 
 or-returns-2 : (t : ℕ) → or-lts.Need-returns-2 (or-env t) (or-at t) or.Post
 or-returns-2 t c = level-fail disjunction _ _ _ _ _ _ (c .before .before .before .and .ensures) (sym (c .before .before .unpack .ensures) ∙ c .enum-told .given .1)
@@ -168,7 +170,7 @@ or-returns-2 t c = level-fail disjunction _ _ _ _ _ _ (c .before .before .before
 or-returns-3 : (t : ℕ) → or-lts.Need-returns-3 (or-env t) (or-at t) or.Post
 or-returns-3 t c =
     let k = c .before .before .before .before .before .before .before .before in
-    level-joined disjunction _ _ _ _ _ _ _ _ _ _ (k .before .before .before .and .ensures) (sym (k .before .before .unpack .ensures) ∙ k .next .given .1) (c .before .before .before .before .before .sign-at .ensures .0) (k .before .before .before .before .before .pre .1) (c .before .before .before .before .if1 .left) _ _ (c .before .before .or .ensures) _ _ (c .join .ensures .0) (c .join .ensures .1)
+    level-joined disjunction _ _ _ _ _ _ _ _ _ _ _ (k .before .before .before .and .ensures) (sym (k .before .before .unpack .ensures) ∙ k .next .given .1) (c .before .before .before .before .before .sign-at .ensures .0) (k .before .before .before .before .before .pre .1) (c .before .before .before .before .if1 .left) _ _ (c .before .before .or .ensures) _ _ (c .join .ensures .0) (c .join .ensures .1)
 
 -- what `rule` has of those that it calls
 abbrev rule-env : ℕ → rule-lts.Claims
@@ -192,19 +194,19 @@ rule-sign-at-requires t c κs = search needs
 rule-returns : (t : ℕ) → rule-lts.Need-returns (rule-env t) (rule-at t) rule.Post
 rule-returns t c =
     let k = c .before .before .before .before in
-    level-alone implication _ _ _ _ _ _ _ _ _ _ (k .before .before .before .or .ensures) (sym (k .before .before .unpack .ensures) ∙ k .next .given .1) (c .before .sign-at .ensures .0) (c .if1 .taken)
+    level-alone implication _ _ _ _ _ _ _ _ _ _ _ (k .before .before .before .or .ensures) (sym (k .before .before .unpack .ensures) ∙ k .next .given .1) (c .before .sign-at .ensures .0) (c .if1 .taken)
 
 rule-rule-requires : (t : ℕ) → rule-lts.Need-rule-requires (rule-env t) (rule-at t) rule.Post
 rule-rule-requires t c κs =
     let k = c .before .before .before .before .before in
     let pre = k .before .before .before .before .before .pre in
-    let h = level-next implication _ _ _ _ _ _ _ _ _ _ (k .before .before .before .or .ensures) (sym (k .before .before .unpack .ensures) ∙ k .next .given .1) (c .before .before .sign-at .ensures .0) (pre .1) (c .before .if1 .left) in
+    let h = level-next implication _ _ _ _ _ _ _ _ _ _ _ (k .before .before .before .or .ensures) (sym (k .before .before .unpack .ensures) ∙ k .next .given .1) (c .before .before .sign-at .ensures .0) (pre .1) (c .before .if1 .left) in
     (omega (arith, h .0, pre .0), h .1)
 
 rule-join-requires : (t : ℕ) → rule-lts.Need-join-requires (rule-env t) (rule-at t) rule.Post
 rule-join-requires t c κs =
     let k = c .before .before .before .before .before .before .before in
-    level-room implication _ _ _ _ _ _ _ _ _ _ (k .before .before .before .or .ensures) (sym (k .before .before .unpack .ensures) ∙ k .next .given .1) (c .before .before .before .before .sign-at .ensures .0) (k .before .before .before .before .before .pre .1) (c .before .before .before .if1 .left) _ _ (c .before .rule .ensures)
+    level-room implication _ _ _ _ _ _ _ _ _ _ _ (k .before .before .before .or .ensures) (sym (k .before .before .unpack .ensures) ∙ k .next .given .1) (c .before .before .before .before .sign-at .ensures .0) (k .before .before .before .before .before .pre .1) (c .before .before .before .if1 .left) _ _ (c .before .rule .ensures)
 
 rule-returns-2 : (t : ℕ) → rule-lts.Need-returns-2 (rule-env t) (rule-at t) rule.Post
 rule-returns-2 t c = level-fail implication _ _ _ _ _ _ (c .before .before .before .or .ensures) (sym (c .before .before .unpack .ensures) ∙ c .enum-told .given .1)
@@ -212,11 +214,11 @@ rule-returns-2 t c = level-fail implication _ _ _ _ _ _ (c .before .before .befo
 rule-returns-3 : (t : ℕ) → rule-lts.Need-returns-3 (rule-env t) (rule-at t) rule.Post
 rule-returns-3 t c =
     let k = c .before .before .before .before .before .before .before .before in
-    level-joined implication _ _ _ _ _ _ _ _ _ _ (k .before .before .before .or .ensures) (sym (k .before .before .unpack .ensures) ∙ k .next .given .1) (c .before .before .before .before .before .sign-at .ensures .0) (k .before .before .before .before .before .pre .1) (c .before .before .before .before .if1 .left) _ _ (c .before .before .rule .ensures) _ _ (c .join .ensures .0) (c .join .ensures .1)
+    level-joined implication _ _ _ _ _ _ _ _ _ _ _ (k .before .before .before .or .ensures) (sym (k .before .before .unpack .ensures) ∙ k .next .given .1) (c .before .before .before .before .before .sign-at .ensures .0) (k .before .before .before .before .before .pre .1) (c .before .before .before .before .if1 .left) _ _ (c .before .before .rule .ensures) _ _ (c .join .ensures .0) (c .join .ensures .1)
 
 -- what `single` has of those that it calls
 abbrev single-env : ℕ → single-lts.Claims
-single-env t = (token-at-reads.Asked, token-at-reads.Learnt, put-reads.Asked, put-reads.Learnt, skip-reads.Asked, skip-reads.Learnt, pack-reads.Asked, pack-reads.Learnt, rule-below t, rule.Post, close-reads.Asked, close-reads.Learnt, prefix-kind-reads.Asked, prefix-kind-reads.Learnt, single-below t, single.Post, cap-reads.Asked, cap-reads.Learnt)
+single-env t = (token-at-reads.Asked, token-at-reads.Learnt, put-reads.Asked, put-reads.Learnt, skip-reads.Asked, skip-reads.Learnt, pack-reads.Asked, pack-reads.Learnt, rule-below t, rule.Post, close-reads.Asked, close-reads.Learnt, prefix-kind-reads.Asked, prefix-kind-reads.Learnt, opening-reads.Asked, opening-reads.Learnt, single-below t, single.Post, cap-reads.Asked, cap-reads.Learnt, span-at-reads.Asked, span-at-reads.Learnt)
 
 single-token-at-requires : (t : ℕ) → single-lts.Need-token-at-requires (single-env t) (single-at t) single.Post
 single-token-at-requires t c κs = search needs
@@ -263,35 +265,76 @@ single-returns-2 t c =
     let s = c .before .before .before .before .before .before .before .before in
     single-fail _ _ _ (s .args .out .now) _ _ _ (c .before .before .before .before .before .before .token-at .ensures) (c .before .before .before .before .byte .given .1) (c .before .before .if1 .left) (c .before .prefix-kind .result) (c .before .prefix-kind .ensures) (c .if2 .taken)
 
+single-opening-requires : (t : ℕ) → single-lts.Need-opening-requires (single-env t) (single-at t) single.Post
+single-opening-requires t c κs = search needs
+
 single-single-requires : (t : ℕ) → single-lts.Need-single-requires (single-env t) (single-at t) single.Post
 single-single-requires t c κs =
-    let s = c .before .before .before .before .before .before .before .before .before in
-    let h = sign-next _ _ _ (s .args .out .now) _ _ _ (c .before .before .before .before .before .before .before .token-at .ensures) (c .before .before .before .before .before .byte .given .1) (s .pre .1) in
+    let s = c .before .before .before .before .before .before .before .before .before .before .before .before in
+    let h = sign-next _ _ _ (s .args .out .now) _ _ _ (c .before .before .before .before .before .before .before .before .before .before .token-at .ensures) (c .before .before .before .before .before .before .before .before .byte .given .1) (s .pre .1) in
     (omega (arith, h .0, s .pre .0), h .1)
 
 single-cap-requires : (t : ℕ) → single-lts.Need-cap-requires (single-env t) (single-at t) single.Post
 single-cap-requires t c κs =
-    let s = c .before .before .before .before .before .before .before .before .before .before .before in
-    inner-room _ _ _ (s .args .out .now) _ _ _ (c .before .before .before .before .before .before .before .before .before .token-at .ensures) (c .before .before .before .before .before .before .before .byte .given .1) singleLevel (s .pre .1) _ _ (c .before .single .ensures)
+    let s = c .before .before .before .before .before .before .before .before .before .before .before .before .before .before in
+    inner-room _ _ _ (s .args .out .now) _ _ _ (c .before .before .before .before .before .before .before .before .before .before .before .before .token-at .ensures) (c .before .before .before .before .before .before .before .before .before .before .byte .given .1) singleLevel (s .pre .1) _ _ (c .before .single .ensures)
+
+single-returns-3 : (t : ℕ) → single-lts.Need-returns-3 (single-env t) (single-at t) single.Post
+single-returns-3 t c =
+    let s = c .before .before .before .before .before .before .before .before .before .before .before .before .before .before .before in
+    single-prefix _ _ _ (s .args .out .now) _ _ _ (c .before .before .before .before .before .before .before .before .before .before .before .before .before .token-at .ensures) (c .before .before .before .before .before .before .before .before .before .before .before .byte .given .1) (c .before .before .before .before .before .before .before .before .before .if1 .left) (c .before .before .before .before .before .before .before .before .prefix-kind .result) (c .before .before .before .before .before .before .before .before .prefix-kind .ensures) (c .before .before .before .before .before .opening .result) (c .before .before .before .before .before .opening .ensures) (c .before .before .before .before .before .before .before .if2 .left) (c .before .before .before .before .if3 .taken) _ _ (c .before .before .single .ensures) _ _ (c .cap .ensures .0) (c .cap .ensures .1)
+
+single-span-at-requires : (t : ℕ) → single-lts.Need-span-at-requires (single-env t) (single-at t) single.Post
+single-span-at-requires t c κs = search needs
 
 single-enum-told : (t : ℕ) → single-lts.Need-enum-told (single-env t) (single-at t) single.Post
 single-enum-told t c = search needs
 
-single-returns-3 : (t : ℕ) → single-lts.Need-returns-3 (single-env t) (single-at t) single.Post
-single-returns-3 t c =
+single-enum-known-from : (t : ℕ) → single-lts.Need-enum-known-from (single-env t) (single-at t) single.Post
+single-enum-known-from t c = search needs
+
+single-single-requires-2 : (t : ℕ) → single-lts.Need-single-requires-2 (single-env t) (single-at t) single.Post
+single-single-requires-2 t c κs =
+    let s = c .before .before .before .before .before .before .before .before .before .before .before .before .before .before .before .before .before in
+    let g = c .before .before .from .given in
+    let h = window-next _ _ _ (s .args .out .now) _ _ _ (c .before .before .before .before .before .before .before .before .before .before .before .before .before .before .before .token-at .ensures) (c .before .before .before .before .before .before .before .before .before .before .before .before .before .byte .given .1) (c .before .before .before .before .before .before .before .before .before .before .before .if1 .left) (c .before .before .before .before .before .before .before .before .before .before .prefix-kind .result) (c .before .before .before .before .before .before .before .before .before .before .prefix-kind .ensures) (c .before .before .before .before .before .before .before .opening .result) (c .before .before .before .before .before .before .before .opening .ensures) (c .before .before .before .before .before .before .before .before .before .if2 .left) (c .before .before .before .before .before .before .if3 .left) (c .before .before .before .before .span-at .result) (c .before .before .before .before .span-at .ensures) (g .0 .0) (g .0 .1 .0) (g .0 .1 .1 .0) (g .1) (s .pre .1) in
+    (omega (arith, h .0, s .pre .0), h .1)
+
+single-add-cap : (t : ℕ) → single-lts.Need-add-cap (single-env t) (single-at t) single.Post
+single-add-cap t c =
+    let s = c .before .before .before .before .before .before .before .before .before .before .before .before .before .before .before .before .before .before .before in
+    omega (arith, small-kind _ _ (s .args .n) (s .args .out .now) _ _ _ (c .before .before .before .before .before .before .before .before .before .before .before .before .before .before .before .before .before .token-at .ensures) (c .before .before .before .before .before .before .before .before .before .before .before .before .before .before .before .byte .given .1) (c .before .before .before .before .before .before .before .before .before .before .before .before .before .if1 .left) (c .before .before .before .before .before .before .before .before .before .before .before .before .prefix-kind .result) (c .before .before .before .before .before .before .before .before .before .before .before .before .prefix-kind .ensures))
+
+single-cap-requires-2 : (t : ℕ) → single-lts.Need-cap-requires-2 (single-env t) (single-at t) single.Post
+single-cap-requires-2 t c κs =
+    let s = c .before .before .before .before .before .before .before .before .before .before .before .before .before .before .before .before .before .before .before in
+    let g = c .before .before .before .before .from .given in
+    window-room _ _ _ (s .args .out .now) _ _ _ (c .before .before .before .before .before .before .before .before .before .before .before .before .before .before .before .before .before .token-at .ensures) (c .before .before .before .before .before .before .before .before .before .before .before .before .before .before .before .byte .given .1) (c .before .before .before .before .before .before .before .before .before .before .before .before .before .if1 .left) (c .before .before .before .before .before .before .before .before .before .before .before .before .prefix-kind .result) (c .before .before .before .before .before .before .before .before .before .before .before .before .prefix-kind .ensures) (c .before .before .before .before .before .before .before .before .before .opening .result) (c .before .before .before .before .before .before .before .before .before .opening .ensures) (c .before .before .before .before .before .before .before .before .before .before .before .if2 .left) (c .before .before .before .before .before .before .before .before .if3 .left) (c .before .before .before .before .before .before .span-at .result) (c .before .before .before .before .before .before .span-at .ensures) (g .0 .0) (g .0 .1 .0) (g .0 .1 .1 .0) (g .1) _ _ (c .before .single2 .ensures) (s .pre .1)
+
+single-enum-told-2 : (t : ℕ) → single-lts.Need-enum-told-2 (single-env t) (single-at t) single.Post
+single-enum-told-2 t c = search needs
+
+single-returns-4 : (t : ℕ) → single-lts.Need-returns-4 (single-env t) (single-at t) single.Post
+single-returns-4 t c =
     let s = c .before .before .before .before .before .before .before .before .before .before .args in
     let a = c .before .before .before .before .before .before .number .given in
     single-atom (s .text .now .now) (s .at) (s .n) (c .before .before .before .before .before .before .before .before .token-at .result) (a .0 .0) (a .0 .1 .0) (c .before .before .before .before .before .before .before .before .token-at .ensures) (a .1) (s .out .now) (c .before .before .before .put .last .0) _ (c .before .skip .result) (c .before .skip .ensures) (c .pack .ensures) (c .before .before .before .put .ensures)
 
-single-returns-4 : (t : ℕ) → single-lts.Need-returns-4 (single-env t) (single-at t) single.Post
-single-returns-4 t c =
-    let s = c .before .before .before .before .before .before .before .before .before .before .before .before in
-    single-prefix _ _ _ (s .args .out .now) _ _ _ (c .before .before .before .before .before .before .before .before .before .before .token-at .ensures) (c .before .before .before .before .before .before .before .before .byte .given .1) (c .before .before .before .before .before .before .if1 .left) (c .before .before .before .before .before .prefix-kind .result) (c .before .before .before .before .before .prefix-kind .ensures) _ _ (c .before .before .single .ensures) (c .before .before .before .before .if2 .left) _ _ (c .cap .ensures .0) (c .cap .ensures .1)
-
 single-returns-5 : (t : ℕ) → single-lts.Need-returns-5 (single-env t) (single-at t) single.Post
 single-returns-5 t c =
+    let s = c .before .before .before .before .before .before .before .before .before .before .before .before .before .before .before in
+    window-fail _ _ _ (s .args .out .now) _ _ _ (c .before .before .before .before .before .before .before .before .before .before .before .before .before .token-at .ensures) (c .before .before .before .before .before .before .before .before .before .before .before .byte .given .1) (c .before .before .before .before .before .before .before .before .before .if1 .left) (c .before .before .before .before .before .before .before .before .prefix-kind .result) (c .before .before .before .before .before .before .before .before .prefix-kind .ensures) (c .before .before .before .before .before .opening .result) (c .before .before .before .before .before .opening .ensures) (c .before .before .before .before .before .before .before .if2 .left) (c .before .before .before .before .if3 .left) (c .before .before .span-at .result) (c .before .before .span-at .ensures) (c .enum-told .given .1)
+
+single-returns-6 : (t : ℕ) → single-lts.Need-returns-6 (single-env t) (single-at t) single.Post
+single-returns-6 t c =
+    let s = c .before .before .before .before .before .before .before .before .before .before .before .before .before .before .before .before .before .before .before .before in
+    let g = c .before .before .before .before .before .from .given in
+    single-window _ _ _ (s .args .out .now) _ _ _ (c .before .before .before .before .before .before .before .before .before .before .before .before .before .before .before .before .before .before .token-at .ensures) (c .before .before .before .before .before .before .before .before .before .before .before .before .before .before .before .before .byte .given .1) (c .before .before .before .before .before .before .before .before .before .before .before .before .before .before .if1 .left) (c .before .before .before .before .before .before .before .before .before .before .before .before .before .prefix-kind .result) (c .before .before .before .before .before .before .before .before .before .before .before .before .before .prefix-kind .ensures) (c .before .before .before .before .before .before .before .before .before .before .opening .result) (c .before .before .before .before .before .before .before .before .before .before .opening .ensures) (c .before .before .before .before .before .before .before .before .before .before .before .before .if2 .left) (c .before .before .before .before .before .before .before .before .before .if3 .left) (c .before .before .before .before .before .before .before .span-at .result) (c .before .before .before .before .before .before .before .span-at .ensures) (g .0 .0) (g .0 .1 .0) (g .0 .1 .1 .0) (g .1) _ _ (c .before .before .single2 .ensures) _ _ (c .cap2 .ensures .0) (c .cap2 .ensures .1)
+
+single-returns-7 : (t : ℕ) → single-lts.Need-returns-7 (single-env t) (single-at t) single.Post
+single-returns-7 t c =
     let s = c .before .before .before .before .args in
-    single-none (s .text .now .now) (s .at) (s .n) (s .out .now) (c .before .before .token-at .result) (c .before .before .token-at .ensures) (c .enum-told .given .1)
+    single-none (s .text .now .now) (s .at) (s .n) (s .out .now) (c .before .before .token-at .result) (c .before .before .token-at .ensures) (c .enum-told2 .given .1)
 
 -- what `until` has of those that it calls
 abbrev until-env : ℕ → until-lts.Claims
@@ -315,19 +358,19 @@ until-sign-at-requires t c κs = search needs
 until-returns : (t : ℕ) → until-lts.Need-returns (until-env t) (until-at t) until.Post
 until-returns t c =
     let k = c .before .before .before .before in
-    level-alone untils _ _ _ _ _ _ _ _ _ _ (k .before .before .before .single .ensures) (sym (k .before .before .unpack .ensures) ∙ k .next .given .1) (c .before .sign-at .ensures .0) (c .if1 .taken)
+    level-alone untils _ _ _ _ _ _ _ _ _ _ _ (k .before .before .before .single .ensures) (sym (k .before .before .unpack .ensures) ∙ k .next .given .1) (c .before .sign-at .ensures .0) (c .if1 .taken)
 
 until-until-requires : (t : ℕ) → until-lts.Need-until-requires (until-env t) (until-at t) until.Post
 until-until-requires t c κs =
     let k = c .before .before .before .before .before in
     let pre = k .before .before .before .before .before .pre in
-    let h = level-next untils _ _ _ _ _ _ _ _ _ _ (k .before .before .before .single .ensures) (sym (k .before .before .unpack .ensures) ∙ k .next .given .1) (c .before .before .sign-at .ensures .0) (pre .1) (c .before .if1 .left) in
+    let h = level-next untils _ _ _ _ _ _ _ _ _ _ _ (k .before .before .before .single .ensures) (sym (k .before .before .unpack .ensures) ∙ k .next .given .1) (c .before .before .sign-at .ensures .0) (pre .1) (c .before .if1 .left) in
     (omega (arith, h .0, pre .0), h .1)
 
 until-join-requires : (t : ℕ) → until-lts.Need-join-requires (until-env t) (until-at t) until.Post
 until-join-requires t c κs =
     let k = c .before .before .before .before .before .before .before in
-    level-room untils _ _ _ _ _ _ _ _ _ _ (k .before .before .before .single .ensures) (sym (k .before .before .unpack .ensures) ∙ k .next .given .1) (c .before .before .before .before .sign-at .ensures .0) (k .before .before .before .before .before .pre .1) (c .before .before .before .if1 .left) _ _ (c .before .until .ensures)
+    level-room untils _ _ _ _ _ _ _ _ _ _ _ (k .before .before .before .single .ensures) (sym (k .before .before .unpack .ensures) ∙ k .next .given .1) (c .before .before .before .before .sign-at .ensures .0) (k .before .before .before .before .before .pre .1) (c .before .before .before .if1 .left) _ _ (c .before .until .ensures)
 
 until-returns-2 : (t : ℕ) → until-lts.Need-returns-2 (until-env t) (until-at t) until.Post
 until-returns-2 t c = level-fail untils _ _ _ _ _ _ (c .before .before .before .single .ensures) (sym (c .before .before .unpack .ensures) ∙ c .enum-told .given .1)
@@ -335,7 +378,7 @@ until-returns-2 t c = level-fail untils _ _ _ _ _ _ (c .before .before .before .
 until-returns-3 : (t : ℕ) → until-lts.Need-returns-3 (until-env t) (until-at t) until.Post
 until-returns-3 t c =
     let k = c .before .before .before .before .before .before .before .before in
-    level-joined untils _ _ _ _ _ _ _ _ _ _ (k .before .before .before .single .ensures) (sym (k .before .before .unpack .ensures) ∙ k .next .given .1) (c .before .before .before .before .before .sign-at .ensures .0) (k .before .before .before .before .before .pre .1) (c .before .before .before .before .if1 .left) _ _ (c .before .before .until .ensures) _ _ (c .join .ensures .0) (c .join .ensures .1)
+    level-joined untils _ _ _ _ _ _ _ _ _ _ _ (k .before .before .before .single .ensures) (sym (k .before .before .unpack .ensures) ∙ k .next .given .1) (c .before .before .before .before .before .sign-at .ensures .0) (k .before .before .before .before .before .pre .1) (c .before .before .before .before .if1 .left) _ _ (c .before .before .until .ensures) _ _ (c .join .ensures .0) (c .join .ensures .1)
 
 pub +and+or+rule+single+until-spec : {M : Type 1} → statement M
 +and+or+rule+single+until-spec = close μ-and μ-or μ-rule μ-single μ-until (λ t. and-lts.spec (and-env t)
@@ -392,12 +435,21 @@ pub +and+or+rule+single+until-spec : {M : Type 1} → statement M
     (single-returns t)
     (single-prefix-kind-requires t)
     (single-returns-2 t)
+    (single-opening-requires t)
     (single-single-requires t)
     (single-cap-requires t)
-    (single-enum-told t)
     (single-returns-3 t)
+    (single-span-at-requires t)
+    (single-enum-told t)
+    (single-enum-known-from t)
+    (single-single-requires-2 t)
+    (single-add-cap t)
+    (single-cap-requires-2 t)
+    (single-enum-told-2 t)
     (single-returns-4 t)
-    (single-returns-5 t))
+    (single-returns-5 t)
+    (single-returns-6 t)
+    (single-returns-7 t))
     λ t. until-lts.spec (until-env t)
     (until-at t)
     until.Post

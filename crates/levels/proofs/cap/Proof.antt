@@ -1,5 +1,6 @@
 -- `levels::cap` meets its contract.
-use mathlib.Core.Path.{sym, _∙_}
+use mathlib.Core.Path.{sym, ap, _∙_}
+use Prim.Native.Nat.{ℕ, max}
 use native.Mathlib.Omega.{arith}
 use borrow.Author.Needs.{needs}
 use Rattle.levels.proofs.Laws.{room-of, more-fits, cap-none, cap-told}
@@ -16,26 +17,48 @@ enum-known-next : tie.Need-enum-known-next
 enum-known-next c = search needs
 
 sub-put : tie.Need-sub-put
-sub-put c = room-of _ _ _ _ (sym (c .before .before .before .before .unpack .ensures) ∙ c .before .before .next .given .1) (c .before .before .before .before .before .pre) .0
+sub-put c = room-of _ _ _ _ _ (sym (c .before .before .before .before .unpack .ensures) ∙ c .before .before .next .given .1) (c .before .before .before .before .before .pre) .0
 
 put-requires : tie.Need-put-requires
-put-requires c κs = room-of _ _ _ _ (sym (c .before .before .before .before .unpack .ensures) ∙ c .before .before .next .given .1) (c .before .before .before .before .before .pre) .1 .0
+put-requires c κs = room-of _ _ _ _ _ (sym (c .before .before .before .before .unpack .ensures) ∙ c .before .before .next .given .1) (c .before .before .before .before .before .pre) .1 .0
 
 add-pack : tie.Need-add-pack
-add-pack c = omega (arith, room-of _ _ _ _ (sym (c .before .before .before .before .before .unpack .ensures) ∙ c .before .before .before .next .given .1) (c .before .before .before .before .before .before .pre))
+add-pack c = omega (arith, room-of _ _ _ _ _ (sym (c .before .before .before .before .before .unpack .ensures) ∙ c .before .before .before .next .given .1) (c .before .before .before .before .before .before .pre))
+
+outside-requires : tie.Need-outside-requires
+outside-requires c κs = search needs
+
+larger-requires : tie.Need-larger-requires
+larger-requires c κs = search needs
 
 pack-requires : tie.Need-pack-requires
 pack-requires c κs =
-    let e = (sym (c .before .before .before .before .before .unpack .ensures) ∙ c .before .before .before .next .given .1) in
-    let r = c .before .before .before .before .before .before .pre in
-    more-fits _ _ _ _ _ e r (room-of _ _ _ _ e r .1 .1 .1)
+    let e = (sym (c .before .before .before .before .before .before .before .unpack .ensures) ∙ c .before .before .before .before .before .next .given .1) in
+    let r = c .before .before .before .before .before .before .before .before .pre in
+    let o = room-of _ _ _ _ _ e r .1 .1 .1 in
+    more-fits _ _ _ _ _ _ _ e r (o .0) (omega (arith, o .1, c .before .outside .ensures .1, c .larger .ensures))
 
 returns : tie.Need-returns
-returns c = cap-none _ _ _ (sym (c .before .before .unpack .ensures) ∙ c .enum-told .given .1)
+returns c = cap-none _ _ _ _ _ (sym (c .before .before .unpack .ensures) ∙ c .enum-told .given .1)
 
 returns-2 : tie.Need-returns-2
-returns-2 c = cap-told _ _ _ _ _ _ _ _ (c .pack .ensures) (sym (c .before .before .before .before .before .before .unpack .ensures) ∙ c .before .before .before .before .next .given .1) (c .before .put .ensures)
+returns-2 c =
+    let g = c .before .before .before .before .before .before .next .given in
+    let d = c .before .larger .ensures ∙ ap (max (g .0 .1 .1 .1 .0)) (c .before .before .outside .ensures .0) in
+    cap-told _ _ _ _ _ _ _ _ _ _ _ _ (c .pack .ensures) (sym (c .before .before .before .before .before .before .before .before .unpack .ensures) ∙ c .before .before .before .before .before .before .next .given .1) d (c .before .before .before .put .ensures)
 
 pub cap-spec : {M : Type 1} → statement M
 cap-spec =
-    tie.close (tie.spec unpack-requires enum-told enum-known-next sub-put put-requires add-pack pack-requires returns returns-2)
+    tie.close
+    (tie.spec
+    unpack-requires
+    enum-told
+    enum-known-next
+    sub-put
+    put-requires
+    add-pack
+    outside-requires
+    larger-requires
+    pack-requires
+    returns
+    returns-2)

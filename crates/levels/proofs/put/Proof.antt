@@ -18,8 +18,8 @@ sets-out l i (v ∷ vs) h = ap (λ (x : List ℕ). sets x (suc i) vs) (set-out l
 returns : tie.Need-returns
 returns c h =
     let a = c .before .args in
-    let past : length (a .out .now) ≤ 5 * a .n = omega (arith, c .if1 .taken, h) in
-    sym (sets-out (a .out .now) (5 * a .n) (entry (a .kind) (a .left) (a .right)) past)
+    let past : length (a .out .now) ≤ 7 * a .n = omega (arith, c .if1 .taken, h) in
+    sym (sets-out (a .out .now) (7 * a .n) (entry (a .kind) (a .left) (a .right) (a .from) (a .to)) past)
 
 mul-i : tie.Need-mul-i
 mul-i c = search needs
@@ -63,6 +63,24 @@ add-out-4 c = search needs
 element-write-out-5 : tie.Need-element-write-out-5
 element-write-out-5 c = search needs
 
+cast-out-3 : tie.Need-cast-out-3
+cast-out-3 c = search needs
+
+add-out-5 : tie.Need-add-out-5
+add-out-5 c = search needs
+
+element-write-out-6 : tie.Need-element-write-out-6
+element-write-out-6 c = search needs
+
+cast-out-4 : tie.Need-cast-out-4
+cast-out-4 c = search needs
+
+add-out-6 : tie.Need-add-out-6
+add-out-6 c = search needs
+
+element-write-out-7 : tie.Need-element-write-out-7
+element-write-out-7 c = search needs
+
 returns-2 : tie.Need-returns-2
 returns-2 c h = simp towards-suc
 
@@ -85,4 +103,10 @@ put-spec =
     cast-out-2
     add-out-4
     element-write-out-5
+    cast-out-3
+    add-out-5
+    element-write-out-6
+    cast-out-4
+    add-out-6
+    element-write-out-7
     returns-2)

@@ -1,29 +1,31 @@
 -- `lines::put_binary_line` meets its contract. The type and the bounds' name in one piece, the variable, and the line's end. Assumes nothing.
-use mathlib.Core.Path.{refl, sym, _∙_}
-use mathlib.Core.List.{[]}
+use mathlib.Core.Path.{refl, sym}
 use native.Mathlib.Omega.{arith}
+use Rattle.text.specs.Put.{also}
+use Rattle.lines.specs.Names.{binary-length}
+use Rattle.lines.specs.Sent.{sent-put, sent-out, sent-as}
+use Rattle.lines.specs.Fields.{binary-fields}
 use borrow.Author.Needs.{needs}
-use Rattle.mps.specs.Words.{BV, BND}
-use Rattle.mps.specs.Page.{field, variableName, binaryLine}
-use Rattle.lines.specs.Blank.{blank, Built, built-field, built-long}
 use Rattle.lines.proofs.put_binary_line.Statement.{statement}
 use Rattle.lines.proofs.put_binary_line.Tie as tie
 
-begun : (c : tie.After-put-bytes) → Built (c .put-bytes .last .0) (field 5 (field 2 [] BV) BND) 7
-unfolding blank field
-begun c = record { is = c .put-bytes .ensures .content ∙ refl; ends = refl; short = omega arith }
+add-past : tie.Need-add-past
+add-past c = search needs
 
-built : (c : tie.After-put-lettered) → Built (c .put-lettered .last .0) (field 15 (field 5 (field 2 [] BV) BND) (variableName (c .before .before .before .before .before .before .before .args .v))) (c .put-lettered .result)
-built c =
-    let b = begun (c .before .before .before) in
-    let p = c .put-lettered .ensures in
-    built-field 15 b (p .0) (omega (arith, b .ends)) (omega (arith, p .0 .ends, p .1))
+digits-in-requires : tie.Need-digits-in-requires
+digits-in-requires c κs = search needs
+
+add-past-2 : tie.Need-add-past-2
+add-past-2 c = search needs
+
+returns : tie.Need-returns
+returns c =
+    let k = c .before in
+    let a = k .before .before .args in
+    (sent-out (omega (arith, binary-length (a .v), k .digits-in .ensures .0)) (c .if1 .taken), omega (arith, k .digits-in .ensures .1))
 
 slice-aggregate-put-bytes : tie.Need-slice-aggregate-put-bytes
 slice-aggregate-put-bytes c = search needs
-
-slice-aggregate-put-bytes-2 : tie.Need-slice-aggregate-put-bytes-2
-slice-aggregate-put-bytes-2 c = search needs
 
 put-bytes-requires : tie.Need-put-bytes-requires
 put-bytes-requires c κs = search needs
@@ -31,31 +33,34 @@ put-bytes-requires c κs = search needs
 put-lettered-requires : tie.Need-put-lettered-requires
 put-lettered-requires c κs = search needs
 
-slice-aggregate-put-ended : tie.Need-slice-aggregate-put-ended
-slice-aggregate-put-ended c = sym (built-long (built (c .before .before)))
-
-put-ended-requires : tie.Need-put-ended-requires
-put-ended-requires c κs = (omega arith, omega (arith, c .before .before .put-lettered .ensures .1), built-long (built (c .before .before)))
+put-byte-requires : tie.Need-put-byte-requires
+put-byte-requires c κs = search needs
 
 same-length : tie.Need-same-length
 same-length c = search needs
 
-returns : tie.Need-returns
-unfolding binaryLine
-returns c =
-    let e = c .before .before .before in
-    let b = built (e .before .before .before) in
-    (e .put-ended .ensures .0 _ (b .is) (b .ends), e .put-ended .ensures .1)
+returns-2 : tie.Need-returns-2
+returns-2 c =
+    let e = c .before .before in
+    let n = e .before .before .before .before in
+    let t = n .before .before .before .before in
+    let k = t .before .before .before .before in
+    let a = k .before .before .args in
+    let p = also (also (t .put-bytes .ensures) (n .put-lettered .ensures)) (e .put-byte .ensures) in
+    let q = sent-as (sym (binary-fields (a .v))) (sent-put p (search needs)) in
+    (q, omega (arith, q .ends, binary-length (a .v), k .digits-in .ensures))
 
 pub put-binary-line-spec : {M : Type 1} → statement M
 put-binary-line-spec =
     tie.close
     (tie.spec
+    add-past
+    digits-in-requires
+    add-past-2
+    returns
     slice-aggregate-put-bytes
-    slice-aggregate-put-bytes-2
     put-bytes-requires
     put-lettered-requires
-    slice-aggregate-put-ended
-    put-ended-requires
+    put-byte-requires
     same-length
-    returns)
+    returns-2)

@@ -1,35 +1,19 @@
 -- `lines::put_number_line` meets its contract. Three fields, and the line's end. Assumes nothing.
 use mathlib.Core.Path.{_≡_, refl, sym, ap, _∙_}
-use mathlib.Core.List.{[]}
 use native.Mathlib.Omega.{arith}
-use borrow.Author.Needs.{needs}
 use lib.IntN.{ℤ, natAbs}
 use lib.ListN.{length}
 use mir.Facts.{toZ-ofZ}
 use Rattle.text.specs.Decimal.{signedText}
-use Rattle.mps.specs.Page.{field, numberLine}
-use Rattle.lines.specs.Names.{nameText, number-length}
-use Rattle.lines.specs.Blank.{Built, built-none, built-field, built-long, length-field}
+use Rattle.text.specs.Put.{also}
+use Rattle.lines.specs.Names.{nameText, name-length, number-length}
+use Rattle.lines.specs.Sent.{sent-put, sent-out, sent-as}
+use Rattle.lines.specs.Fields.{number-fields}
+use borrow.Author.Needs.{needs}
 use Rattle.lines.proofs.put_number_line.Statement.{statement}
 use Rattle.lines.proofs.put_number_line.Tie as tie
 
-built : (c : tie.After-put-signed) →
-    Built (c .put-signed .last .0) (field 25 (field 15 (field 5 [] (nameText (c .before .before .before .before .before .before .before .before .before .args .name))) (nameText (c .before .before .before .before .before .before .before .before .before .args .row))) (signedText (c .before .before .before .before .before .before .before .before .before .args .c))) (c .put-signed .result)
-built c =
-    let second = c .before .before in
-    let first = second .before .before in
-    let s = first .before .before .before .before .before in
-    let p = first .put-name .ensures in
-    let q = second .put-name2 .ensures in
-    let r = c .put-signed .ensures in
-    let name = nameText (s .args .name) in
-    let row = nameText (s .args .row) in
-    let n = length-field 5 [] name (omega arith) in
-    let m = length-field 15 (field 5 [] name) row (omega (arith, p .0 .ends, p .1)) in
-    let b = built-field 25 (built-field 15 (built-field 5 built-none (p .0) (omega arith) (omega (arith, p .0 .ends, p .1))) (q .0) (omega (arith, p .0 .ends, p .1)) (omega (arith, q .0 .ends, q .1))) (r .0) (omega (arith, q .0 .ends, q .1)) (omega (arith, r .0 .ends, r .1)) in
-    rw (toZ-ofZ (s .fits .c)) at b
-
--- the number's length, and where the line ends
+-- the number's length
 long : (c : tie.After-signed-length) → c .signed-length .result ≡ length (signedText (c .before .before .args .c))
 long c = c .signed-length .ensures .0 ∙ ap (λ (z : ℤ). length (signedText z)) (toZ-ofZ (c .before .before .fits .c))
 
@@ -48,34 +32,49 @@ returns c =
     let s = k .before .before in
     let a = s .args in
     let n = number-length (a .name) (a .row) (a .c) (s .pre .1) (s .pre .2) in
-    let e = long k in
-    let t = c .if1 .taken in
-    (record { ends = omega arith; content = λ h. absurd (omega arith); same = refl }, omega (arith, k .signed-length .ensures .1))
+    (sent-out (omega (arith, n, long k)) (c .if1 .taken), omega (arith, k .signed-length .ensures .1))
 
-put-name-requires : tie.Need-put-name-requires
-put-name-requires c κs = search needs
+put-type-requires : tie.Need-put-type-requires
+put-type-requires c κs = search needs
 
-put-name-requires-2 : tie.Need-put-name-requires-2
-put-name-requires-2 c κs = search needs
+name-word-requires : tie.Need-name-word-requires
+name-word-requires c κs = search needs
+
+put-field-requires : tie.Need-put-field-requires
+put-field-requires c κs = search needs
+
+name-word-requires-2 : tie.Need-name-word-requires-2
+name-word-requires-2 c κs = search needs
+
+put-field-requires-2 : tie.Need-put-field-requires-2
+put-field-requires-2 c κs = search needs
 
 put-signed-requires : tie.Need-put-signed-requires
 put-signed-requires c κs = search needs
 
-slice-aggregate-put-ended : tie.Need-slice-aggregate-put-ended
-slice-aggregate-put-ended c = sym (built-long (built (c .before .before)))
-
-put-ended-requires : tie.Need-put-ended-requires
-put-ended-requires c κs = (omega arith, omega (arith, c .before .before .put-signed .ensures .1), built-long (built (c .before .before)))
+put-byte-requires : tie.Need-put-byte-requires
+put-byte-requires c κs = search needs
 
 same-length : tie.Need-same-length
 same-length c = search needs
 
 returns-2 : tie.Need-returns-2
-unfolding numberLine
 returns-2 c =
-    let e = c .before .before .before in
-    let b = built (e .before .before .before) in
-    (e .put-ended .ensures .0 _ (b .is) (b .ends), e .put-ended .ensures .1)
+    let e = c .before .before in
+    let x = e .before .before .before .before in
+    let g = x .before .before .before .before in
+    let f = g .before .before .before .before .before in
+    let t = f .before .before .before .before .before in
+    let k = t .before .before .before in
+    let s = k .before .before in
+    let a = s .args in
+    let m = name-length (a .name) (s .pre .1) in
+    let n = name-length (a .row) (s .pre .2) in
+    let first = f .put-field .ensures .0 (nameText (a .name)) (omega arith) (f .before .name-word .ensures) in
+    let second = g .put-field2 .ensures .0 (nameText (a .row)) (omega arith) (g .before .name-word2 .ensures) in
+    let p = also (also (also (also (t .put-type .ensures) first) second) (rw (toZ-ofZ (s .fits .c)) at (x .put-signed .ensures))) (e .put-byte .ensures) in
+    let q = sent-as (sym (number-fields (nameText (a .name)) (nameText (a .row)) (a .c) (omega arith) (omega arith))) (sent-put p (search needs)) in
+    (q, omega (arith, q .ends, number-length (a .name) (a .row) (a .c) (s .pre .1) (s .pre .2), long k, k .signed-length .ensures .1))
 
 pub put-number-line-spec : {M : Type 1} → statement M
 put-number-line-spec =
@@ -85,10 +84,12 @@ put-number-line-spec =
     signed-length-requires
     add-past-2
     returns
-    put-name-requires
-    put-name-requires-2
+    put-type-requires
+    name-word-requires
+    put-field-requires
+    name-word-requires-2
+    put-field-requires-2
     put-signed-requires
-    slice-aggregate-put-ended
-    put-ended-requires
+    put-byte-requires
     same-length
     returns-2)

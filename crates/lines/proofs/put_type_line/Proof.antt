@@ -1,51 +1,61 @@
 -- `lines::put_type_line` meets its contract. Two fields, and the line's end. Assumes nothing.
-use mathlib.Core.Path.{sym}
-use mathlib.Core.List.{[], _∷_}
+use mathlib.Core.Path.{refl, sym}
 use native.Mathlib.Omega.{arith}
+use Rattle.text.specs.Put.{also}
+use Rattle.lines.specs.Names.{nameText, type-length}
+use Rattle.lines.specs.Sent.{sent-put, sent-out, sent-as}
+use Rattle.lines.specs.Fields.{type-fields}
 use borrow.Author.Needs.{needs}
-use Rattle.text.specs.Put.{one}
-use Rattle.mps.specs.Page.{field, typeLine}
-use Rattle.lines.specs.Names.{nameText}
-use Rattle.lines.specs.Blank.{Built, built-none, built-field, built-long, length-field}
 use Rattle.lines.proofs.put_type_line.Statement.{statement}
 use Rattle.lines.proofs.put_type_line.Tie as tie
 
-built : (c : tie.After-put-name) → Built (c .put-name .last .0) (field 5 (field 2 [] (c .before .before .before .args .letter ∷ [])) (nameText (c .before .before .before .args .name))) (c .put-name .result)
-built c =
-    let s = c .before .before .before in
-    let p = c .put-name .ensures in
-    let n = length-field 2 [] (s .args .letter ∷ []) (omega arith) in
-    built-field 5 (built-field 2 built-none (one _ 1 (s .args .letter)) (omega arith) (omega arith)) (p .0) (omega arith) (omega (arith, p .0 .ends, p .1))
+add-past : tie.Need-add-past
+add-past c = search needs
 
-array-write-line : tie.Need-array-write-line
-array-write-line c = search needs
+name-length-requires : tie.Need-name-length-requires
+name-length-requires c κs = search needs
+
+add-past-2 : tie.Need-add-past-2
+add-past-2 c = search needs
+
+returns : tie.Need-returns
+returns c =
+    let k = c .before in
+    let a = k .before .before .args in
+    (sent-out (omega (arith, type-length (a .letter) (a .name), k .name-length .ensures .0)) (c .if1 .taken), omega (arith, k .name-length .ensures .1))
+
+put-type-requires : tie.Need-put-type-requires
+put-type-requires c κs = search needs
 
 put-name-requires : tie.Need-put-name-requires
 put-name-requires c κs = search needs
 
-slice-aggregate-put-ended : tie.Need-slice-aggregate-put-ended
-slice-aggregate-put-ended c = sym (built-long (built (c .before .before)))
-
-put-ended-requires : tie.Need-put-ended-requires
-put-ended-requires c κs = (omega arith, omega (arith, c .before .before .put-name .ensures .1), built-long (built (c .before .before)))
+put-byte-requires : tie.Need-put-byte-requires
+put-byte-requires c κs = search needs
 
 same-length : tie.Need-same-length
 same-length c = search needs
 
-returns : tie.Need-returns
-unfolding typeLine
-returns c =
-    let e = c .before .before .before in
-    let b = built (e .before .before .before) in
-    (e .put-ended .ensures .0 _ (b .is) (b .ends), e .put-ended .ensures .1)
+returns-2 : tie.Need-returns-2
+returns-2 c =
+    let e = c .before .before in
+    let n = e .before .before .before .before in
+    let t = n .before .before .before .before in
+    let k = t .before .before .before in
+    let a = k .before .before .args in
+    let p = also (also (t .put-type .ensures) (n .put-name .ensures)) (e .put-byte .ensures) in
+    (sent-as (sym (type-fields (a .letter) (nameText (a .name)))) (sent-put p (search needs)), omega (arith, type-length (a .letter) (a .name), k .name-length .ensures, p .ends))
 
 pub put-type-line-spec : {M : Type 1} → statement M
 put-type-line-spec =
     tie.close
     (tie.spec
-    array-write-line
+    add-past
+    name-length-requires
+    add-past-2
+    returns
+    put-type-requires
     put-name-requires
-    slice-aggregate-put-ended
-    put-ended-requires
+    put-byte-requires
     same-length
-    returns)
+    returns-2)

@@ -1,71 +1,77 @@
 -- `lines::put_upper_line` meets its contract. The type and the bounds' name in one piece, the variable and the number, and the line's end. Assumes nothing.
-use mathlib.Core.Path.{refl, sym, _∙_}
-use mathlib.Core.List.{[], _∷_}
+use mathlib.Core.Path.{_≡_, refl, sym, ap, _∙_}
+use mathlib.Core.List.{List, [], _∷_, _++_, append-assoc}
+use Prim.Native.Nat.{ℕ}
 use native.Mathlib.Omega.{arith}
+use Rattle.text.specs.Decimal.{decimal, decimal-low}
+use Rattle.text.specs.Put.{also}
+use Rattle.mps.specs.Page.{variableName}
+use Rattle.lines.specs.declared.Name.the-variants.{Variable}
+use Rattle.lines.specs.Names.{name-length, upper-length}
+use Rattle.lines.specs.Sent.{sent-put, sent-out, sent-as}
+use Rattle.lines.specs.Fields.{padded, upper-fields}
 use borrow.Author.Needs.{needs}
-use lib.ListN.{set}
-use Rattle.text.specs.Decimal.{decimal-low}
-use Rattle.text.specs.Put.{one}
-use Rattle.mps.specs.Words.{UP, BND}
-use Rattle.mps.specs.Page.{field, variableName, upperLine}
-use Rattle.lines.specs.Blank.{blank, Built, built-field, built-long, length-field}
 use Rattle.lines.proofs.put_upper_line.Statement.{statement}
 use Rattle.lines.proofs.put_upper_line.Tie as tie
 
-begun : (c : tie.After-put-bytes) → Built (c .put-bytes .last .0) (field 5 (field 2 [] UP) BND) 7
-unfolding blank field
-begun c = record { is = c .put-bytes .ensures .content ∙ refl; ends = refl; short = omega arith }
+-- the number and the line's end in one piece
+ended : (l : List ℕ) {m : List ℕ} → (l ++ decimal 1) ++ (10 ∷ []) ≡ m → l ++ (49 ∷ 10 ∷ []) ≡ m
+ended l e = sym (append-assoc l (49 ∷ []) (10 ∷ [])) ∙ ap (λ (x : List ℕ). (l ++ x) ++ (10 ∷ [])) (sym (decimal-low 1 (omega arith))) ∙ e
 
-built : (c : tie.After-put-lettered) → Built (set (c .put-lettered .last .0) 24 49) (field 25 (field 15 (field 5 (field 2 [] UP) BND) (variableName (c .before .before .before .before .before .before .before .args .v))) (49 ∷ [])) 25
-built c =
-    let b = begun (c .before .before .before) in
-    let p = c .put-lettered .ensures in
-    let v = variableName (c .before .before .before .before .before .before .before .args .v) in
-    let n = length-field 15 (field 5 (field 2 [] UP) BND) v (omega (arith, b .ends)) in
-    built-field 25 (built-field 15 b (p .0) (omega (arith, b .ends)) (omega (arith, p .0 .ends, p .1))) (one _ 24 49) (omega (arith, p .0 .ends, p .1)) (omega arith)
+add-past : tie.Need-add-past
+add-past c = search needs
+
+returns : tie.Need-returns
+returns c =
+    let s = c .before .before in
+    (sent-out (omega (arith, upper-length (s .args .v) (s .pre .1))) (c .if1 .taken), omega arith)
 
 slice-aggregate-put-bytes : tie.Need-slice-aggregate-put-bytes
 slice-aggregate-put-bytes c = search needs
 
-slice-aggregate-put-bytes-2 : tie.Need-slice-aggregate-put-bytes-2
-slice-aggregate-put-bytes-2 c = search needs
-
 put-bytes-requires : tie.Need-put-bytes-requires
 put-bytes-requires c κs = search needs
 
-put-lettered-requires : tie.Need-put-lettered-requires
-put-lettered-requires c κs = search needs
+lettered-word-requires : tie.Need-lettered-word-requires
+lettered-word-requires c κs = search needs
 
-array-write-line : tie.Need-array-write-line
-array-write-line c = search needs
+put-field-requires : tie.Need-put-field-requires
+put-field-requires c κs = search needs
 
-slice-aggregate-put-ended : tie.Need-slice-aggregate-put-ended
-slice-aggregate-put-ended c = sym (built-long (built (c .before .before)))
+slice-aggregate-put-bytes-2 : tie.Need-slice-aggregate-put-bytes-2
+slice-aggregate-put-bytes-2 c = search needs
 
-put-ended-requires : tie.Need-put-ended-requires
-put-ended-requires c κs = (omega arith, omega arith, built-long (built (c .before .before)))
+put-bytes-requires-2 : tie.Need-put-bytes-requires-2
+put-bytes-requires-2 c κs = search needs
 
 same-length : tie.Need-same-length
 same-length c = search needs
 
-returns : tie.Need-returns
-unfolding upperLine
-returns c =
-    let one = decimal-low 1 (omega arith) in
-    let e = c .before .before .before in
-    let b = built (e .before .before .before) in
-    (rw one (e .put-ended .ensures .0 _ (b .is) (b .ends)), e .put-ended .ensures .1)
+returns-2 : tie.Need-returns-2
+returns-2 c =
+    let e = c .before .before in
+    let n = e .before .before .before .before .before in
+    let t = n .before .before .before .before .before in
+    let s = t .before .before .before .before .before in
+    let v = s .args .v in
+    let h = name-length (Variable v) (s .pre .1) in
+    let field = n .put-field .ensures .0 (variableName v) (omega arith) (n .before .lettered-word .ensures) in
+    let p = also (also (t .put-bytes .ensures) field) (e .put-bytes2 .ensures) in
+    let whole = ended ((32 ∷ 85 ∷ 80 ∷ 32 ∷ 66 ∷ 78 ∷ 68 ∷ 32 ∷ 32 ∷ 32 ∷ 32 ∷ 32 ∷ 32 ∷ 32 ∷ []) ++ padded 10 (variableName v)) (sym (upper-fields v (omega arith))) in
+    let q = sent-as whole (sent-put p (search needs)) in
+    (q, omega (arith, q .ends, upper-length v (s .pre .1)))
 
 pub put-upper-line-spec : {M : Type 1} → statement M
 put-upper-line-spec =
     tie.close
     (tie.spec
+    add-past
+    returns
     slice-aggregate-put-bytes
-    slice-aggregate-put-bytes-2
     put-bytes-requires
-    put-lettered-requires
-    array-write-line
-    slice-aggregate-put-ended
-    put-ended-requires
+    lettered-word-requires
+    put-field-requires
+    slice-aggregate-put-bytes-2
+    put-bytes-requires-2
     same-length
-    returns)
+    returns-2)

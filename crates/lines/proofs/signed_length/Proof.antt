@@ -17,7 +17,7 @@ sized : (c : tie.After-size) → c .size .result ≡ natAbs (c .before .args .c)
 sized c = c .size .ensures ∙ ap natAbs (toZ-ofZ (c .before .fits .c))
 
 counted : (c : tie.After-digits-in) → c .digits-in .result ≡ length (decimal (natAbs (c .before .before .args .c)))
-counted c = c .digits-in .ensures ∙ ap (λ (n : ℕ). length (decimal n)) (sized (c .before))
+counted c = c .digits-in .ensures .0 ∙ ap (λ (n : ℕ). length (decimal n)) (sized (c .before))
 
 short : (c : tie.After-digits-in) → c .digits-in .result ≤ 3
 short c =

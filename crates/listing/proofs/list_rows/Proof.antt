@@ -1,8 +1,12 @@
 -- `listing::list_rows` meets its contract. By the row writer's answer. Assumes nothing.
-use mathlib.Core.Path.{sym}
-use Prim.Native.Nat.{_*_}
+use mathlib.Core.Path.{sym, ap, subst⁻¹, _∙_}
+use mathlib.Core.List.{List, _++_}
+use Prim.Native.Nat.{_+_, _*_}
 use native.Mathlib.Omega.{arith}
-use lib.Seq.{length-take-le}
+use lib.ListN.{length}
+use lib.Seq.{length-take-le, take-all}
+use Rattle.rules.specs.Rows.{Row, rowsIn}
+use Rattle.rowtext.specs.RowText.{Whole, headText, rowsText}
 use Rattle.listing.specs.Outcomes.{rows-ready, printed-rows, printed-refused}
 use borrow.Author.Needs.{needs}
 use Rattle.listing.proofs.list_rows.Statement.{statement}
@@ -20,15 +24,6 @@ put-refusal-requires c κs = search needs
 enum-known-count : tie.Need-enum-known-count
 enum-known-count c = search needs
 
-mul-end : tie.Need-mul-end
-mul-end c =
-    let s = c .before .before .before .before .before .before .before .before .before in
-    let w = c .before .before .before .before .before .write-rows in
-    let n = c .before .count .given in
-    let l = w .last .1 .1 .1 .0 in
-    let k = rows-ready (s .args .t) (s .args .m) (s .args .table .now) (s .args .rows .now) l (w .result) (n .0 .0) (s .pre .1) (w .ensures .0) (w .ensures .1) (n .1) in
-    omega (arith, k .written .room)
-
 slice-reshare-prefix-put-listing : tie.Need-slice-reshare-prefix-put-listing
 slice-reshare-prefix-put-listing c =
     let s = c .before .before .before .before .before .before .before .before .before in
@@ -36,7 +31,7 @@ slice-reshare-prefix-put-listing c =
     let n = c .before .count .given in
     let l = w .last .1 .1 .1 .0 in
     let k = rows-ready (s .args .t) (s .args .m) (s .args .table .now) (s .args .rows .now) l (w .result) (n .0 .0) (s .pre .1) (w .ensures .0) (w .ensures .1) (n .1) in
-    k .rows .holds
+    omega (arith, k .size-is)
 
 slice-aggregate-put-listing : tie.Need-slice-aggregate-put-listing
 slice-aggregate-put-listing c =
@@ -45,7 +40,7 @@ slice-aggregate-put-listing c =
     let n = c .before .before .count .given in
     let l = w .last .1 .1 .1 .0 in
     let k = rows-ready (s .args .t) (s .args .m) (s .args .table .now) (s .args .rows .now) l (w .result) (n .0 .0) (s .pre .1) (w .ensures .0) (w .ensures .1) (n .1) in
-    sym (length-take-le (14 * n .0 .0) l (k .rows .holds))
+    sym (length-take-le 65536 l (omega (arith, k .size-is)))
 
 put-listing-requires : tie.Need-put-listing-requires
 put-listing-requires c κs =
@@ -54,10 +49,8 @@ put-listing-requires c κs =
     let n = c .before .before .before .count .given in
     let l = w .last .1 .1 .1 .0 in
     let k = rows-ready (s .args .t) (s .args .m) (s .args .table .now) (s .args .rows .now) l (w .result) (n .0 .0) (s .pre .1) (w .ensures .0) (w .ensures .1) (n .1) in
-    let f = length-take-le (14 * n .0 .0) l (k .rows .holds) in (
-      (s .pre .0, k .written .slots, k .written .atoms, k .written .room, omega (arith, f)),
-      rw (k .rows .front) (k .written .few-terms),
-    )
+    let f = take-all 65536 l (omega (arith, k .size-is)) in
+    ((s .pre .0, k .written .slots, k .written .atoms, omega (arith, ap length f, k .size-is)), subst⁻¹ (Whole (n .0 .0)) f (k .whole))
 
 same-length : tie.Need-same-length
 same-length c = search needs
@@ -82,10 +75,10 @@ returns-2 c =
     let n = c .before .before .before .before .count .given in
     let l = w .last .1 .1 .1 .0 in
     let k = rows-ready (s .args .t) (s .args .m) (s .args .table .now) (s .args .rows .now) l (w .result) (n .0 .0) (s .pre .1) (w .ensures .0) (w .ensures .1) (n .1) in
-    let p = c .put-listing .ensures in (
-      rw (printed-rows (s .args .t) (s .args .m) (s .args .n) (n .0 .0) (k .rows .bytes) _ (k .rows .is)) (rw (k .rows .front) at (p .0)),
-      p .1,
-    )
+    let f = take-all 65536 l (omega (arith, k .size-is)) in
+    let p = c .put-listing .ensures in
+    let text = ap (λ (rs : List Row). headText (n .0 .0) ((s .args .m + s .args .n) * s .args .t) ++ rowsText 0 rs) (ap (rowsIn (n .0 .0)) f ∙ k .said) in
+    (rw (printed-rows (s .args .t) (s .args .m) (s .args .n) (n .0 .0) (k .bytes) _ (k .is)) (rw text at (p .0)), p .1)
 
 pub list-rows-spec : {M : Type 1} → statement M
 list-rows-spec =
@@ -95,7 +88,6 @@ list-rows-spec =
     enum-known-refusal
     put-refusal-requires
     enum-known-count
-    mul-end
     slice-reshare-prefix-put-listing
     slice-aggregate-put-listing
     put-listing-requires

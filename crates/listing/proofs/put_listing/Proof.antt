@@ -1,7 +1,7 @@
 -- `listing::put_listing` meets its contract: the rows straight after the head. Assumes nothing.
 use native.Mathlib.Omega.{arith}
 use Rattle.text.specs.Put.{also}
-use Rattle.listing.specs.Outcomes.{variables-few}
+use Rattle.listing.specs.Outcomes.{whole-few, variables-few}
 use borrow.Author.Needs.{needs}
 use Rattle.listing.proofs.put_listing.Statement.{statement}
 use Rattle.listing.proofs.put_listing.Tie as tie
@@ -17,10 +17,10 @@ mul-put-head c =
 put-head-requires : tie.Need-put-head-requires
 put-head-requires c κs =
     let s = c .before .before in
-    (omega arith, variables-few (s .args .t) (s .args .m) (s .args .n) (s .pre .0 .1) (s .pre .0 .2) (s .pre .0 .0))
+    (let h = whole-few (s .args .count) (s .args .rows .now) (s .pre .1) in omega arith, variables-few (s .args .t) (s .args .m) (s .args .n) (s .pre .0 .1) (s .pre .0 .2) (s .pre .0 .0))
 
 put-rows-requires : tie.Need-put-rows-requires
-put-rows-requires c κs = search needs
+put-rows-requires c κs = let s = c .before .before .before .before in let h = c .before .put-head .ensures .1 in ((omega arith, s .pre .0 .3), s .pre .1)
 
 returns : tie.Need-returns
 returns c =

@@ -13,7 +13,7 @@ use Rattle.nodelines.proofs.put_all.Tie as tie
 
 abbrev Inv-loop : tie.InvT-loop
 Inv-loop out₀ at text table n t m next₀ first₀ i₀ out next first i =
-    (i ≤ n) × (next ≤ at + 10240 * i) × (first ≤ 256 * i) × Listed (lineOf text) 0 (rowsTo t m (nodesIn table) i) first at out₀ out next
+    (i ≤ n) × (next ≤ at + 166400 * i) × (first ≤ 4160 * i) × Listed (lineOf text) 0 (rowsTo t m (nodesIn table) i) first at out₀ out next
 
 abbrev μ-loop : tie.MeasureT-loop
 μ-loop out₀ at text table n t m next₀ first₀ i₀ out next first i = n - i
@@ -26,8 +26,7 @@ loop-holds c =
 place-node-requires : tie.Need-place-node-requires Inv-loop μ-loop
 place-node-requires c κs =
     let s = c .before .before .before .before in
-    let r = s .pre .2 in
-    omega (arith, r .few-nodes, r .slots-high, r .atoms-high, s .pre .3)
+    (s .pre .2, omega (arith, s .pre .3))
 
 cast-put-node : tie.Need-cast-put-node Inv-loop μ-loop
 cast-put-node c =
@@ -40,18 +39,29 @@ put-node-requires c κs =
     let k = c .before in
     let s = k .before .before .before .before .before in
     let p = k .place-node .ensures in
-    let r = s .pre .2 in
-    (omega (arith, r .few-nodes, s .pre .3), s .pre .1, omega (arith, r .few-nodes, s .pre .3), r .slots-high, p .big-low, p .p-low, p .q-low)
+    let r = s .pre .2 in (
+      (omega (arith, r .few-nodes, s .pre .3), s .pre .1, omega (arith, r .few-nodes, s .pre .3), r .slots-low, r .slots-high),
+      (p .big-low, p .p-low, p .q-low, p .is-allowed, p .is-apart),
+    )
+
+cast-node-count : tie.Need-cast-node-count Inv-loop μ-loop
+cast-node-count c =
+    let s = c .before .before .before .before .before .before .before .before .before in
+    let h = s .pre .2 .slots-high in
+    search needs
 
 node-count-requires : tie.Need-node-count-requires Inv-loop μ-loop
 node-count-requires c κs =
-    let s = c .before .before .before .before .before .before .before .before .before in
-    (s .pre .2 .slots-low, s .pre .2 .slots-high)
+    let k = c .before .before .before .before in
+    let s = k .before .before .before .before .before in
+    (s .pre .2 .slots-low, s .pre .2 .slots-high, k .place-node .ensures .is-allowed)
 
 add-first : tie.Need-add-first Inv-loop μ-loop
 add-first c =
     let s = c .before .before .before .before .before .before .before .before .before .before in
     let h = s .pre .2 .few-nodes in
+    let k = c .node-count .ensures .1 in
+    let t = s .pre .2 .slots-high in
     search needs
 
 add-i : tie.Need-add-i Inv-loop μ-loop
@@ -73,7 +83,7 @@ loop-again c =
     let p = w .put-node .ensures in (
       omega arith,
       omega (arith, p .1),
-      omega (arith, c .node-count .ensures .1),
+      omega (arith, c .node-count .ensures .1, s .pre .2 .slots-high),
       one-node (a .t) (a .m) (nodesIn (a .table .now)) (lineOf (a .text)) (a .at) (a .out .now) (s .pre .2 .slots-low) (k .place-node .ensures) (l .loop .inv .3) (p .0) (ap (λ (x : ℕ). l .loop .first + x) (c .node-count .ensures .0)),
     )
 
@@ -127,6 +137,7 @@ put-all-spec =
     place-node-requires
     cast-put-node
     put-node-requires
+    cast-node-count
     node-count-requires
     add-first
     add-i

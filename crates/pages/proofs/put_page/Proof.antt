@@ -2,7 +2,6 @@
 use mathlib.Core.Path.{_≡_, sym, ap, ap₂, _∙_}
 use mathlib.Core.List.{List, _++_}
 use Prim.Native.Nat.{ℕ, _+_, _*_}
-use native.Mathlib.Omega.{arith}
 use borrow.Author.Needs.{needs}
 use lib.ListN.{length}
 use Rattle.rules.specs.Rows.{rowsOf}
@@ -60,7 +59,7 @@ returns c =
     (ap₂ (λ (y z : List ℕ). rowSection rs ++ (y ++ (rightSection rs ++ z)))
     (ap (λ (i : ℕ). columnSection i rs) count) (ap₂ boundSection (a .place .ensures .0) (v .place2 .ensures .0 ∙ count)))
     (sent-also (o .put-rows .ensures .0) (sent-also (k .put-columns .ensures .0) (sent-also (r .put-rights .ensures .0) (b .put-bounds .ensures .0)))) in
-    (whole, omega (arith, o .put-rows .ensures .1, k .put-columns .ensures .1, r .put-rights .ensures .1, b .put-bounds .ensures .1))
+    whole
 
 pub put-page-spec : {M : Type 1} → statement M
 put-page-spec =

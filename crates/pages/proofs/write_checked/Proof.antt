@@ -6,8 +6,9 @@ use borrow.Author.Needs.{needs}
 use lib.ListN.{length}
 use Rattle.lists.specs.Splice.{over, sets-splice, splice-zero}
 use Rattle.rules.specs.Demands.Answer.{answered}
-use Rattle.rules.specs.TableTest.{nodesIn}
+use Rattle.rules.specs.TableTest.{nodesIn, length-nodesIn}
 use Rattle.mps.specs.Page.{page}
+use Rattle.mps.specs.PageLength.{page-short}
 use Rattle.pages.specs.Answers.{too-short, long-enough}
 use Rattle.pages.proofs.write_checked.Statement.{statement}
 use Rattle.pages.proofs.write_checked.Tie as tie
@@ -22,7 +23,7 @@ returns : tie.Need-returns
 returns c =
     let k = c .before in
     let a = k .before .before .before .before .args in
-    let h = too-short (a .t) (a .m) (a .table .now) (length (a .out .now)) (omega (arith, k .page-length .ensures .0)) in
+    let h = too-short (a .t) (a .m) (a .table .now) (length (a .out .now)) (omega (arith, k .page-length .ensures)) in
     (rw h refl, (rw h refl, tt))
 
 put-page-requires : tie.Need-put-page-requires
@@ -37,13 +38,16 @@ returns-2 c =
     let w = c .before .before in
     let i = w .before .before in
     let k = i .before in
-    let a = k .before .before .before .before .args in
-    let e = k .page-length .ensures .0 in
+    let s = k .before .before .before .before in
+    let a = s .args in
+    let e = k .page-length .ensures in
     let test = i .if1 in
+    let r = s .pre in
+    let short = page-short (a .t) (a .m) (nodesIn (a .table .now)) (r .slots-high) (r .atoms-high) (omega (arith, r .few-nodes, length-nodesIn (a .m) (a .table .now))) in
     let room : length (page (a .t) (a .m) (nodesIn (a .table .now))) ≤ length (a .out .now) = omega arith in
     let from : 0 + length (page (a .t) (a .m) (nodesIn (a .table .now))) ≤ length (a .out .now) = omega arith in
     let h = long-enough (a .t) (a .m) (a .table .now) (length (a .out .now)) room in
-    (rw h (ap answered e), (rw h (w .put-page .ensures .0 .content from ∙ sets-splice 0 (page (a .t) (a .m) (nodesIn (a .table .now))) (a .out .now) from ∙ splice-zero _ _), k .page-length .ensures .1))
+    (rw h (ap answered e), (rw h (w .put-page .ensures .content from ∙ sets-splice 0 (page (a .t) (a .m) (nodesIn (a .table .now))) (a .out .now) from ∙ splice-zero _ _), omega (arith, short)))
 
 pub write-checked-spec : {M : Type 1} → statement M
 write-checked-spec =

@@ -2,7 +2,7 @@
 use mathlib.Core.Path.{refl}
 use native.Mathlib.Omega.{arith}
 use borrow.Author.Needs.{needs}
-use Rattle.reader.proofs.Outcomes.{few-atoms, many-atoms, too-long, no-rule, more-text, atom-too-high, many-nodes, small-buffer, part-length, part-fits, all-read}
+use Rattle.reader.proofs.Outcomes.{few-atoms, many-atoms, too-long, no-rule, more-text, atom-too-high, window-refused, many-nodes, small-buffer, part-length, part-fits, all-read}
 use Rattle.reader.proofs.read.Statement.{statement}
 use Rattle.reader.proofs.read.Tie as tie
 
@@ -32,65 +32,65 @@ enum-known-next c = search needs
 
 returns-4 : tie.Need-returns-4
 returns-4 c =
-    let p = c .before .before in
-    let a = p .before .before .before .before .before .before .before .before .before .args in
-    let x = p .before .before .whole in
-    let y = p .next .given in
-    more-text (a .m) (a .text .now) (a .out .now) (p .before .before .before .before .before .before .if1 .left) (p .before .before .before .before .before .if2 .left) (p .before .before .before .before .if3 .left) _ (x .last .1 .0) (x .result) (x .ensures) (y .0 .0) (y .0 .1 .0) (y .0 .1 .1 .0) (y .1) (c .if4 .taken)
+    let a = c .before .before .before .before .before .before .before .before .before .before .before .args in
+    let x = c .before .before .before .before .whole in
+    let y = c .before .before .next .given in
+    more-text (a .m) (a .text .now) (a .out .now) (c .before .before .before .before .before .before .before .before .if1 .left) (c .before .before .before .before .before .before .before .if2 .left) (c .before .before .before .before .before .before .if3 .left) _ (x .last .1 .0) (x .result) (x .ensures) (y .0 .0) (y .0 .1 .0) (y .0 .1 .1 .0) (y .0 .1 .1 .1 .0) (y .1) (c .if4 .taken)
 
 returns-5 : tie.Need-returns-5
 returns-5 c =
-    let p = c .before .before .before in
-    let a = p .before .before .before .before .before .before .before .before .before .args in
-    let x = p .before .before .whole in
-    let y = p .next .given in
-    atom-too-high (a .m) (a .text .now) (a .out .now) (p .before .before .before .before .before .before .if1 .left) (p .before .before .before .before .before .if2 .left) (p .before .before .before .before .if3 .left) _ (x .last .1 .0) (x .result) (x .ensures) (y .0 .0) (y .0 .1 .0) (y .0 .1 .1 .0) (y .1) (c .before .if4 .left) (c .if5 .taken)
+    let a = c .before .before .before .before .before .before .before .before .before .before .before .before .args in
+    let x = c .before .before .before .before .before .whole in
+    let y = c .before .before .before .next .given in
+    atom-too-high (a .m) (a .text .now) (a .out .now) (c .before .before .before .before .before .before .before .before .before .if1 .left) (c .before .before .before .before .before .before .before .before .if2 .left) (c .before .before .before .before .before .before .before .if3 .left) _ (x .last .1 .0) (x .result) (x .ensures) (y .0 .0) (y .0 .1 .0) (y .0 .1 .1 .0) (y .0 .1 .1 .1 .0) (y .1) (c .before .if4 .left) (c .if5 .taken)
 
 returns-6 : tie.Need-returns-6
 returns-6 c =
-    let p = c .before .before .before .before in
-    let a = p .before .before .before .before .before .before .before .before .before .args in
-    let x = p .before .before .whole in
-    let y = p .next .given in
-    many-nodes (a .m) (a .text .now) (a .out .now) (p .before .before .before .before .before .before .if1 .left) (p .before .before .before .before .before .if2 .left) (p .before .before .before .before .if3 .left) _ (x .last .1 .0) (x .result) (x .ensures) (y .0 .0) (y .0 .1 .0) (y .0 .1 .1 .0) (y .1) (c .before .before .if4 .left) (c .before .if5 .left) (c .if6 .taken)
+    let a = c .before .before .before .before .before .before .before .before .before .before .before .before .before .args in
+    let x = c .before .before .before .before .before .before .whole in
+    let y = c .before .before .before .before .next .given in
+    window-refused (a .m) (a .text .now) (a .out .now) (c .before .before .before .before .before .before .before .before .before .before .if1 .left) (c .before .before .before .before .before .before .before .before .before .if2 .left) (c .before .before .before .before .before .before .before .before .if3 .left) _ (x .last .1 .0) (x .result) (x .ensures) (y .0 .0) (y .0 .1 .0) (y .0 .1 .1 .0) (y .0 .1 .1 .1 .0) (y .1) (c .before .before .if4 .left) (c .before .if5 .left) (c .if6 .taken)
+
+returns-7 : tie.Need-returns-7
+returns-7 c =
+    let a = c .before .before .before .before .before .before .before .before .before .before .before .before .before .before .args in
+    let x = c .before .before .before .before .before .before .before .whole in
+    let y = c .before .before .before .before .before .next .given in
+    many-nodes (a .m) (a .text .now) (a .out .now) (c .before .before .before .before .before .before .before .before .before .before .before .if1 .left) (c .before .before .before .before .before .before .before .before .before .before .if2 .left) (c .before .before .before .before .before .before .before .before .before .if3 .left) _ (x .last .1 .0) (x .result) (x .ensures) (y .0 .0) (y .0 .1 .0) (y .0 .1 .1 .0) (y .0 .1 .1 .1 .0) (y .1) (c .before .before .before .if4 .left) (c .before .before .if5 .left) (c .before .if6 .left) (c .if7 .taken)
 
 mul-k : tie.Need-mul-k
 mul-k c = search needs
 
-returns-7 : tie.Need-returns-7
-returns-7 c =
-    let p = c .before .before .before .before .before in
-    let a = p .before .before .before .before .before .before .before .before .before .args in
-    let x = p .before .before .whole in
-    let y = p .next .given in
-    small-buffer (a .m) (a .text .now) (a .out .now) (p .before .before .before .before .before .before .if1 .left) (p .before .before .before .before .before .if2 .left) (p .before .before .before .before .if3 .left) _ (x .last .1 .0) (x .result) (x .ensures) (y .0 .0) (y .0 .1 .0) (y .0 .1 .1 .0) (y .1) (c .before .before .before .if4 .left) (c .before .before .if5 .left) (c .before .if6 .left) (c .if7 .taken)
+returns-8 : tie.Need-returns-8
+returns-8 c =
+    let a = c .before .before .before .before .before .before .before .before .before .before .before .before .before .before .before .args in
+    let x = c .before .before .before .before .before .before .before .before .whole in
+    let y = c .before .before .before .before .before .before .next .given in
+    small-buffer (a .m) (a .text .now) (a .out .now) (c .before .before .before .before .before .before .before .before .before .before .before .before .if1 .left) (c .before .before .before .before .before .before .before .before .before .before .before .if2 .left) (c .before .before .before .before .before .before .before .before .before .before .if3 .left) _ (x .last .1 .0) (x .result) (x .ensures) (y .0 .0) (y .0 .1 .0) (y .0 .1 .1 .0) (y .0 .1 .1 .1 .0) (y .1) (c .before .before .before .before .if4 .left) (c .before .before .before .if5 .left) (c .before .before .if6 .left) (c .before .if7 .left) (c .if8 .taken)
 
 array-share-prefix-scratch : tie.Need-array-share-prefix-scratch
 array-share-prefix-scratch c =
-    let p = c .before .before .before .before .before in
-    let a = p .before .before .before .before .before .before .before .before .before .args in
-    let x = p .before .before .whole in
-    let y = p .next .given in
-    part-fits (a .m) (a .text .now) (a .out .now) (p .before .before .before .before .before .before .if1 .left) (p .before .before .before .before .before .if2 .left) (p .before .before .before .before .if3 .left) _ (x .last .1 .0) (x .result) (x .ensures) (y .0 .0) (y .0 .1 .0) (y .0 .1 .1 .0) (y .1) (c .before .before .before .if4 .left) (c .before .before .if5 .left) (c .before .if6 .left) (c .if7 .left) refl
+    let a = c .before .before .before .before .before .before .before .before .before .before .before .before .before .before .before .args in
+    let x = c .before .before .before .before .before .before .before .before .whole in
+    let y = c .before .before .before .before .before .before .next .given in
+    part-fits (a .m) (a .text .now) (a .out .now) (c .before .before .before .before .before .before .before .before .before .before .before .before .if1 .left) (c .before .before .before .before .before .before .before .before .before .before .before .if2 .left) (c .before .before .before .before .before .before .before .before .before .before .if3 .left) _ (x .last .1 .0) (x .result) (x .ensures) (y .0 .0) (y .0 .1 .0) (y .0 .1 .1 .0) (y .0 .1 .1 .1 .0) (y .1) (c .before .before .before .before .if4 .left) (c .before .before .before .if5 .left) (c .before .before .if6 .left) (c .before .if7 .left) (c .if8 .left) refl
 
 slice-aggregate-copy : tie.Need-slice-aggregate-copy
 slice-aggregate-copy c =
-    let p = c .before .before .before .before .before .before in
-    let a = p .before .before .before .before .before .before .before .before .before .args in
-    let x = p .before .before .whole in
-    let y = p .next .given in
-    part-length (a .m) (a .text .now) (a .out .now) (p .before .before .before .before .before .before .if1 .left) (p .before .before .before .before .before .if2 .left) (p .before .before .before .before .if3 .left) _ (x .last .1 .0) (x .result) (x .ensures) (y .0 .0) (y .0 .1 .0) (y .0 .1 .1 .0) (y .1) (c .before .before .before .before .if4 .left) (c .before .before .before .if5 .left) (c .before .before .if6 .left) (c .before .if7 .left) refl
+    let a = c .before .before .before .before .before .before .before .before .before .before .before .before .before .before .before .before .args in
+    let x = c .before .before .before .before .before .before .before .before .before .whole in
+    let y = c .before .before .before .before .before .before .before .next .given in
+    part-length (a .m) (a .text .now) (a .out .now) (c .before .before .before .before .before .before .before .before .before .before .before .before .before .if1 .left) (c .before .before .before .before .before .before .before .before .before .before .before .before .if2 .left) (c .before .before .before .before .before .before .before .before .before .before .before .if3 .left) _ (x .last .1 .0) (x .result) (x .ensures) (y .0 .0) (y .0 .1 .0) (y .0 .1 .1 .0) (y .0 .1 .1 .1 .0) (y .1) (c .before .before .before .before .before .if4 .left) (c .before .before .before .before .if5 .left) (c .before .before .before .if6 .left) (c .before .before .if7 .left) (c .before .if8 .left) refl
 
 copy-requires : tie.Need-copy-requires
 copy-requires c κs =
-    let p = c .before .before .before .before .before .before .before in
-    let a = p .before .before .before .before .before .before .before .before .before .args in
-    let x = p .before .before .whole in
-    let y = p .next .given in
-    omega (arith, part-length (a .m) (a .text .now) (a .out .now) (p .before .before .before .before .before .before .if1 .left) (p .before .before .before .before .before .if2 .left) (p .before .before .before .before .if3 .left) _ (x .last .1 .0) (x .result) (x .ensures) (y .0 .0) (y .0 .1 .0) (y .0 .1 .1 .0) (y .1) (c .before .before .before .before .before .if4 .left) (c .before .before .before .before .if5 .left) (c .before .before .before .if6 .left) (c .before .before .if7 .left) refl)
+    let a = c .before .before .before .before .before .before .before .before .before .before .before .before .before .before .before .before .before .args in
+    let x = c .before .before .before .before .before .before .before .before .before .before .whole in
+    let y = c .before .before .before .before .before .before .before .before .next .given in
+    omega (arith, part-length (a .m) (a .text .now) (a .out .now) (c .before .before .before .before .before .before .before .before .before .before .before .before .before .before .if1 .left) (c .before .before .before .before .before .before .before .before .before .before .before .before .before .if2 .left) (c .before .before .before .before .before .before .before .before .before .before .before .before .if3 .left) _ (x .last .1 .0) (x .result) (x .ensures) (y .0 .0) (y .0 .1 .0) (y .0 .1 .1 .0) (y .0 .1 .1 .1 .0) (y .1) (c .before .before .before .before .before .before .if4 .left) (c .before .before .before .before .before .if5 .left) (c .before .before .before .before .if6 .left) (c .before .before .before .if7 .left) (c .before .before .if8 .left) refl)
 
-returns-8 : tie.Need-returns-8
-returns-8 c =
+returns-9 : tie.Need-returns-9
+returns-9 c =
     let a = c .before .before .before .before .before .before .before .before .before .args in
     let x = c .before .before .whole in
     no-rule (a .m) (a .text .now) (a .out .now) (c .before .before .before .before .before .before .if1 .left) (c .before .before .before .before .before .if2 .left) (c .before .before .before .before .if3 .left) _ (x .last .1 .0) (x .result) (x .ensures) (c .enum-told .given .1)
@@ -98,13 +98,12 @@ returns-8 c =
 same-length : tie.Need-same-length
 same-length c = search needs
 
-returns-9 : tie.Need-returns-9
-returns-9 c =
-    let p = c .before .before .before .before .before .before .before .before .before .before in
-    let a = p .before .before .before .before .before .before .before .before .before .args in
-    let x = p .before .before .whole in
-    let y = p .next .given in
-    all-read (a .m) (a .text .now) (a .out .now) (p .before .before .before .before .before .before .if1 .left) (p .before .before .before .before .before .if2 .left) (p .before .before .before .before .if3 .left) _ (x .last .1 .0) (x .result) (x .ensures) (y .0 .0) (y .0 .1 .0) (y .0 .1 .1 .0) (y .1) (c .before .before .before .before .before .before .before .before .if4 .left) (c .before .before .before .before .before .before .before .if5 .left) (c .before .before .before .before .before .before .if6 .left) (c .before .before .before .before .before .if7 .left) refl (c .before .before .copy .last .1 .0) (c .before .before .copy .ensures .1)
+returns-10 : tie.Need-returns-10
+returns-10 c =
+    let a = c .before .before .before .before .before .before .before .before .before .before .before .before .before .before .before .before .before .before .before .before .args in
+    let x = c .before .before .before .before .before .before .before .before .before .before .before .before .before .whole in
+    let y = c .before .before .before .before .before .before .before .before .before .before .before .next .given in
+    all-read (a .m) (a .text .now) (a .out .now) (c .before .before .before .before .before .before .before .before .before .before .before .before .before .before .before .before .before .if1 .left) (c .before .before .before .before .before .before .before .before .before .before .before .before .before .before .before .before .if2 .left) (c .before .before .before .before .before .before .before .before .before .before .before .before .before .before .before .if3 .left) _ (x .last .1 .0) (x .result) (x .ensures) (y .0 .0) (y .0 .1 .0) (y .0 .1 .1 .0) (y .0 .1 .1 .1 .0) (y .1) (c .before .before .before .before .before .before .before .before .before .if4 .left) (c .before .before .before .before .before .before .before .before .if5 .left) (c .before .before .before .before .before .before .before .if6 .left) (c .before .before .before .before .before .before .if7 .left) (c .before .before .before .before .before .if8 .left) refl (c .before .before .copy .last .1 .0) (c .before .before .copy .ensures .1)
 
 pub read-spec : {M : Type 1} → statement M
 read-spec =
@@ -119,11 +118,12 @@ read-spec =
     returns-4
     returns-5
     returns-6
-    mul-k
     returns-7
+    mul-k
+    returns-8
     array-share-prefix-scratch
     slice-aggregate-copy
     copy-requires
-    returns-8
+    returns-9
     same-length
-    returns-9)
+    returns-10)

@@ -1,6 +1,6 @@
 -- `record::first_word` meets its contract. One byte after the other, from the last to the first. Assumes nothing.
 use native.Mathlib.Omega.{arith}
-use Rattle.record.specs.Words.{next-bytes, two-bytes}
+use Rattle.endian.specs.Words.{next-bytes, two-bytes}
 use borrow.Author.Needs.{needs}
 use Rattle.record.proofs.first_word.Statement.{statement}
 use Rattle.record.proofs.first_word.Tie as tie

@@ -50,6 +50,18 @@ enum-told-8 c = search needs
 add-result-7 : tie.Need-add-result-7
 add-result-7 c = search needs
 
+enum-told-9 : tie.Need-enum-told-9
+enum-told-9 c = search needs
+
+add-result-8 : tie.Need-add-result-8
+add-result-8 c = search needs
+
+enum-told-10 : tie.Need-enum-told-10
+enum-told-10 c = search needs
+
+add-result-9 : tie.Need-add-result-9
+add-result-9 c = search needs
+
 returns : tie.Need-returns
 returns c = search needs
 
@@ -74,6 +86,12 @@ returns-7 c = (rw (c .enum-told7 .given .1) refl, omega arith)
 returns-8 : tie.Need-returns-8
 returns-8 c = (rw (c .enum-told8 .given .1) refl, omega arith)
 
+returns-9 : tie.Need-returns-9
+returns-9 c = (rw (c .enum-told9 .given .1) refl, omega arith)
+
+returns-10 : tie.Need-returns-10
+returns-10 c = (rw (c .enum-told10 .given .1) refl, omega arith)
+
 pub left-part-spec : {M : Type 1} → statement M
 left-part-spec =
     tie.close
@@ -93,6 +111,10 @@ left-part-spec =
     add-result-6
     enum-told-8
     add-result-7
+    enum-told-9
+    add-result-8
+    enum-told-10
+    add-result-9
     returns
     returns-2
     returns-3
@@ -100,4 +122,6 @@ left-part-spec =
     returns-5
     returns-6
     returns-7
-    returns-8)
+    returns-8
+    returns-9
+    returns-10)

@@ -27,13 +27,13 @@ array-share-prefix-page : tie.Need-array-share-prefix-page
 array-share-prefix-page c =
     let p = c .print in
     let s = c .before .before .before .before .read-all in
-    omega (arith, p .ensures .0, page-length (shown (state (s .result) (s .last .0))) (replicate 160000 0) (p .last .1 .1 .0) (length-replicate {A = ℕ} 160000 0) (p .ensures .1))
+    omega (arith, p .ensures .0, page-length (shown (state (s .result) (s .last .0))) (replicate 184000 0) (p .last .1 .1 .0) (length-replicate {A = ℕ} 184000 0) (p .ensures .1))
 
 slice-aggregate-write-all : tie.Need-slice-aggregate-write-all
 slice-aggregate-write-all c =
     let p = c .before .print in
     let s = c .before .before .before .before .before .read-all in
-    sym (length-take-le (p .result) (p .last .1 .1 .0) (omega (arith, p .ensures .0, page-length (shown (state (s .result) (s .last .0))) (replicate 160000 0) (p .last .1 .1 .0) (length-replicate {A = ℕ} 160000 0) (p .ensures .1))))
+    sym (length-take-le (p .result) (p .last .1 .1 .0) (omega (arith, p .ensures .0, page-length (shown (state (s .result) (s .last .0))) (replicate 184000 0) (p .last .1 .1 .0) (length-replicate {A = ℕ} 184000 0) (p .ensures .1))))
 
 write-all-requires : tie.Need-write-all-requires
 write-all-requires c κs = search needs

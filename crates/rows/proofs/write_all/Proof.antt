@@ -1,12 +1,12 @@
 -- `rows::write_all` meets its contract. The nodes' rows, and the goal row straight after them. Assumes nothing.
 use mathlib.Core.Path.{_≡_, sym, ap, _∙_}
 use mathlib.Core.List.{List, _++_}
-use Prim.Native.Nat.{ℕ, _+_, _*_}
+use Prim.Native.Nat.{ℕ, _+_}
 use native.Mathlib.Omega.{arith}
 use borrow.Author.Needs.{needs}
 use lib.ListN.{length}
 use Rattle.lists.specs.Filling.{splice-as, splice-then}
-use Rattle.rules.specs.Rows.{rowsOf}
+use Rattle.rules.specs.Rows.{rowsOf, rowsBytes}
 use Rattle.rules.specs.TableTest.{nodesIn, length-nodesIn}
 use Rattle.record.specs.Records.{recordOf, record-is}
 use Rattle.row.specs.NodeRows.{goal-is}
@@ -17,14 +17,14 @@ use Rattle.rows.proofs.write_all.Tie as tie
 nodes-are : (c : tie.Start) → length (nodesIn (c .args .table .now)) ≡ c .args .n
 nodes-are c = length-nodesIn (c .args .m) (c .args .table .now) ∙ sym (c .pre .0 .1)
 
-goal-place : (c : tie.Start) → length (nodesBytes (c .args .t) (c .args .m) (nodesIn (c .args .table .now)) (c .args .n)) + 14 ≡ 14 * length (rowsOf (c .args .t) (c .args .m) (nodesIn (c .args .table .now)))
+goal-place : (c : tie.Start) → length (nodesBytes (c .args .t) (c .args .m) (nodesIn (c .args .table .now)) (c .args .n)) + 8 ≡ length (rowsBytes (rowsOf (c .args .t) (c .args .m) (nodesIn (c .args .table .now))))
 goal-place c = before-goal (c .args .t) (c .args .m) (nodesIn (c .args .table .now)) (c .args .n) (nodes-are c)
 
 write-nodes-requires : tie.Need-write-nodes-requires
 write-nodes-requires c κs =
     let a = c .before .before .before in
     let g = goal-place a in
-    (omega (arith, a .pre .0 .0 .slots-high, a .pre .0 .0 .atoms-high, a .pre .0 .0 .few-nodes, a .pre .0 .1), omega (arith, a .pre .1))
+    ((a .pre .0 .0, omega (arith, a .pre .0 .1)), omega (arith, a .pre .1))
 
 sub-slack : tie.Need-sub-slack
 sub-slack c = search needs
@@ -39,7 +39,8 @@ put-row-requires : tie.Need-put-row-requires
 put-row-requires c κs =
     let a = c .before .before .before .before .before .before .before .before .before in
     let g = goal-place a in
-    omega (arith, a .pre .1)
+    let r = c .goal in
+    omega (arith, a .pre .1, ap length (record-is (r .result) (r .ensures)), c .before .before .before .before .before .write-nodes .ensures .0)
 
 same-length : tie.Need-same-length
 same-length c = search needs

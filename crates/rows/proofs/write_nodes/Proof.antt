@@ -1,11 +1,12 @@
 -- `rows::write_nodes` meets its contract. The loop's invariant: the rows of the nodes passed are written. Assumes nothing.
-use mathlib.Core.Path.{_≡_, ap, _∙_}
-use Prim.Native.Nat.{ℕ, _≤_, _<_, _-_, _*_}
+use mathlib.Core.Path.{ap, _∙_, subst⁻¹}
+use Prim.Native.Nat.{ℕ, _-_, _*_, _≤_, _<_}
 use native.Mathlib.Omega.{arith}
 use borrow.Author.Needs.{needs}
 use Rattle.lists.specs.Filling.{Filled, filled-none, filled-room, filled-more, filled-all}
-use Rattle.rules.specs.TableTest.{nodesIn}
-use Rattle.noderows.specs.Node.{nodeBytes}
+use Rattle.rules.specs.Table.{NodeGood}
+use Rattle.rules.specs.TableTest.{nodesIn, recordCount}
+use Rattle.row.specs.Kinds.{allowed}
 use Rattle.rows.specs.Parts.{nodesBytes, partBytes, part-bytes}
 use Rattle.rows.proofs.write_nodes.Statement.{statement}
 use Rattle.rows.proofs.write_nodes.Tie as tie
@@ -20,64 +21,91 @@ loop-holds : tie.Need-loop-holds Inv-loop μ-loop
 loop-holds c = (omega arith, filled-none _ _ _)
 
 node-at-requires : tie.Need-node-at-requires Inv-loop μ-loop
-node-at-requires c κs = search needs
+node-at-requires c κs = let test = c .loop-test in omega (arith, c .before .before .before .before .pre .0 .1)
 
 add-place : tie.Need-add-place Inv-loop μ-loop
-add-place c = search needs
+add-place c =
+    let x = c .before .before .before .before .before .args in
+    let y = c .before .before .before .before .before .pre .0 .0 in
+    let l = c .before .before in
+    let nd = c .node-at in
+    let test = c .before .loop-test in
+    let h : l .loop .i < x .n = omega arith in
+    omega (arith, y .atoms-high, y .few-nodes, c .before .before .before .before .before .pre .0 .1)
 
 place-requires : tie.Need-place-requires Inv-loop μ-loop
-place-requires c κs = search needs
+place-requires c κs =
+    let x = c .before .before .before .before .before .args in
+    let y = c .before .before .before .before .before .pre .0 .0 in
+    let l = c .before .before in
+    let nd = c .node-at in
+    let test = c .before .loop-test in
+    let h : l .loop .i < x .n = omega arith in
+    omega (arith, y .atoms-high, y .few-nodes, y .slots-high, c .before .before .before .before .before .pre .0 .1)
 
 left-part-requires : tie.Need-left-part-requires Inv-loop μ-loop
-left-part-requires c κs = search needs
+left-part-requires c κs = (c .before .before .before .before .before .before .pre .0 .0 .atoms-high, c .before .node-at .ensures .left-byte)
 
 place-requires-2 : tie.Need-place-requires-2 Inv-loop μ-loop
-place-requires-2 c κs = search needs
+place-requires-2 c κs = (c .left-part .ensures .1, c .before .before .before .before .before .before .before .pre .0 .0 .slots-high)
 
 add-place-2 : tie.Need-add-place-2 Inv-loop μ-loop
-add-place-2 c = search needs
+add-place-2 c = omega (arith, c .before .before .before .before .before .before .before .before .before .pre .0 .0 .atoms-high, c .before .before .before .before .node-at .ensures .right-byte)
 
 place-requires-3 : tie.Need-place-requires-3 Inv-loop μ-loop
-place-requires-3 c κs = search needs
+place-requires-3 c κs = (omega (arith, c .before .before .before .before .before .before .before .before .before .pre .0 .0 .atoms-high, c .before .before .before .before .node-at .ensures .right-byte), c .before .before .before .before .before .before .before .before .before .pre .0 .0 .slots-high)
+
+cast-a : tie.Need-cast-a Inv-loop μ-loop
+cast-a c = omega (arith, c .before .before .before .before .before .before .node-at .ensures .from-byte)
+
+cast-b : tie.Need-cast-b Inv-loop μ-loop
+cast-b c = omega (arith, c .before .before .before .before .before .before .before .node-at .ensures .to-byte)
 
 cast-write-node : tie.Need-cast-write-node Inv-loop μ-loop
-cast-write-node c = search needs
-
--- what is written is the node's part of the bytes
-part : (c : tie.After-write-node-arg Inv-loop μ-loop) →
-    nodeBytes (c .before .before .before .before .before .before .node-at .result .kind) (c .before .before .before .before .before .before .before .before .before .before .before .args .t) (c .before .before .before .before .before .place .result) (c .before .before .before .place2 .result) (c .before .place3 .result)
-    ≡ partBytes (c .before .before .before .before .before .before .before .before .before .before .before .args .t) (c .before .before .before .before .before .before .before .before .before .before .before .args .m) (nodesIn (c .before .before .before .before .before .before .before .before .before .before .before .args .table .now)) (c .before .before .before .before .before .before .before .before .loop .i)
-part c =
-    let two = c .before .before .before in
-    let nd = two .before .before .before in
-    let a = nd .before .before .before .before .before .args in
-    part-bytes (a .t) (a .m) (nodesIn (a .table .now)) (nd .before .before .loop .i) (nd .node-at .result .kind) (nd .node-at .result .left) (nd .node-at .result .right)
-    (nd .node-at .ensures .is) (two .before .before .place .ensures .0) (two .place2 .ensures .0 ∙ ap (λ (x : ℕ). x * a .t) (two .before .left-part .ensures .0)) (c .before .place3 .ensures .0)
+cast-write-node c = omega (arith, c .before .before .before .before .before .before .before .before .before .before .before .before .before .pre .0 .0 .slots-high)
 
 write-node-requires : tie.Need-write-node-requires Inv-loop μ-loop
 unfolding nodesBytes
 write-node-requires c κs =
-    let l = c .before .before .before .before .before .before .before .before in
-    let a = l .before .before .before in
-    (omega arith, rw (part c) (filled-room (l .loop .inv .1) (a .args .n) (omega arith) (omega (arith, a .pre .1))))
+    let x = c .before .before .before .before .before .before .before .before .before .before .before .before .before .args in
+    let y = c .before .before .before .before .before .before .before .before .before .before .before .before .before .pre .0 .0 in
+    let l = c .before .before .before .before .before .before .before .before .before .before in
+    let nd = c .before .before .before .before .before .before .before .before .node-at in
+    let test = c .before .before .before .before .before .before .before .before .before .loop-test in
+    let h : l .loop .i < x .n = omega arith in
+    let k : l .loop .i < recordCount (x .table .now) = omega (arith, c .before .before .before .before .before .before .before .before .before .before .before .before .before .pre .0 .1) in
+    let w = allowed (x .m) (l .loop .i) (nd .result .kind) (nd .result .left) (nd .result .right) (nd .result .from) (nd .result .to) (subst⁻¹ (NodeGood (x .m) (l .loop .i)) (nd .ensures .is) (y .nodes (l .loop .i) k)) in
+    let r = nd .result in
+    let e = part-bytes (x .t) (x .m) (nodesIn (x .table .now)) (l .loop .i) (r .kind) (r .left) (r .right) (r .from) (r .to) (nd .ensures .is) (c .before .before .before .before .before .before .before .place .ensures .0) (c .before .before .before .before .before .place2 .ensures .0 ∙ ap (λ (n : ℕ). n * x .t) (c .before .before .before .before .before .before .left-part .ensures .0)) (c .before .before .before .place3 .ensures .0) in
+    ((y .slots-low, y .slots-high, c .before .before .before .before .before .before .before .place .ensures .1, c .before .before .before .before .before .place2 .ensures .1, c .before .before .before .place3 .ensures .1, w), rw e (filled-room (l .loop .inv .1) (x .n) h (omega (arith, c .before .before .before .before .before .before .before .before .before .before .before .before .before .pre .1))))
 
 add-i : tie.Need-add-i Inv-loop μ-loop
-add-i c = search needs
+add-i c =
+    let x = c .before .before .before .before .before .before .before .before .before .before .before .before .before .before .before .before .args in
+    let y = c .before .before .before .before .before .before .before .before .before .before .before .before .before .before .before .before .pre .0 .0 in
+    let l = c .before .before .before .before .before .before .before .before .before .before .before .before .before in
+    let nd = c .before .before .before .before .before .before .before .before .before .before .before .node-at in
+    let test = c .before .before .before .before .before .before .before .before .before .before .before .before .loop-test in
+    let h : l .loop .i < x .n = omega arith in
+    omega (arith, y .few-nodes, c .before .before .before .before .before .before .before .before .before .before .before .before .before .before .before .before .pre .0 .1)
 
 loop-less : tie.Need-loop-less Inv-loop μ-loop
-loop-less c = search needs
+loop-less c = let test = c .before .before .before .before .before .before .before .before .before .before .before .before .loop-test in omega arith
 
 loop-again : tie.Need-loop-again Inv-loop μ-loop
 unfolding nodesBytes
 loop-again c =
-    let w = c .before .before in
-    let turn = w .before .before .before .before .before .before .before .before in
-    let l = turn .before in
-    let a = l .before .before .before in
-    let h : l .loop .i < a .args .n = let test = turn .loop-test in omega arith in
-    let e = part (w .before) in (
+    let x = c .before .before .before .before .before .before .before .before .before .before .before .before .before .before .before .before .args in
+    let y = c .before .before .before .before .before .before .before .before .before .before .before .before .before .before .before .before .pre .0 .0 in
+    let l = c .before .before .before .before .before .before .before .before .before .before .before .before .before in
+    let nd = c .before .before .before .before .before .before .before .before .before .before .before .node-at in
+    let test = c .before .before .before .before .before .before .before .before .before .before .before .before .loop-test in
+    let h : l .loop .i < x .n = omega arith in
+    let r = nd .result in
+    let e = part-bytes (x .t) (x .m) (nodesIn (x .table .now)) (l .loop .i) (r .kind) (r .left) (r .right) (r .from) (r .to) (nd .ensures .is) (c .before .before .before .before .before .before .before .before .before .before .place .ensures .0) (c .before .before .before .before .before .before .before .before .place2 .ensures .0 ∙ ap (λ (n : ℕ). n * x .t) (c .before .before .before .before .before .before .before .before .before .left-part .ensures .0)) (c .before .before .before .before .before .before .place3 .ensures .0) in
+    let w = c .before .before .write-node .ensures in (
       omega arith,
-      filled-more (l .loop .inv .1) (a .args .n) h (omega (arith, a .pre .1)) _ _ (rw e at (w .write-node .ensures .1)) (rw e at (w .write-node .ensures .0)) (omega arith),
+      filled-more (l .loop .inv .1) (x .n) h (omega (arith, c .before .before .before .before .before .before .before .before .before .before .before .before .before .before .before .before .pre .1)) _ _ (rw e at (w .1)) (rw e at (w .0)) (omega arith),
     )
 
 same-length : tie.Need-same-length Inv-loop μ-loop
@@ -103,6 +131,8 @@ write-nodes-spec =
     place-requires-2
     add-place-2
     place-requires-3
+    cast-a
+    cast-b
     cast-write-node
     write-node-requires
     add-i

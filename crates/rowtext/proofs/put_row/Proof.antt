@@ -1,8 +1,8 @@
 -- `rowtext::put_row` meets its contract.
 use native.Mathlib.Omega.{arith}
 use Rattle.text.specs.Put.{also}
-use Rattle.text.specs.Decimal.{below-10000}
-use Rattle.rowtext.specs.RowText.{rowText}
+use Rattle.text.specs.Decimal.{below-100000}
+use Rattle.rowtext.specs.Records.{row-at}
 use borrow.Author.Needs.{needs}
 use Rattle.rowtext.proofs.put_row.Statement.{statement}
 use Rattle.rowtext.proofs.put_row.Tie as tie
@@ -12,9 +12,8 @@ put-decimal-requires c κs =
     let s = c .before .before in
     omega (
       arith,
-      below-10000 (s .args .i) (s .pre .1),
+      below-100000 (s .args .i) (s .pre .1),
       s .pre .0,
-      s .pre .3,
     )
 
 put-byte-requires : tie.Need-put-byte-requires
@@ -23,10 +22,12 @@ put-byte-requires c κs =
     omega (
       arith,
       c .before .put-decimal .ensures .ends,
-      below-10000 (s .args .i) (s .pre .1),
+      below-100000 (s .args .i) (s .pre .1),
       s .pre .0,
-      s .pre .3,
     )
+
+add-put-relation : tie.Need-add-put-relation
+add-put-relation c = search needs
 
 shared-slice-read-put-relation : tie.Need-shared-slice-read-put-relation
 shared-slice-read-put-relation c = search needs
@@ -38,9 +39,8 @@ put-relation-requires c κs =
       arith,
       c .before .before .before .before .put-decimal .ensures .ends,
       c .before .before .put-byte .ensures .ends,
-      below-10000 (s .args .i) (s .pre .1),
+      below-100000 (s .args .i) (s .pre .1),
       s .pre .0,
-      s .pre .3,
     )
 
 put-byte-requires-2 : tie.Need-put-byte-requires-2
@@ -51,10 +51,12 @@ put-byte-requires-2 c κs =
       c .before .before .before .before .before .before .put-decimal .ensures .ends,
       c .before .before .before .before .put-byte .ensures .ends,
       c .before .put-relation .ensures .1,
-      below-10000 (s .args .i) (s .pre .1),
+      below-100000 (s .args .i) (s .pre .1),
       s .pre .0,
-      s .pre .3,
     )
+
+add-put-signed : tie.Need-add-put-signed
+add-put-signed c = search needs
 
 shared-slice-read-put-signed : tie.Need-shared-slice-read-put-signed
 shared-slice-read-put-signed c = search needs
@@ -68,10 +70,15 @@ put-signed-requires c κs =
       c .before .before .before .before .before .before .before .put-byte .ensures .ends,
       c .before .before .before .before .put-relation .ensures .1,
       c .before .before .put-byte2 .ensures .ends,
-      below-10000 (s .args .i) (s .pre .1),
+      below-100000 (s .args .i) (s .pre .1),
       s .pre .0,
-      s .pre .3,
     )
+
+add-put-terms : tie.Need-add-put-terms
+add-put-terms c = search needs
+
+add-put-terms-2 : tie.Need-add-put-terms-2
+add-put-terms-2 c = search needs
 
 shared-slice-read-put-terms : tie.Need-shared-slice-read-put-terms
 shared-slice-read-put-terms c = search needs
@@ -82,7 +89,7 @@ cast-put-terms c = search needs
 put-terms-requires : tie.Need-put-terms-requires
 put-terms-requires c κs =
     let s = c .before .before .before .before .before .before .before .before .before .before .before .before .before .before .before in (
-      omega (arith, s .pre .2, s .pre .3),
+      omega (arith, s .pre .2),
       omega (
         arith,
         c .before .before .before .before .before .before .before .before .before .before .before .before .put-decimal .ensures .ends,
@@ -90,9 +97,8 @@ put-terms-requires c κs =
         c .before .before .before .before .before .before .before .put-relation .ensures .1,
         c .before .before .before .before .before .put-byte2 .ensures .ends,
         c .before .before .put-signed .ensures .1,
-        below-10000 (s .args .i) (s .pre .1),
+        below-100000 (s .args .i) (s .pre .1),
         s .pre .0,
-        s .pre .3,
       ),
     )
 
@@ -107,13 +113,11 @@ put-byte-requires-3 c κs =
       c .before .before .before .before .before .before .before .put-byte2 .ensures .ends,
       c .before .before .before .before .put-signed .ensures .1,
       c .before .put-terms .ensures .1,
-      below-10000 (s .args .i) (s .pre .1),
+      below-100000 (s .args .i) (s .pre .1),
       s .pre .0,
-      s .pre .3,
     )
 
 returns : tie.Need-returns
-unfolding rowText
 returns c =
     let s = c .before .before .before .before .before .before .before .before .before .before .before .before .before .before .before .before .before .before in
     let a = c .before .before .before .before .before .before .before .before .before .before .before .before .before .before .before .put-decimal .ensures in
@@ -123,8 +127,8 @@ returns c =
     let f = c .before .before .before .before .before .put-signed .ensures in
     let g = c .before .before .put-terms .ensures in
     let h = c .put-byte3 .ensures in (
-      also a (also b (also (d .0) (also e (also (f .0) (also (g .0) h))))),
-      omega (arith, a .ends, b .ends, d .1, e .ends, f .1, g .1, h .ends, below-10000 (s .args .i) (s .pre .1), s .pre .3),
+      rw (row-at (s .args .i) (s .args .p) (s .args .bytes .now)) at (also a (also b (also (d .0) (also e (also (f .0) (also (g .0) h)))))),
+      omega (arith, a .ends, b .ends, d .1, e .ends, f .1, g .1, h .ends, below-100000 (s .args .i) (s .pre .1)),
     )
 
 pub put-row-spec : {M : Type 1} → statement M
@@ -133,11 +137,15 @@ put-row-spec =
     (tie.spec
     put-decimal-requires
     put-byte-requires
+    add-put-relation
     shared-slice-read-put-relation
     put-relation-requires
     put-byte-requires-2
+    add-put-signed
     shared-slice-read-put-signed
     put-signed-requires
+    add-put-terms
+    add-put-terms-2
     shared-slice-read-put-terms
     cast-put-terms
     put-terms-requires

@@ -2,52 +2,70 @@
 use mathlib.Core.Path.{_≡_}
 use Prim.Native.Nat.{_+_, _-_, _*_, _≤_}
 use native.Mathlib.Omega.{arith}
+use lib.ListN.{length}
 use Rattle.rules.specs.Rows.{rowsIn}
 use Rattle.rowtext.specs.RowText.{rowsText}
-use Rattle.rowtext.specs.Records.{Rest, linesFrom, lines-start, lines-turn, lines-end, record-length, record-few}
+use Rattle.rowtext.specs.Records.{Rest, linesFrom, WholeFrom, lines-start, whole-start, whole-next, lines-turn, lines-end}
 use Rattle.rowtext.proofs.put_rows.Statement.{statement}
 use Rattle.rowtext.proofs.put_rows.Tie as tie
 
 abbrev Inv-loop : tie.InvT-loop
-Inv-loop out₀ from count rows at₀ i₀ out at i =
-    (i ≤ count) × (at ≤ from + 34 * i) × Rest at (linesFrom i count rows) out from (rowsText 0 (rowsIn count rows)) out₀
+Inv-loop out₀ from count rows at₀ start₀ i₀ out at start i =
+    (i ≤ count) × (5 * i ≤ start) × (start ≤ length rows) × (5 * at ≤ 5 * from + 14 * start) × WholeFrom i start count rows
+    × Rest at (linesFrom i start count rows) out from (rowsText 0 (rowsIn count rows)) out₀
 
 abbrev μ-loop : tie.MeasureT-loop
-μ-loop out₀ from count rows at₀ i₀ out at i = count - i
+μ-loop out₀ from count rows at₀ start₀ i₀ out at start i = count - i
 
 loop-holds : tie.Need-loop-holds Inv-loop μ-loop
 loop-holds c =
     let a = c .before .args in
-    (omega arith, omega arith, lines-start (a .count) (a .from) (a .rows .now) (a .out .now))
-
-mul-start : tie.Need-mul-start Inv-loop μ-loop
-mul-start c = omega arith
-
-add-end : tie.Need-add-end Inv-loop μ-loop
-add-end c = omega arith
-
-sub-put-row : tie.Need-sub-put-row Inv-loop μ-loop
-sub-put-row c = omega arith
-
-part-put-row-start : tie.Need-part-put-row-start Inv-loop μ-loop
-part-put-row-start c = omega arith
-
-part-put-row-end : tie.Need-part-put-row-end Inv-loop μ-loop
-part-put-row-end c = omega arith
+    (omega arith, omega arith, omega arith, omega arith, whole-start (a .count) (a .rows .now) (c .before .pre .1), lines-start (a .count) (a .from) (a .rows .now) (a .out .now))
 
 put-row-requires : tie.Need-put-row-requires Inv-loop μ-loop
 put-row-requires c κs =
-    let s = c .before .before .before .before .before in
-    let i = c .before .before .before .loop .i in
-    let b = s .args .rows .now in
-    let h = c .before .before .loop-test .taken in
-    let n = 14 * i + 14 - 14 * i in
-    let e : n ≡ 14 = omega arith in (
-      omega arith,
-      omega arith,
-      record-length i (s .args .count) n b h (s .pre .0 .2) e,
-      record-few i n b (s .pre .1 i h) e,
-    )
+    let s = c .before .before .before .before in
+    let l = c .before .before .loop in
+    let w = whole-next (l .i) (l .start) (s .args .count) (s .args .rows .now) (c .before .loop-test .taken) (l .inv .4) in
+    (omega (arith, w .0), omega (arith, w .0), omega (arith, w .0))
+
+add-start : tie.Need-add-start Inv-loop μ-loop
+add-start c = omega arith
+
+shared-slice-read-start : tie.Need-shared-slice-read-start Inv-loop μ-loop
+shared-slice-read-start c =
+    let s = c .before .before .before .before .before .before in
+    let l = c .before .before .before .before .loop in
+    let w = whole-next (l .i) (l .start) (s .args .count) (s .args .rows .now) (c .before .before .before .loop-test .taken) (l .inv .4) in
+    omega (arith, w .0)
+
+cast-start : tie.Need-cast-start Inv-loop μ-loop
+cast-start c =
+    let s = c .before .before .before .before .before .before in
+    let l = c .before .before .before .before .loop in
+    let w = whole-next (l .i) (l .start) (s .args .count) (s .args .rows .now) (c .before .before .before .loop-test .taken) (l .inv .4) in
+    omega (arith, w .0)
+
+mul-start : tie.Need-mul-start Inv-loop μ-loop
+mul-start c =
+    let s = c .before .before .before .before .before .before in
+    let l = c .before .before .before .before .loop in
+    let w = whole-next (l .i) (l .start) (s .args .count) (s .args .rows .now) (c .before .before .before .loop-test .taken) (l .inv .4) in
+    omega (arith, w .0)
+
+add-start-2 : tie.Need-add-start-2 Inv-loop μ-loop
+add-start-2 c =
+    let s = c .before .before .before .before .before .before in
+    let l = c .before .before .before .before .loop in
+    let w = whole-next (l .i) (l .start) (s .args .count) (s .args .rows .now) (c .before .before .before .loop-test .taken) (l .inv .4) in
+    omega (arith, w .0)
+
+add-start-3 : tie.Need-add-start-3 Inv-loop μ-loop
+add-start-3 c =
+    let s = c .before .before .before .before .before .before in
+    let l = c .before .before .before .before .loop in
+    let w = whole-next (l .i) (l .start) (s .args .count) (s .args .rows .now) (c .before .before .before .loop-test .taken) (l .inv .4) in
+    omega (arith, w .0)
 
 add-i : tie.Need-add-i Inv-loop μ-loop
 add-i c = omega arith
@@ -59,19 +77,21 @@ loop-again : tie.Need-loop-again Inv-loop μ-loop
 loop-again c =
     let s = c .before .before .before .before .before .before in
     let l = c .before .before .before .before .loop in
-    let n = 14 * l .i + 14 - 14 * l .i in
-    let e : n ≡ 14 = omega arith in
-    let p = c .put-row .ensures in (
+    let w = whole-next (l .i) (l .start) (s .args .count) (s .args .rows .now) (c .before .before .before .loop-test .taken) (l .inv .4) in
+    let p = c .before .put-row .ensures in (
       omega arith,
-      omega (arith, p .1),
-      lines-turn (l .i) (s .args .count) n (s .args .rows .now) (c .before .before .before .loop-test .taken) e (l .inv .2) (p .0),
+      omega arith,
+      omega (arith, w .0),
+      omega (arith, w .0, p .1),
+      w .1,
+      lines-turn (l .i) (l .start) (s .args .count) (s .args .rows .now) (c .before .before .before .loop-test .taken) (l .inv .5) (p .0),
     )
 
 returns : tie.Need-returns Inv-loop μ-loop
 returns c =
     let a = c .before .before .before .args in
     let l = c .before .loop in
-    (lines-end (l .i) (a .count) (a .rows .now) (c .loop-test .left) (l .inv .2), omega arith)
+    (lines-end (l .i) (l .start) (a .count) (a .rows .now) (c .loop-test .left) (l .inv .5), omega arith)
 
 pub put-rows-spec : {M : Type 1} → statement M
 put-rows-spec =
@@ -80,12 +100,13 @@ put-rows-spec =
     Inv-loop
     μ-loop
     loop-holds
-    mul-start
-    add-end
-    sub-put-row
-    part-put-row-start
-    part-put-row-end
     put-row-requires
+    add-start
+    shared-slice-read-start
+    cast-start
+    mul-start
+    add-start-2
+    add-start-3
     add-i
     loop-less
     loop-again

@@ -18,7 +18,7 @@ use Rattle.rules.specs.TableTest.{nodesIn, good-nodes}
 use Rattle.rules.specs.Truth.{Holds, endless, TruthByte, TruthBytes}
 use Rattle.rules.specs.Evaluation.{bitOf, truth, truth-holds}
 use Rattle.rules.specs.Solution.Truths.{place-div, place-mod, place-lt}
-use Rattle.rules.specs.Refusals.{RunGood, TableRefused, EvaluateRefused}
+use Rattle.rules.specs.Refusals.{place, RunGood, TableRefused, EvaluateRefused}
 use Rattle.rules.specs.Demands.{Written, EvaluatorExact}
 use Rattle.rules.specs.Demands.Written.{wrote}
 use Rattle.rules.specs.Outcome.{runGood, truthBytes, evaluateOutcome}
@@ -26,8 +26,8 @@ use Rattle.rules.specs.Ladder.{From, rung, exact-answered}
 use Rattle.rules.specs.Exactness.Tests.{run-true, failed, passes, at-least}
 use Rattle.rules.specs.Exactness.Tables.{table-under, table-exact, of-nodes}
 
-pub truth-byte : (T : ℕ) (run : List ℕ) (p : Rule) (t : ℕ) → TruthByte (Holds (endless T run) p t) (bitOf (truth T run p t))
-truth-byte T run p t = go (truth T run p t) (truth-holds T run p t)
+pub truth-byte : (T : ℕ) (run : List ℕ) (p : Rule) (t : ℕ) → 1 ≤ t → t ≤ T → TruthByte (Holds (endless T run) p t) (bitOf (truth T run p t))
+truth-byte T run p t l u = go (truth T run p t) (truth-holds T run p t l u)
   where
     go : (b : Bool) → Holds (endless T run) p t ↔ Is b → TruthByte (Holds (endless T run) p t) (bitOf b)
     go true h = TruthByte.true (h .1 tt)
@@ -53,7 +53,7 @@ module _ (T : ℕ) (run : List ℕ) (ns : List Node) (0<T : 1 ≤ T) where
   unfolding truthBytes
   bytes-are = record {
     count = length-tabulate (length ns * T) (λ i. bitOf (truth T run (ruleAt ns (i / T)) (suc (i % T))));
-    at = λ n t h l u. rw (byte-is n t h l u) (truth-byte T run (ruleAt ns n) t);
+    at = λ n t h l u. rw (byte-is n t h l u) (truth-byte T run (ruleAt ns n) t l u);
   }
 
   bytes-only : (bytes : List ℕ) → TruthBytes T run ns bytes → truthBytes T run ns ≡ bytes
@@ -71,32 +71,32 @@ module _ (T M : ℕ) (table run : List ℕ) (room : ℕ) where
   abbrev EvaluateIs : Written → Type 0
   EvaluateIs w = (ns : List Node) × (v : ℕ) × (bytes : List ℕ) × Good M table ns × TruthBytes T run ns bytes × TruthByte (Holds (endless T run) (ruleAt ns (root ns)) 1) v × (w ≡ wrote v bytes)
 
-  evaluate-down : (j : ℕ) → EvaluateRefused T M table run room j → j < 8 → TableRefused T M table j
+  evaluate-down : (j : ℕ) → EvaluateRefused T M table run room j → place j < place 8 → TableRefused T M table j
   evaluate-down j x h = go x h
     where
-      go : {j : ℕ} → EvaluateRefused T M table run room j → j < 8 → TableRefused T M table j
+      go : {j : ℕ} → EvaluateRefused T M table run room j → place j < place 8 → TableRefused T M table j
       go (EvaluateRefused.table-refused x) h = x
       go (EvaluateRefused.run-bad x) h = absurd (omega arith)
       go (EvaluateRefused.short g x) h = absurd (omega arith)
 
-  evaluate-from : (k : ℕ) → From (EvaluateRefused T M table run room) EvaluateIs 8 → (8 < k → RunGood T M run) →
-      (11 < k → (ns : List Node) → Good M table ns → length ns * T ≤ room) → k ≤ 12 → (j : ℕ) → EvaluateRefused T M table run room j → (k ≤ j) × (j < 12)
+  evaluate-from : (k : ℕ) → From (EvaluateRefused T M table run room) EvaluateIs (place 8) → (place 8 < k → RunGood T M run) →
+      (place 11 < k → (ns : List Node) → Good M table ns → length ns * T ≤ room) → k ≤ 12 → (j : ℕ) → EvaluateRefused T M table run room j → (k ≤ place j) × (place j < 12)
   evaluate-from k a b c u j x = go (a j x) x
     where
-      go : {j : ℕ} → 8 ≤ j → EvaluateRefused T M table run room j → (k ≤ j) × (j < 12)
+      go : {j : ℕ} → place 8 ≤ place j → EvaluateRefused T M table run room j → (k ≤ place j) × (place j < 12)
       go h (EvaluateRefused.table-refused x) = absurd (omega (arith, table-under T M table x))
-      go h (EvaluateRefused.run-bad x) = (at-least 8 k (λ i. x (b i)), omega arith)
-      go h (EvaluateRefused.short {ns} g x) = (at-least 11 k (λ i. omega (arith, c i ns g)), omega arith)
+      go h (EvaluateRefused.run-bad x) = (at-least (place 8) k (λ i. x (b i)), omega arith)
+      go h (EvaluateRefused.short {ns} g x) = (at-least (place 11) k (λ i. omega (arith, c i ns g)), omega arith)
 
   evaluated : SlotsAllowed T → Good M table (nodesIn table) → EvaluateIs (wrote (bitOf (truth T run (ruleAt (nodesIn table) (root (nodesIn table))) 1)) (truthBytes T run (nodesIn table)))
   evaluated s g =
       let ns = nodesIn table in
-      (ns, bitOf (truth T run (ruleAt ns (root ns)) 1), truthBytes T run ns, g, bytes-are T run ns (s .0), truth-byte T run (ruleAt ns (root ns)) 1, refl)
+      (ns, bitOf (truth T run (ruleAt ns (root ns)) 1), truthBytes T run ns, g, bytes-are T run ns (s .0), truth-byte T run (ruleAt ns (root ns)) 1 (omega arith) (s .0), refl)
 
   evaluated-one : SlotsAllowed T → (w : Written) → EvaluateIs w → wrote (bitOf (truth T run (ruleAt (nodesIn table) (root (nodesIn table))) 1)) (truthBytes T run (nodesIn table)) ≡ w
   evaluated-one s w (ns, v, bytes, g, b, r, e) =
       ap (λ (l : List Node). wrote (bitOf (truth T run (ruleAt l (root l)) 1)) (truthBytes T run l)) (sym (good-nodes M table ns g))
-      ∙ ap₂ wrote (byte-one _ _ _ (truth-byte T run (ruleAt ns (root ns)) 1) r) (bytes-only T run ns (s .0) bytes b) ∙ sym e
+      ∙ ap₂ wrote (byte-one _ _ _ (truth-byte T run (ruleAt ns (root ns)) 1 (omega arith) (s .0)) r) (bytes-only T run ns (s .0) bytes b) ∙ sym e
 
 pub evaluate-exact : EvaluatorExact evaluateOutcome
 unfolding evaluateOutcome
@@ -109,7 +109,7 @@ evaluate-exact T M table run room =
     (λ e. EvaluateRefused.run-bad (failed (runGood T M run) (run-true T M run .1) e))
     (λ e. let r = run-true T M run .0 (passes (runGood T M run) e) in
     rung Refused AnswerIs (leb (length (nodesIn table) * T) room) 11 _
-    (λ j x. evaluate-from T M table run room 11 low (λ h. r) (λ h. absurd (omega arith)) (omega arith) j x .0)
+    (λ j x. evaluate-from T M table run room (place 11) low (λ h. r) (λ h. absurd (omega arith)) (omega arith) j x .0)
     (λ e. EvaluateRefused.short g (leb-false (length (nodesIn table) * T) room e))
     (λ e. let f = of-nodes T M table (λ ns. length ns * T ≤ room) (leb-true (length (nodesIn table) * T) room e) in
     exact-answered Refused AnswerIs _

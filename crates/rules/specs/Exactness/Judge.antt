@@ -11,7 +11,7 @@ use Rattle.rules.specs.Table.{Node, Good}
 use Rattle.rules.specs.TableTest.{nodesIn, good-nodes}
 use Rattle.rules.specs.Judge.{Verdict, Judged}
 use Rattle.rules.specs.Verdicts.{verdict, verdict-judged, judged-verdict}
-use Rattle.rules.specs.Refusals.{TableRefused, JudgeRefused}
+use Rattle.rules.specs.Refusals.{place, TableRefused, JudgeRefused}
 use Rattle.rules.specs.Demands.{Exact, JudgeExact}
 use Rattle.rules.specs.Demands.Answer.{answered}
 use Rattle.rules.specs.Outcome.{withTolerance, judgeOutcome}
@@ -23,36 +23,36 @@ module _ (T M : ℕ) (table : List ℕ) (figures : List ℤ) (tolerance : ℤ) w
   abbrev JudgeIs : Verdict → Type 0
   JudgeIs v = (ns : List Node) × (e : ℕ) × Good M table ns × (tolerance ≡ pos e) × Judged T M e ns figures v
 
-  judge-down : (j : ℕ) → JudgeRefused T M table figures tolerance j → j < 8 → TableRefused T M table j
+  judge-down : (j : ℕ) → JudgeRefused T M table figures tolerance j → place j < place 8 → TableRefused T M table j
   judge-down j x h = go x h
     where
-      go : {j : ℕ} → JudgeRefused T M table figures tolerance j → j < 8 → TableRefused T M table j
+      go : {j : ℕ} → JudgeRefused T M table figures tolerance j → place j < place 8 → TableRefused T M table j
       go (JudgeRefused.table-refused x) h = x
       go (JudgeRefused.miscounted g x) h = absurd (omega arith)
       go (JudgeRefused.tolerance-bad x) h = absurd (omega arith)
 
-  judge-from : (k : ℕ) → From (JudgeRefused T M table figures tolerance) JudgeIs 8 →
-      (9 < k → (ns : List Node) → Good M table ns → length figures ≡ (M + length ns) * T) →
-      (10 < k → (e : ℕ) × (e ≤ 1000) × (tolerance ≡ pos e)) → k ≤ 11 → (j : ℕ) → JudgeRefused T M table figures tolerance j → (k ≤ j) × (j < 11)
+  judge-from : (k : ℕ) → From (JudgeRefused T M table figures tolerance) JudgeIs (place 8) →
+      (place 9 < k → (ns : List Node) → Good M table ns → length figures ≡ (M + length ns) * T) →
+      (place 10 < k → (e : ℕ) × (e ≤ 1000) × (tolerance ≡ pos e)) → k ≤ 12 → (j : ℕ) → JudgeRefused T M table figures tolerance j → (k ≤ place j) × (place j < 12)
   judge-from k a b c u j x = go (a j x) x
     where
-      go : {j : ℕ} → 8 ≤ j → JudgeRefused T M table figures tolerance j → (k ≤ j) × (j < 11)
+      go : {j : ℕ} → place 8 ≤ place j → JudgeRefused T M table figures tolerance j → (k ≤ place j) × (place j < 12)
       go h (JudgeRefused.table-refused x) = absurd (omega (arith, table-under T M table x))
-      go h (JudgeRefused.miscounted {ns} g x) = (at-least 9 k (λ i. x (b i ns g)), omega arith)
-      go h (JudgeRefused.tolerance-bad x) = (at-least 10 k (λ i. x (c i .0) (c i .1) (c i .2)), omega arith)
+      go h (JudgeRefused.miscounted {ns} g x) = (at-least (place 9) k (λ i. x (b i ns g)), omega arith)
+      go h (JudgeRefused.tolerance-bad x) = (at-least (place 10) k (λ i. x (c i .0) (c i .1) (c i .2)), omega arith)
 
-  module _ (g : Good M table (nodesIn table)) (low : From (JudgeRefused T M table figures tolerance) JudgeIs 8)
+  module _ (g : Good M table (nodesIn table)) (low : From (JudgeRefused T M table figures tolerance) JudgeIs (place 8))
       (n : (ns : List Node) → Good M table ns → length figures ≡ (M + length ns) * T) where
     tolerance-exact : (z : ℤ) → tolerance ≡ z →
         Exact (JudgeRefused T M table figures tolerance) JudgeIs (withTolerance z (λ e. answered (verdict T M e (nodesIn table) figures)))
     tolerance-exact (negsuc d) e =
-        refuse (JudgeRefused T M table figures tolerance) JudgeIs 10 (λ j x. judge-from 10 low (λ h. n) (λ h. absurd (omega arith)) (omega arith) j x .0)
+        refuse (JudgeRefused T M table figures tolerance) JudgeIs 10 (λ j x. judge-from (place 10) low (λ h. n) (λ h. absurd (omega arith)) (omega arith) j x .0)
         (JudgeRefused.tolerance-bad (λ c h f. pos-ne-negsuc c d (sym f ∙ e)))
     tolerance-exact (pos c) e =
-        rung (JudgeRefused T M table figures tolerance) JudgeIs (leb c 1000) 10 _ (λ j x. judge-from 10 low (λ h. n) (λ h. absurd (omega arith)) (omega arith) j x .0)
+        rung (JudgeRefused T M table figures tolerance) JudgeIs (leb c 1000) 10 _ (λ j x. judge-from (place 10) low (λ h. n) (λ h. absurd (omega arith)) (omega arith) j x .0)
         (λ f. JudgeRefused.tolerance-bad (λ d h i. omega (arith, leb-false c 1000 f, ap natAbs (sym e ∙ i))))
         (λ t. exact-answered (JudgeRefused T M table figures tolerance) JudgeIs (verdict T M c (nodesIn table) figures)
-        (λ j x. let z = judge-from 11 low (λ h. n) (λ h. (c, leb-true c 1000 t, e)) (omega arith) j x in omega (arith, z))
+        (λ j x. let z = judge-from 12 low (λ h. n) (λ h. (c, leb-true c 1000 t, e)) (omega arith) j x in omega (arith, z))
         (nodesIn table, c, g, e, verdict-judged T M c (nodesIn table) figures)
         (λ v i. judged-verdict T M c (nodesIn table) figures
         (subst (λ (l : List Node). Judged T M c l figures v) (good-nodes M table (i .0) (i .2))
@@ -66,7 +66,7 @@ judge-exact T M table figures tolerance =
     table-exact T M table Refused AnswerIs (λ k x. JudgeRefused.table-refused x) (judge-down T M table figures tolerance) _
     (λ s m g low.
     rung Refused AnswerIs (eqb (length figures) ((M + length (nodesIn table)) * T)) 9 _
-    (λ j x. judge-from T M table figures tolerance 9 low (λ h. absurd (omega arith)) (λ h. absurd (omega arith)) (omega arith) j x .0)
+    (λ j x. judge-from T M table figures tolerance (place 9) low (λ h. absurd (omega arith)) (λ h. absurd (omega arith)) (omega arith) j x .0)
     (λ e. JudgeRefused.miscounted g (eqb-false (length figures) ((M + length (nodesIn table)) * T) e))
     (λ e. tolerance-exact T M table figures tolerance g low
     (of-nodes T M table (λ ns. length figures ≡ (M + length ns) * T) (eqb-true (length figures) ((M + length (nodesIn table)) * T) e)) tolerance refl))

@@ -9,7 +9,7 @@ use lib.ListN.{length}
 use Rattle.rules.specs.Table.{Node, Good}
 use Rattle.rules.specs.TableTest.{nodesIn, good-nodes}
 use Rattle.rules.specs.Rows.{rowsOf, rowsBytes}
-use Rattle.rules.specs.Refusals.{TableRefused, RowsRefused}
+use Rattle.rules.specs.Refusals.{place, TableRefused, RowsRefused}
 use Rattle.rules.specs.Demands.{Written, RowsExact}
 use Rattle.rules.specs.Demands.Written.{wrote}
 use Rattle.rules.specs.Outcome.{rowsOutcome}
@@ -21,20 +21,20 @@ module _ (T M : ℕ) (table : List ℕ) (room : ℕ) where
   abbrev RowsIs : Written → Type 0
   RowsIs w = (ns : List Node) × Good M table ns × (w ≡ wrote (length (rowsOf T M ns)) (rowsBytes (rowsOf T M ns)))
 
-  rows-down : (j : ℕ) → RowsRefused T M table room j → j < 8 → TableRefused T M table j
+  rows-down : (j : ℕ) → RowsRefused T M table room j → place j < place 8 → TableRefused T M table j
   rows-down j x h = go x h
     where
-      go : {j : ℕ} → RowsRefused T M table room j → j < 8 → TableRefused T M table j
+      go : {j : ℕ} → RowsRefused T M table room j → place j < place 8 → TableRefused T M table j
       go (RowsRefused.table-refused x) h = x
       go (RowsRefused.short g x) h = absurd (omega arith)
 
-  rows-from : (k : ℕ) → From (RowsRefused T M table room) RowsIs 8 →
-      (11 < k → (ns : List Node) → Good M table ns → 14 * length (rowsOf T M ns) ≤ room) → k ≤ 12 → (j : ℕ) → RowsRefused T M table room j → (k ≤ j) × (j < 12)
+  rows-from : (k : ℕ) → From (RowsRefused T M table room) RowsIs (place 8) →
+      (place 11 < k → (ns : List Node) → Good M table ns → length (rowsBytes (rowsOf T M ns)) ≤ room) → k ≤ 12 → (j : ℕ) → RowsRefused T M table room j → (k ≤ place j) × (place j < 12)
   rows-from k a c u j x = go (a j x) x
     where
-      go : {j : ℕ} → 8 ≤ j → RowsRefused T M table room j → (k ≤ j) × (j < 12)
+      go : {j : ℕ} → place 8 ≤ place j → RowsRefused T M table room j → (k ≤ place j) × (place j < 12)
       go h (RowsRefused.table-refused x) = absurd (omega (arith, table-under T M table x))
-      go h (RowsRefused.short {ns} g x) = (at-least 11 k (λ i. omega (arith, c i ns g)), omega arith)
+      go h (RowsRefused.short {ns} g x) = (at-least (place 11) k (λ i. omega (arith, c i ns g)), omega arith)
 
 pub rows-exact : RowsExact rowsOutcome
 unfolding rowsOutcome
@@ -44,10 +44,10 @@ rows-exact T M table room =
     let rows = rowsOf T M (nodesIn table) in
     table-exact T M table Refused AnswerIs (λ k x. RowsRefused.table-refused x) (rows-down T M table room) _
     (λ s m g low.
-    rung Refused AnswerIs (leb (14 * length rows) room) 11 _
-    (λ j x. rows-from T M table room 11 low (λ h. absurd (omega arith)) (omega arith) j x .0)
-    (λ e. RowsRefused.short g (leb-false (14 * length rows) room e))
-    (λ e. let f = of-nodes T M table (λ ns. 14 * length (rowsOf T M ns) ≤ room) (leb-true (14 * length rows) room e) in
+    rung Refused AnswerIs (leb (length (rowsBytes rows)) room) 11 _
+    (λ j x. rows-from T M table room (place 11) low (λ h. absurd (omega arith)) (omega arith) j x .0)
+    (λ e. RowsRefused.short g (leb-false (length (rowsBytes rows)) room e))
+    (λ e. let f = of-nodes T M table (λ ns. length (rowsBytes (rowsOf T M ns)) ≤ room) (leb-true (length (rowsBytes rows)) room e) in
     exact-answered Refused AnswerIs (wrote (length rows) (rowsBytes rows))
     (λ j x. let z = rows-from T M table room 12 low (λ h. f) (omega arith) j x in omega (arith, z))
     (nodesIn table, g, refl)

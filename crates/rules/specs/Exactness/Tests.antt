@@ -10,10 +10,11 @@ use lib.Dec.{T as Is, leb, ltb, eqb, leb→le, le→leb, ltb→lt, lt→ltb, eqb
 use lib.ListN.{length, getD}
 use Rattle.lists.specs.All.{all, all-iff}
 use Rattle.lists.specs.Tests.{and-left, and-right, and-both}
-use Rattle.rules.specs.Rule.{Rule, AtomsBelow}
-use Rattle.rules.specs.Rule.Rule.{atom, unary, binary}
+use Rattle.rules.specs.Rule.{Rule, AtomsBelow, WindowsAllowed}
+use Rattle.rules.specs.Rule.Rule.{atom, unary, binary, windowed}
+use Rattle.rules.specs.TableTest.{windowGood, window-good, good-window}
 use Rattle.rules.specs.Refusals.{RunGood}
-use Rattle.rules.specs.Outcome.{between, atomsBelow, runGood}
+use Rattle.rules.specs.Outcome.{between, atomsBelow, windowsGood, runGood}
 
 pub between-true : (low high n : ℕ) → between low high n ≡ true → (low ≤ n) × (n ≤ high)
 between-true low high n e =
@@ -26,9 +27,22 @@ between-false low high n e h = rw e at (and-both (leb low n) (leb n high) (le→
 pub atoms-true : (M : ℕ) (p : Rule) → Is (atomsBelow M p) ↔ AtomsBelow M p
 atoms-true M (atom a) = (ltb→lt a M, lt→ltb a M)
 atoms-true M (unary u p) = atoms-true M p
+atoms-true M (windowed w a b p) = atoms-true M p
 atoms-true M (binary o p q) = (
   λ t. (atoms-true M p .0 (and-left (atomsBelow M p) (atomsBelow M q) t), atoms-true M q .0 (and-right (atomsBelow M p) (atomsBelow M q) t)),
   λ h. and-both (atomsBelow M p) (atomsBelow M q) (atoms-true M p .1 (h .0)) (atoms-true M q .1 (h .1)),
+)
+
+pub windows-true : (p : Rule) → Is (windowsGood p) ↔ WindowsAllowed p
+windows-true (atom a) = (λ t. t, λ t. t)
+windows-true (unary u p) = windows-true p
+windows-true (binary o p q) = (
+  λ t. (windows-true p .0 (and-left (windowsGood p) (windowsGood q) t), windows-true q .0 (and-right (windowsGood p) (windowsGood q) t)),
+  λ h. and-both (windowsGood p) (windowsGood q) (windows-true p .1 (h .0)) (windows-true q .1 (h .1)),
+)
+windows-true (windowed w a b p) = (
+  λ t. (window-good a b (and-left (windowGood a b) (windowsGood p) t), windows-true p .0 (and-right (windowGood a b) (windowsGood p) t)),
+  λ h. and-both (windowGood a b) (windowsGood p) (good-window a b (h .0)) (windows-true p .1 (h .1)),
 )
 
 pub run-true : (T M : ℕ) (run : List ℕ) → Is (runGood T M run) ↔ RunGood T M run

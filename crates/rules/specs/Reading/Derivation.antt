@@ -4,19 +4,21 @@ use mathlib.Core.List.{List}
 use Prim.Native.Nat.{ℕ, zero, suc, _≤_, _<_}
 use native.Mathlib.Omega.{arith}
 use native.Mathlib.Nat.{le-refl}
-use Rattle.rules.specs.Rule.{Unary, Binary, Rule}
+use Rattle.rules.specs.Rule.{Unary, Binary, Window, Rule}
 use Rattle.rules.specs.Rule.Binary.{and, or, implies, until}
 use Rattle.rules.specs.Grammar.{Level, tighter, sign}
 use Rattle.rules.specs.Grammar.Level.{of, single}
 use Rattle.rules.specs.Reading.Lexer.{Token, tokenAt, signAt, sign-other}
-use Rattle.rules.specs.Reading.Parser.{Parsed, Start, startOf, join, goOn, pair, closeAt, close, apply, begin, lead, rank, rank-tighter, parse, measure, parsed, single-law, pair-law}
+use Rattle.rules.specs.Reading.Parser.{Parsed, Start, startOf, join, goOn, pair, closeAt, close, apply, Spanned, spanAt, opens, windowOf, applyWindow, overSpan, operate, begin, lead, rank, rank-tighter, parse, measure, parsed, single-law, pair-law}
 
 -- the text s from one position to another is a phrase of a level, and says a rule
 pub data Derives (s : List ℕ) : Level → ℕ → ℕ → Rule → Type 0 where
   alone : {o : Binary} {at next : ℕ} {p : Rule} → Derives s (tighter o) at next p → Derives s (of o) at next p
   joined : {o : Binary} {at next q end : ℕ} {p r : Rule} → Derives s (tighter o) at next p → signAt s next (sign o) ≡ suc q → Derives s (of o) (suc q) end r → Derives s (of o) at end (Rule.binary o p r)
   number : {a at next : ℕ} → tokenAt s at ≡ Token.atom a next → Derives s single at next (Rule.atom a)
-  prefixed : {b at next end : ℕ} {u : Unary} {p : Rule} → tokenAt s at ≡ Token.sign b next → startOf b ≡ Start.operator u → Derives s single next end p → Derives s single at end (Rule.unary u p)
+  prefixed : {b at next end : ℕ} {u : Unary} {p : Rule} → tokenAt s at ≡ Token.sign b next → startOf b ≡ Start.operator u → opens u s next ≡ 0 → Derives s single next end p → Derives s single at end (Rule.unary u p)
+  timed : {b at next q i j past end : ℕ} {u : Unary} {p : Rule} → tokenAt s at ≡ Token.sign b next → startOf b ≡ Start.operator u → opens u s next ≡ suc q →
+      spanAt s (suc q) ≡ Spanned.span i j past → Derives s single past end p → Derives s single at end (Rule.windowed (windowOf u) i j p)
   bracket : {b at next end q : ℕ} {p : Rule} → tokenAt s at ≡ Token.sign b next → startOf b ≡ Start.bracket → Derives s (of implies) next end p → signAt s end 41 ≡ suc q → Derives s single at (suc q) p
 
 -- ---- sound
@@ -47,13 +49,25 @@ module _ (s : List ℕ) (at : ℕ) where
     close-sound Parsed.fail f h = tt
     close-sound (Parsed.part p end) f h = closeAt-sound p end (signAt s end 41) f h refl
 
-    apply-sound : (u : Unary) (x : Parsed) → startOf b ≡ Start.operator u → Sound s single next x → Sound s single at (apply u x)
-    apply-sound u Parsed.fail f h = tt
-    apply-sound u (Parsed.part p end) f h = prefixed token-is f h
+    apply-sound : (u : Unary) (x : Parsed) → startOf b ≡ Start.operator u → opens u s next ≡ 0 → Sound s single next x → Sound s single at (apply u x)
+    apply-sound u Parsed.fail f o h = tt
+    apply-sound u (Parsed.part p end) f o h = prefixed token-is f o h
+
+    window-sound : (u : Unary) (q i j past : ℕ) (x : Parsed) → startOf b ≡ Start.operator u → opens u s next ≡ suc q → spanAt s (suc q) ≡ Spanned.span i j past → Sound s single past x → Sound s single at (applyWindow (windowOf u) i j x)
+    window-sound u q i j past Parsed.fail f o e h = tt
+    window-sound u q i j past (Parsed.part p end) f o e h = timed token-is f o e h
+
+    span-sound : (u : Unary) (q : ℕ) (x : Spanned) (f : ℕ → Parsed) → startOf b ≡ Start.operator u → opens u s next ≡ suc q → spanAt s (suc q) ≡ x → ((q : ℕ) → Sound s single q (f q)) → Sound s single at (overSpan (windowOf u) x f)
+    span-sound u q Spanned.fail f e o k h = tt
+    span-sound u q (Spanned.span i j past) f e o k h = window-sound u q i j past (f past) e o k (h past)
+
+    operate-sound : (u : Unary) (x : ℕ) (f : ℕ → Parsed) → startOf b ≡ Start.operator u → opens u s next ≡ x → ((q : ℕ) → Sound s single q (f q)) → Sound s single at (operate u s next x f)
+    operate-sound u zero f e o h = apply-sound u (f next) e o (h next)
+    operate-sound u (suc q) f e o h = span-sound u q (spanAt s (suc q)) f e o refl h
 
     begin-sound : (x : Start) (f g : ℕ → Parsed) → startOf b ≡ x → ((q : ℕ) → Sound s single q (f q)) → ((q : ℕ) → Sound s (of implies) q (g q)) → Sound s single at (begin s next x f g)
     begin-sound Start.bracket f g e h k = close-sound (g next) e (k next)
-    begin-sound (Start.operator u) f g e h k = apply-sound u (f next) e (h next)
+    begin-sound (Start.operator u) f g e h k = operate-sound u (opens u s next) f e refl h
     begin-sound Start.nothing f g e h k = tt
 
   lead-sound : (t : Token) (f g : ℕ → Parsed) → tokenAt s at ≡ t → ((q : ℕ) → Sound s single q (f q)) → ((q : ℕ) → Sound s (of implies) q (g q)) → Sound s single at (lead s t f g)
@@ -118,11 +132,19 @@ complete {s} (joined {o} {at} {next} {q} {end} {p} {r} d e f) stops =
     ∙ ap (λ (x : ℕ). goOn o p next x (parsed (of o) s)) e
     ∙ ap (join o p) (complete f stops)
 complete {s} (number {a} {at} {next} e) stops = single-law s at ∙ ap (λ (t : Token). lead s t (parsed single s) (parsed (of implies) s)) e
-complete {s} (prefixed {b} {at} {next} {end} {u} {p} e f d) stops =
+complete {s} (prefixed {b} {at} {next} {end} {u} {p} e f o d) stops =
     single-law s at
     ∙ ap (λ (t : Token). lead s t (parsed single s) (parsed (of implies) s)) e
     ∙ ap (λ (x : Start). begin s next x (parsed single s) (parsed (of implies) s)) f
+    ∙ ap (λ (x : ℕ). operate u s next x (parsed single s)) o
     ∙ ap (apply u) (complete d stops)
+complete {s} (timed {b} {at} {next} {q} {i} {j} {past} {end} {u} {p} e f o k d) stops =
+    single-law s at
+    ∙ ap (λ (t : Token). lead s t (parsed single s) (parsed (of implies) s)) e
+    ∙ ap (λ (x : Start). begin s next x (parsed single s) (parsed (of implies) s)) f
+    ∙ ap (λ (x : ℕ). operate u s next x (parsed single s)) o
+    ∙ ap (λ (x : Spanned). overSpan (windowOf u) x (parsed single s)) k
+    ∙ ap (applyWindow (windowOf u) i j) (complete d stops)
 complete {s} (bracket {b} {at} {next} {end} {q} {p} e f d g) stops =
     single-law s at
     ∙ ap (λ (t : Token). lead s t (parsed single s) (parsed (of implies) s)) e

@@ -55,6 +55,10 @@ start s at = at + spaces (drop at s)
 unfoldable pub tokenAt : List ℕ → ℕ → Token
 tokenAt s at = tokenFrom s (start s at)
 
+-- the number at a position, past the spaces there, as the token `atom`
+unfoldable pub numberAt : List ℕ → ℕ → Token
+numberAt s at = atomAt s (start s at)
+
 -- the position past the sign b, if the token is that sign, and else 0
 abbrev pub pastSign : ℕ → Token → ℕ
 pastSign b Token.none = 0
@@ -206,6 +210,33 @@ sign-is s at b next e = subst (λ (t : Token). Is s (start s at) t) e (is-token 
 pub atom-is : (s : List ℕ) (at a next : ℕ) → tokenAt s at ≡ Token.atom a next → IsAtom s (start s at) a next
 unfolding tokenAt
 atom-is s at a next e = subst (λ (t : Token). Is s (start s at) t) e (is-token s (start s at))
+
+pub record IsNumber (s : List ℕ) (p a next : ℕ) : Type 0 where
+  pub numeric : Numeric (digits (drop p s)) (getD s p 0)
+  pub number : a ≡ value 0 (drop p s)
+  pub past : next ≡ p + digits (drop p s)
+
+number-cases : (s : List ℕ) (p a next : ℕ) (b : Bool) → isNumeral (digits (drop p s)) (getD s p 0) ≡ b →
+    cond b (Token.atom (value 0 (drop p s)) (p + digits (drop p s))) Token.none ≡ Token.atom a next → IsNumber s p a next
+number-cases s p a next true e h =
+    let v : value 0 (drop p s) ≡ a = cc in
+    let w : p + digits (drop p s) ≡ next = cc in
+    record { numeric = numeral-true (digits (drop p s)) (getD s p 0) e; number = sym v; past = sym w }
+number-cases s p a next false e h = let z : _≡_ {A = ℕ} 0 1 = cc in absurd (omega arith)
+
+pub number-is : (s : List ℕ) (at a next : ℕ) → numberAt s at ≡ Token.atom a next → IsNumber s (start s at) a next
+unfolding numberAt
+number-is s at a next e = number-cases s (start s at) a next (isNumeral (digits (drop (start s at) s)) (getD s (start s at) 0)) refl e
+
+pub number-ends : (s : List ℕ) (at a next : ℕ) → numberAt s at ≡ Token.atom a next → (at < next) × (next ≤ length s)
+number-ends s at a next e =
+    let g = number-is s at a next e in
+    omega (arith, g .past, g .numeric .one-up, digits-le (drop (start s at) s), length-drop (start s at) s)
+
+-- the number where its digits begin at p
+pub number-at : (s : List ℕ) (at p : ℕ) → p ≡ start s at → Numeric (digits (drop p s)) (getD s p 0) → numberAt s at ≡ Token.atom (value 0 (drop p s)) (p + digits (drop p s))
+unfolding numberAt
+number-at s at p e n = ap (atomAt s) (sym e) ∙ rw (numeral-is (digits (drop p s)) (getD s p 0) n) refl
 
 -- ---- where a token ends
 

@@ -1,6 +1,6 @@
 -- The parser: one function over the levels of the grammar, at a position of a text, and its laws. `parse` counts its calls; the laws of
 -- `parsed` do not.
-use mathlib.Core.Path.{_≡_, refl, ap, _∙_, subst}
+use mathlib.Core.Path.{_≡_, refl, sym, ap, _∙_, subst}
 use mathlib.Core.Bool.{cond}
 use mathlib.Core.Option.{Option, none, some}
 use mathlib.Core.List.{List}
@@ -9,12 +9,13 @@ use native.Mathlib.Omega.{arith}
 use lib.ListN.{length}
 use lib.Dec.{eqb}
 use Rattle.rules.specs.RuleSize.{size-positive}
-use Rattle.rules.specs.Rule.{Unary, Binary, Rule, size}
+use Rattle.rules.specs.Rule.{Unary, Binary, Window, Rule, size}
 use Rattle.rules.specs.Rule.Unary.{not, eventually, always}
 use Rattle.rules.specs.Rule.Binary.{and, or, implies, until}
+use Rattle.rules.specs.Rule.Window.{within, throughout}
 use Rattle.rules.specs.Grammar.{Level, tighter, sign}
 use Rattle.rules.specs.Grammar.Level.{of, single}
-use Rattle.rules.specs.Reading.Lexer.{Token, tokenAt, signAt, Ends, token-ends, sign-ends}
+use Rattle.rules.specs.Reading.Lexer.{Token, tokenAt, signAt, numberAt, Ends, token-ends, sign-ends, number-ends}
 
 -- no phrase, or the rule that it says and the position past it
 pub data Parsed : Type 0 where
@@ -64,9 +65,63 @@ abbrev pub apply : Unary → Parsed → Parsed
 apply u Parsed.fail = Parsed.fail
 apply u (Parsed.part p end) = Parsed.part (Rule.unary u p) end
 
+-- request N4, "F[a,b] and G[a,b] before a Single": the numbers of a window, and the position past it
+pub data Spanned : Type 0 where
+  fail : Spanned
+  span : (a b next : ℕ) → Spanned
+
+-- behind the second number: x is the position past the closing bracket, or 0
+abbrev pub endSpan : (a b x : ℕ) → Spanned
+endSpan a b zero = Spanned.fail
+endSpan a b (suc q) = Spanned.span a b (suc q)
+
+abbrev pub secondNumber : List ℕ → (a : ℕ) → Token → Spanned
+secondNumber s a Token.none = Spanned.fail
+secondNumber s a (Token.sign b next) = Spanned.fail
+secondNumber s a (Token.atom b next) = endSpan a b (signAt s next 93)
+
+-- x is the position past the comma, or 0
+abbrev pub pastComma : List ℕ → (a x : ℕ) → Spanned
+pastComma s a zero = Spanned.fail
+pastComma s a (suc q) = secondNumber s a (numberAt s (suc q))
+
+abbrev pub firstNumber : List ℕ → Token → Spanned
+firstNumber s Token.none = Spanned.fail
+firstNumber s (Token.sign b next) = Spanned.fail
+firstNumber s (Token.atom a next) = pastComma s a (signAt s next 44)
+
+-- a window, from the position past its opening bracket
+unfoldable pub spanAt : List ℕ → ℕ → Spanned
+spanAt s at = firstNumber s (numberAt s at)
+
+-- the position past the opening bracket of a window behind F or G, or 0
+abbrev pub opens : Unary → List ℕ → ℕ → ℕ
+opens not s next = 0
+opens eventually s next = signAt s next 91
+opens always s next = signAt s next 91
+
+-- F and G, as operators over a window
+abbrev pub windowOf : Unary → Window
+windowOf not = within
+windowOf eventually = within
+windowOf always = throughout
+
+abbrev pub applyWindow : Window → (a b : ℕ) → Parsed → Parsed
+applyWindow w a b Parsed.fail = Parsed.fail
+applyWindow w a b (Parsed.part p end) = Parsed.part (Rule.windowed w a b p) end
+
+abbrev pub overSpan : Window → Spanned → (singleAt : ℕ → Parsed) → Parsed
+overSpan w Spanned.fail singleAt = Parsed.fail
+overSpan w (Spanned.span a b next) singleAt = applyWindow w a b (singleAt next)
+
+-- x is the position past the opening bracket of a window, or 0
+abbrev pub operate : Unary → List ℕ → (next x : ℕ) → (singleAt : ℕ → Parsed) → Parsed
+operate u s next zero singleAt = apply u (singleAt next)
+operate u s next (suc q) singleAt = overSpan (windowOf u) (spanAt s (suc q)) singleAt
+
 abbrev pub begin : List ℕ → (next : ℕ) → Start → (singleAt ruleAt : ℕ → Parsed) → Parsed
 begin s next Start.bracket singleAt ruleAt = close s (ruleAt next)
-begin s next (Start.operator u) singleAt ruleAt = apply u (singleAt next)
+begin s next (Start.operator u) singleAt ruleAt = operate u s next (opens u s next) singleAt
 begin s next Start.nothing singleAt ruleAt = Parsed.fail
 
 -- a Single, by its first token
@@ -109,6 +164,87 @@ rank-bounds (of or) = omega arith
 rank-bounds (of and) = omega arith
 rank-bounds (of until) = omega arith
 
+-- ---- what a window is
+
+-- the positions of its parts, from that past its opening bracket
+pub record IsSpan (s : List ℕ) (at a b next : ℕ) : Type 0 where
+  pub first-end : ℕ
+  pub first-is : numberAt s at ≡ Token.atom a first-end
+  pub comma : ℕ
+  pub comma-is : signAt s first-end 44 ≡ suc comma
+  pub second-end : ℕ
+  pub second-is : numberAt s (suc comma) ≡ Token.atom b second-end
+  pub close : ℕ
+  pub close-is : signAt s second-end 93 ≡ suc close
+  pub past : next ≡ suc close
+
+module _ (s : List ℕ) (at a b next : ℕ) where
+  abbrev Clash : Spanned → Type 0
+  Clash x = x ≡ Spanned.span a b next
+
+  no-span : Clash Spanned.fail → IsSpan s at a b next
+  no-span h = let z : _≡_ {A = ℕ} 0 1 = cc in absurd (omega arith)
+
+  end-span : (i c q j : ℕ) (x y : ℕ) → numberAt s at ≡ Token.atom i c → signAt s c 44 ≡ suc q → numberAt s (suc q) ≡ Token.atom j x → signAt s x 93 ≡ y → Clash (endSpan i j y) → IsSpan s at a b next
+  end-span i c q j x zero e f g k h = no-span h
+  end-span i c q j x (suc r) e f g k h =
+      let u : i ≡ a = cc in
+      let v : j ≡ b = cc in
+      let w : suc r ≡ next = cc in
+      record {
+        first-end = c;
+        first-is = e ∙ ap (λ (n : ℕ). Token.atom n c) u;
+        comma = q;
+        comma-is = f;
+        second-end = x;
+        second-is = g ∙ ap (λ (n : ℕ). Token.atom n x) v;
+        close = r;
+        close-is = k;
+        past = sym w;
+      }
+
+  second-span : (i c q : ℕ) (t : Token) → numberAt s at ≡ Token.atom i c → signAt s c 44 ≡ suc q → numberAt s (suc q) ≡ t → Clash (secondNumber s i t) → IsSpan s at a b next
+  second-span i c q Token.none e f g h = no-span h
+  second-span i c q (Token.sign d x) e f g h = no-span h
+  second-span i c q (Token.atom j x) e f g h = end-span i c q j x (signAt s x 93) e f g refl h
+
+  comma-span : (i c x : ℕ) → numberAt s at ≡ Token.atom i c → signAt s c 44 ≡ x → Clash (pastComma s i x) → IsSpan s at a b next
+  comma-span i c zero e f h = no-span h
+  comma-span i c (suc q) e f h = second-span i c q (numberAt s (suc q)) e f refl h
+
+  first-span : (t : Token) → numberAt s at ≡ t → Clash (firstNumber s t) → IsSpan s at a b next
+  first-span Token.none e h = no-span h
+  first-span (Token.sign d x) e h = no-span h
+  first-span (Token.atom i c) e h = comma-span i c (signAt s c 44) e refl h
+
+  pub span-is : spanAt s at ≡ Spanned.span a b next → IsSpan s at a b next
+  unfolding spanAt
+  span-is h = first-span (numberAt s at) refl h
+
+  pub is-span : IsSpan s at a b next → spanAt s at ≡ Spanned.span a b next
+  unfolding spanAt
+  is-span h =
+      ap (firstNumber s) (h .first-is) ∙ ap (pastComma s a) (h .comma-is) ∙ ap (secondNumber s a) (h .second-is) ∙ ap (endSpan a b) (h .close-is)
+      ∙ ap (Spanned.span a b) (sym (h .past))
+
+  pub span-ends : spanAt s at ≡ Spanned.span a b next → (at < next) × (next ≤ length s)
+  span-ends h =
+      let g = span-is h in
+      omega (
+        arith,
+        g .past,
+        number-ends s at a (g .first-end) (g .first-is),
+        sign-ends s (g .first-end) 44 (g .comma) (g .comma-is),
+        number-ends s (suc (g .comma)) b (g .second-end) (g .second-is),
+        sign-ends s (g .second-end) 93 (g .close) (g .close-is),
+      )
+
+-- a window opens behind the letter that is its operator's
+pub opens-sign : (u : Unary) (s : List ℕ) (next q : ℕ) → opens u s next ≡ suc q → signAt s next 91 ≡ suc q
+opens-sign not s next q e = absurd (omega arith)
+opens-sign eventually s next q e = e
+opens-sign always s next q e = e
+
 -- ---- where a phrase ends: it has a byte for each node at least
 
 pub record Within (s : List ℕ) (at : ℕ) (p : Rule) (next : ℕ) : Type 0 where
@@ -146,9 +282,21 @@ module _ (s : List ℕ) (at : ℕ) where
   apply-within u next Parsed.fail b h = tt
   apply-within u next (Parsed.part p end) b h = record { low = omega arith; high = h .high }
 
+  window-within : (w : Window) (a b next : ℕ) (x : Parsed) → at < next → Bounded s next x → Bounded s at (applyWindow w a b x)
+  window-within w a b next Parsed.fail l h = tt
+  window-within w a b next (Parsed.part p end) l h = record { low = omega arith; high = h .high }
+
+  span-within : (w : Window) (q : ℕ) (x : Spanned) (f : ℕ → Parsed) → at < q → spanAt s q ≡ x → ((q : ℕ) → Bounded s q (f q)) → Bounded s at (overSpan w x f)
+  span-within w q Spanned.fail f l e h = tt
+  span-within w q (Spanned.span a b end) f l e h = window-within w a b end (f end) (omega (arith, span-ends s q a b end e)) (h end)
+
+  operate-within : (u : Unary) (next x : ℕ) (f : ℕ → Parsed) → at < next → opens u s next ≡ x → ((q : ℕ) → Bounded s q (f q)) → Bounded s at (operate u s next x f)
+  operate-within u next zero f l e h = apply-within u next (f next) l (h next)
+  operate-within u next (suc q) f l e h = span-within (windowOf u) (suc q) (spanAt s (suc q)) f (omega (arith, sign-ends s next 91 q (opens-sign u s next q e))) refl h
+
   begin-within : (next : ℕ) (x : Start) (f g : ℕ → Parsed) → at < next → ((q : ℕ) → Bounded s q (f q)) → ((q : ℕ) → Bounded s q (g q)) → Bounded s at (begin s next x f g)
   begin-within next Start.bracket f g b h k = close-within next (g next) b (k next)
-  begin-within next (Start.operator u) f g b h k = apply-within u next (f next) b (h next)
+  begin-within next (Start.operator u) f g b h k = operate-within u next (opens u s next) f b refl h
   begin-within next Start.nothing f g b h k = tt
 
   lead-within : (t : Token) (f g : ℕ → Parsed) → Ends s at t → ((q : ℕ) → Bounded s q (f q)) → ((q : ℕ) → Bounded s q (g q)) → Bounded s at (lead s t f g)
@@ -183,9 +331,20 @@ module _ (s : List ℕ) (at : ℕ) where
   pair-same o Parsed.fail f g h k = refl
   pair-same o (Parsed.part p next) f g h k = goOn-same o p next (signAt s next (sign o)) f g h refl k
 
+  span-same : (w : Window) (q : ℕ) (x : Spanned) (f g : ℕ → Parsed) → at < q → spanAt s q ≡ x → Same s at f g → overSpan w x f ≡ overSpan w x g
+  span-same w q Spanned.fail f g l e h = refl
+  span-same w q (Spanned.span a b end) f g l e h =
+      let k = span-ends s q a b end e in
+      ap (applyWindow w a b) (h end (omega arith) (k .1))
+
+  operate-same : (u : Unary) (next x : ℕ) (f g : ℕ → Parsed) → (at < next) × (next ≤ length s) → opens u s next ≡ x → Same s at f g → operate u s next x f ≡ operate u s next x g
+  operate-same u next zero f g b e h = ap (apply u) (h next (b .0) (b .1))
+  operate-same u next (suc q) f g b e h =
+      span-same (windowOf u) (suc q) (spanAt s (suc q)) f g (omega (arith, sign-ends s next 91 q (opens-sign u s next q e))) refl h
+
   begin-same : (next : ℕ) (x : Start) (f f′ g g′ : ℕ → Parsed) → (at < next) × (next ≤ length s) → Same s at f f′ → Same s at g g′ → begin s next x f g ≡ begin s next x f′ g′
   begin-same next Start.bracket f f′ g g′ b h k = ap (close s) (k next (b .0) (b .1))
-  begin-same next (Start.operator u) f f′ g g′ b h k = ap (apply u) (h next (b .0) (b .1))
+  begin-same next (Start.operator u) f f′ g g′ b h k = operate-same u next (opens u s next) f f′ b refl h
   begin-same next Start.nothing f f′ g g′ b h k = refl
 
   lead-same : (t : Token) (f f′ g g′ : ℕ → Parsed) → Ends s at t → Same s at f f′ → Same s at g g′ → lead s t f g ≡ lead s t f′ g′

@@ -11,14 +11,15 @@ use lib.ListN.{length, getD, drop, take, replicate, length-drop, length-append, 
 use lib.Seq.{drop-cons, drop-drop, drop-append-seam, getD-drop, getD-take, length-take-le}
 use lib.Dec.{eqb}
 use borrow.Author.Tests.{eqb-true, ne-eqb}
-use Rattle.rules.specs.Rule.{Unary, Binary, Rule}
+use Rattle.rules.specs.Rule.{Unary, Binary, Window, Rule}
 use Rattle.rules.specs.Rule.Unary.{not, eventually, always}
 use Rattle.rules.specs.Rule.Binary.{and, or, implies, until}
-use Rattle.rules.specs.Grammar.{Level, Numeral, Phrase, sign, prefix}
-use Rattle.rules.specs.Grammar.Level.{of}
-use Rattle.rules.specs.Reading.Lexer.{Token, spaces, digits, value, start, tokenFrom, tokenAt, signAt, Numeric, IsAtom, token-sign, token-atom, token-past, sign-token, sign-is, atom-is, digits-le}
+use Rattle.rules.specs.Rule.Window.{within, throughout}
+use Rattle.rules.specs.Grammar.{Level, Numeral, Number, Span, Phrase, sign, prefix, letter}
+use Rattle.rules.specs.Grammar.Level.{of, single}
+use Rattle.rules.specs.Reading.Lexer.{Token, spaces, digits, value, isDigit, digit-true, start, tokenFrom, tokenAt, signAt, numberAt, atomAt, Numeric, IsAtom, IsNumber, pastSign, number-is, number-at, sign-other, token-sign, token-atom, token-past, sign-token, sign-is, atom-is, digits-le}
 use Rattle.rules.specs.Reading.Numerals.{digits-append, value-none, front, numeral-run, run-numeral}
-use Rattle.rules.specs.Reading.Parser.{Start, startOf, starting, unaryOf}
+use Rattle.rules.specs.Reading.Parser.{Start, startOf, starting, unaryOf, Spanned, spanAt, opens, windowOf, opens-sign, IsSpan, span-is, is-span}
 use Rattle.rules.specs.Reading.Derivation.{Derives}
 
 -- ---- positions
@@ -63,6 +64,16 @@ sign-here s at c z e ns na =
 sign-from : (s : List ℕ) (p at c : ℕ) (z : List ℕ) → drop at s ≡ c ∷ z → (c ≡ 32 → ⊥) → (c ≡ 97 → ⊥) → start s p ≡ start s at → signAt s p c ≡ suc at
 sign-from s p at c z e ns na f = token-past s p c (suc at) (token-start s p at f ∙ sign-here s at c z e ns na)
 
+first-no-space : (c n : ℕ) (ds : List ℕ) (b : Bool) → isDigit c ≡ b → cond b (suc n) 0 ≡ suc (length ds) → c ≡ 32 → ⊥
+first-no-space c n ds true e h f = let k = digit-true c e in omega arith
+first-no-space c n ds false e h f = omega arith
+
+-- a numeral begins with no space
+numeral-no-space : (ds rest : List ℕ) → digits ds ≡ length ds → 1 ≤ length ds → spaces (ds ++ rest) ≡ 0
+unfolding digits
+numeral-no-space [] rest h l = absurd (omega arith)
+numeral-no-space (c ∷ ds) rest h l = no-space c (ds ++ rest) (first-no-space c (digits ds) ds (isDigit c) refl h)
+
 -- the letter a and a numeral, with no digit behind, are an atom
 atom-here : (s : List ℕ) (at : ℕ) (ds rest : List ℕ) (a : ℕ) → drop at s ≡ 97 ∷ (ds ++ rest) → digits rest ≡ 0 → Numeral ds a → tokenAt s at ≡ Token.atom a (at + 1 + length ds)
 atom-here s at ds rest a e z n =
@@ -76,6 +87,19 @@ atom-here s at ds rest a e z n =
     record { one-up = omega (arith, r .numeric .one-up); no-zero = λ l g. r .numeric .no-zero (omega arith) (sym first ∙ g) } in
     token-atom s at at (start-here s at 97 (ds ++ rest) e (omega arith)) (at-inside s at 97 (ds ++ rest) e) (at-first s at (97 ∷ (ds ++ rest)) e) numeric
     ∙ ap (λ (x : ℕ). Token.atom x (at + 1 + digits (drop (at + 1) s))) val ∙ ap (λ (x : ℕ). Token.atom a (at + 1 + x)) len
+
+-- a numeral, with no digit behind, is a number
+numeral-here : (s : List ℕ) (at : ℕ) (ds rest : List ℕ) (a : ℕ) → drop at s ≡ ds ++ rest → digits rest ≡ 0 → Numeral ds a → numberAt s at ≡ Token.atom a (at + length ds)
+numeral-here s at ds rest a e z n =
+    let r = numeral-run n in
+    let k = digits-append ds rest 0 (r .all) in
+    let len : digits (drop at s) ≡ length ds = ap digits e ∙ k .0 ∙ omega arith in
+    let val : value 0 (drop at s) ≡ a = ap (value 0) e ∙ k .1 ∙ value-none rest (value 0 ds) z ∙ sym (r .number) in
+    let first : getD s at 0 ≡ getD ds 0 0 = at-first s at (ds ++ rest) e ∙ List·getD-append ds rest 0 0 (r .numeric .one-up) in
+    let numeric : Numeric (digits (drop at s)) (getD s at 0) =
+    record { one-up = omega (arith, r .numeric .one-up); no-zero = λ l g. r .numeric .no-zero (omega arith) (sym first ∙ g) } in
+    let here : at ≡ start s at = omega (arith, ap spaces e, numeral-no-space ds rest (r .all) (r .numeric .one-up)) in
+    number-at s at at here numeric ∙ ap (λ (x : ℕ). Token.atom x (at + digits (drop at s))) val ∙ ap (λ (x : ℕ). Token.atom a (at + x)) len
 
 -- ---- a phrase is a derivation
 
@@ -96,12 +120,21 @@ no-digit : (z : List ℕ) → (digits (41 ∷ z) ≡ 0) × (digits (32 ∷ z) �
 unfolding digits
 no-digit z = (refl, refl)
 
+no-figure : (z : List ℕ) → (digits (44 ∷ z) ≡ 0) × (digits (93 ∷ z) ≡ 0)
+unfolding digits
+no-figure z = (refl, refl)
+
+number-start : (s : List ℕ) (p q : ℕ) → start s p ≡ start s q → numberAt s p ≡ numberAt s q
+unfolding numberAt
+number-start s p q e = ap (atomAt s) e
+
 -- a derivation starts at the token, from any space before it
 shift : {s : List ℕ} {l : Level} {at next : ℕ} {p : Rule} → Derives s l at next p → (q : ℕ) → tokenAt s q ≡ tokenAt s at → Derives s l q next p
 shift (Derives.alone d) q e = Derives.alone (shift d q e)
 shift (Derives.joined d f g) q e = Derives.joined (shift d q e) f g
 shift (Derives.number f) q e = Derives.number (e ∙ f)
-shift (Derives.prefixed f g d) q e = Derives.prefixed (e ∙ f) g d
+shift (Derives.prefixed f g o d) q e = Derives.prefixed (e ∙ f) g o d
+shift (Derives.timed f g o k d) q e = Derives.timed (e ∙ f) g o k d
 shift (Derives.bracket f g d h) q e = Derives.bracket (e ∙ f) g d h
 
 -- a derivation from `at` on whose end has only spaces before `past`
@@ -109,6 +142,94 @@ pub record Placed (s : List ℕ) (l : Level) (at past : ℕ) (p : Rule) : Type 0
   pub next : ℕ
   pub derives : Derives s l at next p
   pub ends : start s next ≡ start s past
+
+-- a number, and the spaces about it
+number-placed : {x : List ℕ} {n : ℕ} → Number x n → (s : List ℕ) (at : ℕ) (rest : List ℕ) → drop at s ≡ x ++ rest → digits rest ≡ 0 →
+    (next : ℕ) × (numberAt s at ≡ Token.atom n next) × (start s next ≡ start s (at + length x))
+number-placed (Number.numeral {ds} {n} m) s at rest e z = (at + length ds, numeral-here s at ds rest n e z m, refl)
+number-placed (Number.space-before {s = w} {n} d) s at rest e z =
+    let g = number-placed d s (suc at) rest (drop-next s at 32 (w ++ rest) e) z in
+    (g .0, number-start s at (suc at) (start-later s at (w ++ rest) e) ∙ g .1, g .2 ∙ ap (start s) (omega arith))
+number-placed (Number.space-after {s = w} {n} d) s at rest e z =
+    let e₁ : drop at s ≡ w ++ (32 ∷ rest) = e ∙ append-assoc w (32 ∷ []) rest in
+    let g = number-placed d s at (32 ∷ rest) e₁ (no-digit rest .1) in
+    let e₂ = drop-past s at w (32 ∷ rest) e₁ in
+    (g .0, g .1, g .2 ∙ start-later s (at + length w) rest e₂ ∙ ap (start s) (omega (arith, length-append w (32 ∷ []))))
+
+-- a window
+span-placed : {x : List ℕ} {a b : ℕ} → Span x a b → (s : List ℕ) (at : ℕ) (rest : List ℕ) → drop at s ≡ x ++ rest →
+    (q : ℕ) × (signAt s at 91 ≡ suc q) × (spanAt s (suc q) ≡ Spanned.span a b (at + length x))
+span-placed (Span.span {s = x} {t = y} {a} {b} m n) s at rest e =
+    let e₀ : drop at s ≡ 91 ∷ (x ++ (44 ∷ (y ++ (93 ∷ rest)))) = e ∙ ap (λ (l : List ℕ). 91 ∷ l) (simp append-assoc) in
+    let e₁ = drop-next s at 91 (x ++ (44 ∷ (y ++ (93 ∷ rest)))) e₀ in
+    let g = number-placed m s (suc at) (44 ∷ (y ++ (93 ∷ rest))) e₁ (no-figure (y ++ (93 ∷ rest)) .0) in
+    let e₂ = drop-past s (suc at) x (44 ∷ (y ++ (93 ∷ rest))) e₁ in
+    let c = suc at + length x in
+    let e₃ = drop-next s c 44 (y ++ (93 ∷ rest)) e₂ in
+    let h = number-placed n s (suc c) (93 ∷ rest) e₃ (no-figure rest .1) in
+    let e₄ = drop-past s (suc c) y (93 ∷ rest) e₃ in (
+      at,
+      sign-from s at at 91 (x ++ (44 ∷ (y ++ (93 ∷ rest)))) e₀ (omega arith) (omega arith) refl,
+      is-span s (suc at) a b (at + length (91 ∷ (x ++ (44 ∷ (y ++ (93 ∷ []))))))
+          (record {
+            first-end = g .0;
+            first-is = g .1;
+            comma = c;
+            comma-is = sign-from s (g .0) c 44 (y ++ (93 ∷ rest)) e₂ (omega arith) (omega arith) (g .2);
+            second-end = h .0;
+            second-is = h .1;
+            close = suc c + length y;
+            close-is = sign-from s (h .0) (suc c + length y) 93 rest e₄ (omega arith) (omega arith) (h .2);
+            past = omega (arith, length-append x (44 ∷ (y ++ (93 ∷ []))), length-append y (93 ∷ []));
+          }),
+    )
+span-placed (Span.space-before {s = w} {a} {b} d) s at rest e =
+    let g = span-placed d s (suc at) rest (drop-next s at 32 (w ++ rest) e) in (
+      g .0,
+      token-past s at 91 (suc (g .0)) (token-start s at (suc at) (start-later s at (w ++ rest) e) ∙ sign-token s (suc at) 91 (g .0) (g .1)),
+      g .2 ∙ ap (Spanned.span a b) (omega arith),
+    )
+
+-- a Single begins with no opening bracket of a window
+sign-begins : (b next : ℕ) (c : Bool) → eqb b 91 ≡ c → (startOf b ≡ Start.nothing → ⊥) → cond c next 0 ≡ 0
+sign-begins b next true e f = absurd (f (ap startOf (eqb-true b 91 e)))
+sign-begins b next false e f = refl
+
+not-open : (s : List ℕ) (at b next : ℕ) → tokenAt s at ≡ Token.sign b next → (startOf b ≡ Start.nothing → ⊥) → signAt s at 91 ≡ 0
+unfolding signAt
+not-open s at b next e f = ap (pastSign 91) e ∙ sign-begins b next (eqb b 91) refl f
+
+some-start : {x : Start} (b : ℕ) → startOf b ≡ x → (x ≡ Start.nothing → ⊥) → startOf b ≡ Start.nothing → ⊥
+some-start b e f h = f (sym e ∙ h)
+
+single-open : {s : List ℕ} {at next : ℕ} {p : Rule} → Derives s single at next p → signAt s at 91 ≡ 0
+unfolding signAt
+single-open {s} {at} (Derives.number {a} e) = ap (pastSign 91) e
+single-open {s} {at} (Derives.prefixed {b} {next = q} {u} e f o d) = not-open s at b q e (some-start b f (λ h. let z : _≡_ {A = ℕ} 0 1 = cc in omega arith))
+single-open {s} {at} (Derives.timed {b} {next = q} {u} e f o k d) = not-open s at b q e (some-start b f (λ h. let z : _≡_ {A = ℕ} 0 1 = cc in omega arith))
+single-open {s} {at} (Derives.bracket {b} {next = q} e f d g) = not-open s at b q e (some-start b f (λ h. let z : _≡_ {A = ℕ} 0 1 = cc in omega arith))
+
+no-window : (u : Unary) (s : List ℕ) (at : ℕ) → signAt s at 91 ≡ 0 → opens u s at ≡ 0
+no-window not s at e = refl
+no-window eventually s at e = e
+no-window always s at e = e
+
+-- the operator of a window's letter
+abbrev plain : Window → Unary
+plain within = eventually
+plain throughout = always
+
+letter-sign : (w : Window) → (letter w ≡ 32 → ⊥) × (letter w ≡ 97 → ⊥) × (startOf (letter w) ≡ Start.operator (plain w))
+letter-sign within = (omega arith, omega arith, refl)
+letter-sign throughout = (omega arith, omega arith, refl)
+
+plain-opens : (w : Window) (s : List ℕ) (at q : ℕ) → signAt s at 91 ≡ suc q → opens (plain w) s at ≡ suc q
+plain-opens within s at q e = e
+plain-opens throughout s at q e = e
+
+window-plain : (w : Window) → windowOf (plain w) ≡ w
+window-plain within = refl
+window-plain throughout = refl
 
 pub placed : {l : Level} {w : List ℕ} {p : Rule} → Phrase l w p → (s : List ℕ) (at : ℕ) (rest : List ℕ) → drop at s ≡ w ++ rest → digits rest ≡ 0 → Placed s l at (at + length w) p
 placed (Phrase.alone d) s at rest e z =
@@ -130,7 +251,19 @@ placed (Phrase.number {ds} {a} n) s at rest e z =
 placed (Phrase.prefixed {u} {s = w} {p} d) s at rest e z =
     let k = prefix-sign u in
     let g = placed d s (suc at) rest (drop-next s at (prefix u) (w ++ rest) e) z in
-    record { next = g .next; derives = Derives.prefixed (sign-here s at (prefix u) (w ++ rest) e (k .0) (k .1)) (k .2) (g .derives); ends = g .ends ∙ ap (start s) (omega arith) }
+    record { next = g .next; derives = Derives.prefixed (sign-here s at (prefix u) (w ++ rest) e (k .0) (k .1)) (k .2) (no-window u s (suc at) (single-open (g .derives))) (g .derives); ends = g .ends ∙ ap (start s) (omega arith) }
+placed (Phrase.timed {w = i} {s = x} {t = y} {a} {b} {p} m d) s at rest e z =
+    let k = letter-sign i in
+    let e₀ : drop at s ≡ letter i ∷ (x ++ (y ++ rest)) = e ∙ ap (λ (l : List ℕ). letter i ∷ l) (append-assoc x y rest) in
+    let e₁ = drop-next s at (letter i) (x ++ (y ++ rest)) e₀ in
+    let h = span-placed m s (suc at) (y ++ rest) e₁ in
+    let g = placed d s (suc at + length x) rest (drop-past s (suc at) x (y ++ rest) e₁) z in
+    record {
+      next = g .next;
+      derives = subst (λ (v : Window). Derives s single at (g .next) (Rule.windowed v a b p)) (window-plain i)
+          (Derives.timed (sign-here s at (letter i) (x ++ (y ++ rest)) e₀ (k .0) (k .1)) (k .2) (plain-opens i s (suc at) (h .0) (h .1)) (h .2) (g .derives));
+      ends = g .ends ∙ ap (start s) (omega (arith, length-append x y));
+    }
 placed (Phrase.bracket {s = w} {p} d) s at rest e z =
     let e₀ : drop at s ≡ 40 ∷ (w ++ (41 ∷ rest)) = e ∙ ap (λ (l : List ℕ). 40 ∷ l) (append-assoc w (41 ∷ []) rest) in
     let e₁ = drop-next s at 40 (w ++ (41 ∷ rest)) e₀ in
@@ -157,6 +290,7 @@ before (Phrase.alone d) = Phrase.alone (before d)
 before (Phrase.joined d f) = Phrase.joined (before d) f
 before (Phrase.number n) = Phrase.space-before (Phrase.number n)
 before (Phrase.prefixed d) = Phrase.space-before (Phrase.prefixed d)
+before (Phrase.timed m d) = Phrase.space-before (Phrase.timed m d)
 before (Phrase.bracket d) = Phrase.space-before (Phrase.bracket d)
 before (Phrase.space-before d) = Phrase.space-before (Phrase.space-before d)
 before (Phrase.space-after d) = Phrase.space-before (Phrase.space-after d)
@@ -166,6 +300,7 @@ after (Phrase.alone d) = Phrase.alone (after d)
 after (Phrase.joined {o} {s = x} {t = y} {p} {q} d f) = subst (λ (w : List ℕ). Phrase (of o) w (Rule.binary o p q)) (sym (append-assoc x (sign o ∷ y) (32 ∷ []))) (Phrase.joined d (after f))
 after (Phrase.number n) = Phrase.space-after (Phrase.number n)
 after (Phrase.prefixed d) = Phrase.space-after (Phrase.prefixed d)
+after (Phrase.timed m d) = Phrase.space-after (Phrase.timed m d)
 after (Phrase.bracket d) = Phrase.space-after (Phrase.bracket d)
 after (Phrase.space-before d) = Phrase.space-after (Phrase.space-before d)
 after (Phrase.space-after d) = Phrase.space-after (Phrase.space-after d)
@@ -237,6 +372,68 @@ front-numeral s i a next g =
       number = g .number ∙ sym (k .number);
     })
 
+-- a number, with the spaces before it
+spaced : {ds : List ℕ} {n : ℕ} (k : ℕ) → Numeral ds n → Number (replicate k 32 ++ ds) n
+spaced zero m = Number.numeral m
+spaced (suc k) m = Number.space-before (spaced k m)
+
+spaced-after : {x : List ℕ} {n : ℕ} (k : ℕ) → Number x n → Number (x ++ replicate k 32) n
+spaced-after {x} {n} zero d = subst (λ (y : List ℕ). Number y n) (sym (append-nil x)) d
+spaced-after {x} {n} (suc k) d = subst (λ (y : List ℕ). Number y n) (append-assoc x (32 ∷ []) (replicate k 32)) (spaced-after k (Number.space-after d))
+
+number-worded : (s : List ℕ) (at a next : ℕ) → numberAt s at ≡ Token.atom a next → (x : List ℕ) × (drop at s ≡ x ++ drop next s) × Number x a
+number-worded s at a next e =
+    let g = number-is s at a next e in
+    let i = start s at in
+    let l = drop i s in
+    let f = front l 0 in
+    let m : length (take (digits l) l) ≡ digits l = length-take-le (digits l) l (digits-le l) in
+    let n = g .numeric in
+    let first : 1 ≤ digits l → getD (take (digits l) l) 0 0 ≡ getD s i 0 = λ h. getD-take (digits l) l 0 0 h ∙ getD-drop i s 0 0 ∙ ap (λ (j : ℕ). getD s j 0) (add-zero i) in
+    let numeral : Numeral (take (digits l) l) a =
+    run-numeral (record {
+      all = f .count ∙ sym m;
+      numeric = record { one-up = omega arith; no-zero = λ h e. n .no-zero (omega arith) (sym (first (omega arith)) ∙ e) };
+      number = g .number ∙ sym (f .number);
+    }) in
+    let k = spaces (drop at s) in (
+      replicate k 32 ++ take (digits l) l,
+      spaces-split (drop at s)
+          ∙ ap (λ (x : List ℕ). replicate k 32 ++ x)
+          (drop-drop k at s ∙ sym (take-append-drop (digits l) l) ∙ ap (λ (x : List ℕ). take (digits l) l ++ x) (drop-drop (digits l) i s ∙ ap (λ (j : ℕ). drop j s) (sym (g .past))))
+          ∙ sym (append-assoc (replicate k 32) (take (digits l) l) (drop next s)),
+      spaced k numeral,
+    )
+
+spaces-span : {x : List ℕ} {a b : ℕ} (k : ℕ) → Span x a b → Span (replicate k 32 ++ x) a b
+spaces-span zero d = d
+spaces-span (suc k) d = Span.space-before (spaces-span k d)
+
+-- a window, from the letter before it
+span-worded : (s : List ℕ) (at q a b next : ℕ) → signAt s at 91 ≡ suc q → spanAt s (suc q) ≡ Spanned.span a b next → (x : List ℕ) × (drop at s ≡ x ++ drop next s) × Span x a b
+span-worded s at q a b next o e =
+    let g = span-is s (suc q) a b next e in
+    let m = number-worded s (suc q) a (g .first-end) (g .first-is) in
+    let n = number-worded s (suc (g .comma)) b (g .second-end) (g .second-is) in
+    let k = spaces (drop at s) in
+    let i = spaces (drop (g .first-end) s) in
+    let j = spaces (drop (g .second-end) s) in
+    let last : drop (g .second-end) s ≡ replicate j 32 ++ (93 ∷ drop next s) =
+    sign-split s (g .second-end) 93 (suc (g .close)) (sign-token s (g .second-end) 93 (g .close) (g .close-is)) ∙ ap (λ (x : ℕ). replicate j 32 ++ (93 ∷ drop x s)) (sym (g .past)) in
+    let second : drop (g .first-end) s ≡ replicate i 32 ++ (44 ∷ (n .0 ++ (replicate j 32 ++ (93 ∷ drop next s)))) =
+    sign-split s (g .first-end) 44 (suc (g .comma)) (sign-token s (g .first-end) 44 (g .comma) (g .comma-is))
+    ∙ ap (λ (x : List ℕ). replicate i 32 ++ (44 ∷ x)) (n .1 ∙ ap (λ (x : List ℕ). n .0 ++ x) last) in (
+      replicate k 32 ++ (91 ∷ ((m .0 ++ replicate i 32) ++ (44 ∷ ((n .0 ++ replicate j 32) ++ (93 ∷ []))))),
+      sign-split s at 91 (suc q) (sign-token s at 91 q o)
+          ∙ ap (λ (x : List ℕ). replicate k 32 ++ (91 ∷ x)) (m .1 ∙ ap (λ (x : List ℕ). m .0 ++ x) second) ∙ simp append-assoc,
+      spaces-span k (Span.span (spaced-after i (m .2)) (spaced-after j (n .2))),
+    )
+
+letter-prefix : (u : Unary) (s : List ℕ) (at q : ℕ) → opens u s at ≡ suc q → prefix u ≡ letter (windowOf u)
+letter-prefix not s at q e = absurd (omega arith)
+letter-prefix eventually s at q e = refl
+letter-prefix always s at q e = refl
+
 pub worded : {s : List ℕ} {l : Level} {at next : ℕ} {p : Rule} → Derives s l at next p → Worded s l at next p
 worded (Derives.alone d) = let g = worded d in record { word = g .word; splits = g .splits; phrase = Phrase.alone (g .phrase) }
 worded {s} (Derives.joined {o} {at} {next} {q} {end} {p} {r} d e f) =
@@ -259,7 +456,7 @@ worded {s} (Derives.number {a} {at} {next} e) =
           ∙ sym (append-assoc (replicate (spaces (drop at s)) 32) (97 ∷ take (digits l) l) (drop next s));
       phrase = all-before (spaces (drop at s)) (Phrase.number (front-numeral s i a next g));
     }
-worded {s} (Derives.prefixed {b} {at} {next} {end} {u} {p} e f d) =
+worded {s} (Derives.prefixed {b} {at} {next} {end} {u} {p} e f o d) =
     let h = worded d in
     let k = spaces (drop at s) in
     record {
@@ -268,6 +465,17 @@ worded {s} (Derives.prefixed {b} {at} {next} {end} {u} {p} e f d) =
           ∙ ap (λ (c : ℕ). replicate k 32 ++ (c ∷ drop next s)) (start-operator b u (eqb b 40) (unaryOf b) refl f)
           ∙ ap (λ (l : List ℕ). replicate k 32 ++ (prefix u ∷ l)) (h .splits) ∙ sym (append-assoc (replicate k 32) (prefix u ∷ h .word) (drop end s));
       phrase = all-before k (Phrase.prefixed (h .phrase));
+    }
+worded {s} (Derives.timed {b} {at} {next} {q} {i} {j} {past} {end} {u} {p} e f o m d) =
+    let h = worded d in
+    let k = spaces (drop at s) in
+    let g = span-worded s next q i j past (opens-sign u s next q o) m in
+    record {
+      word = replicate k 32 ++ (letter (windowOf u) ∷ (g .0 ++ h .word));
+      splits = sign-split s at b next e
+          ∙ ap (λ (c : ℕ). replicate k 32 ++ (c ∷ drop next s)) (start-operator b u (eqb b 40) (unaryOf b) refl f ∙ letter-prefix u s next q o)
+          ∙ ap (λ (l : List ℕ). replicate k 32 ++ (letter (windowOf u) ∷ l)) (g .1 ∙ ap (λ (l : List ℕ). g .0 ++ l) (h .splits)) ∙ simp append-assoc;
+      phrase = all-before k (Phrase.timed (g .2) (h .phrase));
     }
 worded {s} (Derives.bracket {b} {at} {next} {end} {q} {p} e f d g) =
     let h = worded d in

@@ -12,7 +12,7 @@ use lib.ListN.{length, getD}
 use lib.IntN.{ℤ, pos}
 use Rattle.rules.specs.RuleSize.{size-positive}
 use Rattle.rules.specs.Quantities.{SlotsAllowed, AtomsAllowed}
-use Rattle.rules.specs.Rule.{Rule, size, AtomsBelow}
+use Rattle.rules.specs.Rule.{Rule, size, AtomsBelow, WindowsAllowed}
 use Rattle.rules.specs.Grammar.{Says}
 use Rattle.rules.specs.Reading.{reading, reading-sound, reading-complete, one-reading}
 use Rattle.rules.specs.Table.{Node, Good, tableBytes, nodesOf, ruleAt, root}
@@ -27,8 +27,8 @@ use Rattle.rules.specs.Refusals.{RunGood, TextRefused, ReadRefused, Tabl
 use Rattle.rules.specs.Demands.{OnlyTheTruth, Demand3At, Demand3}
 use Rattle.rules.specs.Demands.Answer.{answered}
 use Rattle.rules.specs.Demands.Written.{wrote}
-use Rattle.rules.specs.Outcome.{between, atomsBelow, readOutcome, rowsOutcome, truthBytes, evaluateOutcome}
-use Rattle.rules.specs.Exactness.Tests.{between-true, between-false, atoms-true, failed, passes}
+use Rattle.rules.specs.Outcome.{between, atomsBelow, windowsGood, readOutcome, rowsOutcome, truthBytes, evaluateOutcome}
+use Rattle.rules.specs.Exactness.Tests.{between-true, between-false, atoms-true, windows-true, failed, passes}
 use Rattle.rules.specs.Exactness.Read.{read-exact}
 use Rattle.rules.specs.Exactness.Rows.{rows-exact}
 use Rattle.rules.specs.Exactness.Evaluate.{evaluate-exact, truth-byte, bytes-are}
@@ -40,6 +40,7 @@ record Plain (M : ℕ) (text : List ℕ) : Type 0 where
   rule : Rule
   says : Says text rule
   atoms : AtomsBelow M rule
+  windows : WindowsAllowed rule
   nodes : size rule ≤ 128
 
 module _ (M : ℕ) (text : List ℕ) (ok : None (TextRefused M text)) where
@@ -50,6 +51,10 @@ module _ (M : ℕ) (text : List ℕ) (ok : None (TextRefused M text)) where
   atoms-below : (p : Rule) → Says text p → (b : Bool) → atomsBelow M p ≡ b → AtomsBelow M p
   atoms-below p s true e = atoms-true M p .0 (passes (atomsBelow M p) e)
   atoms-below p s false e = absurd (ok 5 (TextRefused.atom-high s (failed (atomsBelow M p) (atoms-true M p .1) e)))
+
+  windows-good : (p : Rule) → Says text p → (b : Bool) → windowsGood p ≡ b → WindowsAllowed p
+  windows-good p s true e = windows-true p .0 (passes (windowsGood p) e)
+  windows-good p s false e = absurd (ok 12 (TextRefused.window-bad s (failed (windowsGood p) (windows-true p .1) e)))
 
   few-nodes : (p : Rule) → Says text p → (b : Bool) → leb (size p) 128 ≡ b → size p ≤ 128
   few-nodes p s true e = leb-true (size p) 128 e
@@ -68,6 +73,7 @@ module _ (M : ℕ) (text : List ℕ) (ok : None (TextRefused M text)) where
             rule = p;
             says = s;
             atoms = atoms-below p s (atomsBelow M p) refl;
+            windows = windows-good p s (windowsGood p) refl;
             nodes = few-nodes p s (leb (size p) 128) refl;
           }
 
@@ -94,7 +100,7 @@ module _ (T M D : ℕ) (run : List ℕ) (slots : SlotsAllowed T) (runs : RunGood
   ns = nodesOf p
 
   good-table : Good M (tableBytes ns) ns
-  good-table = rule-good M p (q .atoms) (q .nodes)
+  good-table = rule-good M p (q .atoms) (q .windows) (q .nodes)
 
   length-ns : length ns ≡ size p
   length-ns = length-nodesFrom 0 p
@@ -109,47 +115,47 @@ module _ (T M D : ℕ) (run : List ℕ) (slots : SlotsAllowed T) (runs : RunGood
   table-ok k (TableRefused.not-good x) = x ns good-table
 
   module _ (room : ℕ) where
-    read-ok : 5 * size p ≤ room → None (ReadRefused M text room)
+    read-ok : 7 * size p ≤ room → None (ReadRefused M text room)
     read-ok h k (ReadRefused.text-refused x) = ok k x
     read-ok h k (ReadRefused.short {p = r} s x) = omega (arith, ap size (one-reading text p r (q .says) s))
 
-    rows-ok : 14 * length (rowsOf T M ns) ≤ room → None (RowsRefused T M (tableBytes ns) room)
+    rows-ok : length (rowsBytes (rowsOf T M ns)) ≤ room → None (RowsRefused T M (tableBytes ns) room)
     rows-ok h k (RowsRefused.table-refused x) = table-ok k x
-    rows-ok h k (RowsRefused.short {ns = ms} g x) = omega (arith, ap (λ (l : List Node). length (rowsOf T M l)) (same-nodes ms g))
+    rows-ok h k (RowsRefused.short {ns = ms} g x) = omega (arith, ap (λ (l : List Node). length (rowsBytes (rowsOf T M l))) (same-nodes ms g))
 
     evaluate-ok : size p * T ≤ room → None (EvaluateRefused T M (tableBytes ns) run room)
     evaluate-ok h k (EvaluateRefused.table-refused x) = table-ok k x
     evaluate-ok h k (EvaluateRefused.run-bad x) = x runs
     evaluate-ok h k (EvaluateRefused.short {ns = ms} g x) = omega (arith, ap (λ (l : List Node). length l * T) (same-nodes ms g), ap (λ (n : ℕ). n * T) length-ns)
 
-    read-is : 5 * size p ≤ room → readOutcome M text room ≡ answered (wrote (size p) (tableBytes ns))
+    read-is : 7 * size p ≤ room → readOutcome M text room ≡ answered (wrote (size p) (tableBytes ns))
     read-is h = read-exact M text room .answers (wrote (size p) (tableBytes ns)) .1 (read-ok h, (p, q .says, refl))
 
-    rows-are : 14 * length (rowsOf T M ns) ≤ room → rowsOutcome T M (tableBytes ns) room ≡ answered (wrote (length (rowsOf T M ns)) (rowsBytes (rowsOf T M ns)))
+    rows-are : length (rowsBytes (rowsOf T M ns)) ≤ room → rowsOutcome T M (tableBytes ns) room ≡ answered (wrote (length (rowsOf T M ns)) (rowsBytes (rowsOf T M ns)))
     rows-are h = rows-exact T M (tableBytes ns) room .answers (wrote (length (rowsOf T M ns)) (rowsBytes (rowsOf T M ns))) .1 (rows-ok h, (ns, good-table, refl))
 
     evaluate-is : size p * T ≤ room → evaluateOutcome T M (tableBytes ns) run room ≡ answered (wrote (bitOf (truth T run (ruleAt ns (root ns)) 1)) (truthBytes T run ns))
     evaluate-is h =
         evaluate-exact T M (tableBytes ns) run room .answers (wrote (bitOf (truth T run (ruleAt ns (root ns)) 1)) (truthBytes T run ns)) .1
-        (evaluate-ok h, (ns, bitOf (truth T run (ruleAt ns (root ns)) 1), truthBytes T run ns, good-table, bytes-are T run ns (slots .0), truth-byte T run (ruleAt ns (root ns)) 1, refl))
+        (evaluate-ok h, (ns, bitOf (truth T run (ruleAt ns (root ns)) 1), truthBytes T run ns, good-table, bytes-are T run ns (slots .0), truth-byte T run (ruleAt ns (root ns)) 1 (omega arith) (slots .0), refl))
 
   truthful : OnlyTheTruth T M D run ns (slackRows T M ns) (goalRow T M ns)
-  truthful = only-the-truth T M D run ns (nodes-good M p (q .atoms)) (slots .0) 0<D (omega (arith, length-ns, size-positive p))
+  truthful = only-the-truth T M D run ns (nodes-good M p (q .atoms) (q .windows)) (slots .0) 0<D (omega (arith, length-ns, size-positive p))
 
   at-bytes : Demand3At T M D run p (tableBytes ns) (length (rowsOf T M ns)) (rowsBytes (rowsOf T M ns)) (bitOf (truth T run (ruleAt ns (root ns)) 1)) (truthBytes T run ns)
   at-bytes = record {
     table-is = refl;
-    root-is = root-is M p (q .atoms);
+    root-is = root-is M p (q .atoms) (q .windows);
     rows = slackRows T M ns;
     goal = goalRow T M ns;
-    rows-read = rows-back (rowsOf T M ns) (rows-recordable T M ns);
+    rows-read = rows-back (rowsOf T M ns) (rows-recordable T M (slots .1) ns);
     truthful = truthful;
     evaluated = λ n t h l u.
         let k : n < length ns = omega (arith, length-ns) in
         byte-numerator (Holds (endless T run) (ruleAt ns n) t) D 0 (getD (truthBytes T run ns) (n * T + (t - 1)) 0) (valueAt (truthful .slacks) (n * T + (t - 1)))
         (bytes-are T run ns (slots .0) .at n t k l u) (truthful .one n t k l u) (truthful .zero n t k l u);
-    answered = subst (λ (r : Rule). (bitOf (truth T run (ruleAt ns (root ns)) 1) ≡ 1) ↔ Holds (endless T run) r 1) (root-is M p (q .atoms))
-        (byte-one-iff (Holds (endless T run) (ruleAt ns (root ns)) 1) (bitOf (truth T run (ruleAt ns (root ns)) 1)) (truth-byte T run (ruleAt ns (root ns)) 1));
+    answered = subst (λ (r : Rule). (bitOf (truth T run (ruleAt ns (root ns)) 1) ≡ 1) ↔ Holds (endless T run) r 1) (root-is M p (q .atoms) (q .windows))
+        (byte-one-iff (Holds (endless T run) (ruleAt ns (root ns)) 1) (bitOf (truth T run (ruleAt ns (root ns)) 1)) (truth-byte T run (ruleAt ns (root ns)) 1 (omega arith) (slots .0)));
   }
 
 pub demand3 : Demand3 readOutcome rowsOutcome evaluateOutcome

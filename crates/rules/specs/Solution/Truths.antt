@@ -128,9 +128,9 @@ module _ (T M D : ℕ) (run : List ℕ) (ns : List Node) (good : NodesGood M ns)
   pins y atoms (n, t) (h, l, u) top lower =
       subst (λ (v : ℕ). Every (Met D y) (own (n, t)) ↔ (y v ≡ scale D (want (n, t)))) (var n t)
       (rw (truth-now T M run ns good n t h u)
-      (pin-node T M D y n t (rw (var n t) top) (bitSet run t) (λ c. truth T run (ruleAt ns c) t) (truth T run (ruleAt ns n) (t + 1))
+      (pin-node T M D y n t l u (rw (var n t) top) (bitSet run t) (λ c. truth T run (ruleAt ns c)) (truth T run (ruleAt ns n) (t + 1))
       (λ a z. atoms (atomVariable T a t) (place-lt T M a t z l u) ∙ atom-scale T M D run a t z l u)
-      (λ c z. ap y (var c t) ∙ lower (c, t) (omega arith, l, u) (omega (arith, mul-le-mul-right T z)))
+      (λ c s z i j. ap y (var c s) ∙ lower (c, s) (omega arith, i, j) (omega (arith, mul-le-mul-right T z)))
       (λ e. let z = ltb→lt t T (rw e tt) in ap y (var n (t + 1)) ∙ lower (n, t + 1) (h, omega arith, omega arith) (omega arith))
       (nodeAt ns n) (good n h)))
 
@@ -192,7 +192,7 @@ module _ (T M D : ℕ) (run : List ℕ) (ns : List Node) (good : NodesGood M ns)
     slacks = numerators;
     fits = truths-fit Slack D A S (atomNumerators T M D run) (slackRows T M ns) sys;
     only = truths-only Slack D A S (atomNumerators T M D run) (slackRows T M ns) sys;
-    one = λ n t h l u x. numerator-is n t h l u ∙ ap pos (scale-true D (truth T run (ruleAt ns n) t) (truth-holds T run (ruleAt ns n) t .0 x));
-    zero = λ n t h l u x. numerator-is n t h l u ∙ ap pos (scale-false D (truth T run (ruleAt ns n) t) (λ z. x (truth-holds T run (ruleAt ns n) t .1 z)));
-    goal-met = Iff·trans (goal-at 0<D (root ns) 1 (omega arith) (omega arith) 0<T) (Iff·symm (truth-holds T run (ruleAt ns (root ns)) 1));
+    one = λ n t h l u x. numerator-is n t h l u ∙ ap pos (scale-true D (truth T run (ruleAt ns n) t) (truth-holds T run (ruleAt ns n) t l u .0 x));
+    zero = λ n t h l u x. numerator-is n t h l u ∙ ap pos (scale-false D (truth T run (ruleAt ns n) t) (λ z. x (truth-holds T run (ruleAt ns n) t l u .1 z)));
+    goal-met = Iff·trans (goal-at 0<D (root ns) 1 (omega arith) (omega arith) 0<T) (Iff·symm (truth-holds T run (ruleAt ns (root ns)) 1 (omega arith) 0<T));
   }

@@ -1,20 +1,23 @@
 -- `search::test_nodes` meets its contract. The loop's invariant: the rows of the nodes passed are tested. Assumes nothing.
-use mathlib.Core.Path.{_≡_, sym, ap, _∙_}
-use Prim.Native.Nat.{ℕ, _+_, _-_, _*_, _≤_}
+use mathlib.Core.Path.{_≡_, sym, ap, _∙_, subst⁻¹}
+use Prim.Native.Nat.{ℕ, _+_, _-_, _*_, _≤_, _<_}
 use native.Mathlib.Omega.{arith}
 use borrow.Author.Needs.{needs}
 use Rattle.lists.specs.Flat.{flat}
-use Rattle.rules.specs.TableTest.{nodesIn}
+use Rattle.rules.specs.Table.{NodeGood}
+use Rattle.rules.specs.TableTest.{nodesIn, recordCount}
 use Rattle.rules.specs.Judge.{shortfall}
 use Rattle.slotcheck.specs.declared.Search.{Search}
 use Rattle.slotcheck.specs.declared.Search.the-variants.{Clear}
 use Rattle.slotcheck.specs.Searches.{tested, tested-start, tested-more, reached, reached-start, over-rest}
-use Rattle.row.specs.NodeRows.{nodeRows, partRows, rowsTo, node-part}
+use Rattle.row.specs.Kinds.{allowed}
+use Rattle.row.specs.NodeRows.{partRows, rowsTo, node-part}
 use Rattle.search.proofs.test_nodes.Statement.{statement}
 use Rattle.search.proofs.test_nodes.Tie as tie
 
 abbrev Inv-loop : tie.InvT-loop
-Inv-loop table n t m figures e done₀ i₀ done i = (i ≤ n) × (done ≡ tested e (shortfall figures) (Clear 0) (flat (partRows t m (nodesIn table)) i)) × (reached done ≤ 256 * i)
+Inv-loop table n t m figures e done₀ i₀ done i =
+    (i ≤ n) × (done ≡ tested e (shortfall figures) (Clear 0) (flat (partRows t m (nodesIn table)) i)) × (reached done ≤ 4160 * i)
 
 abbrev μ-loop : tie.MeasureT-loop
 μ-loop table n t m figures e done₀ i₀ done i = n - i
@@ -23,55 +26,60 @@ loop-holds : tie.Need-loop-holds Inv-loop μ-loop
 loop-holds c = (omega arith, sym (tested-start _ _ _ _), omega (arith, reached-start))
 
 node-at-requires : tie.Need-node-at-requires Inv-loop μ-loop
-node-at-requires c κs = search needs
+node-at-requires c κs = let test = c .loop-test in omega (arith, c .before .before .before .pre .1)
 
 add-place : tie.Need-add-place Inv-loop μ-loop
-add-place c = search needs
+add-place c =
+    let x = c .before .before .before .before .args in
+    let y = c .before .before .before .before .pre .0 in
+    let l = c .before .before .loop in
+    let nd = c .node-at in
+    let test = c .before .loop-test in
+    let h : l .i < x .n = omega arith in
+    omega (arith, y .atoms-high, y .few-nodes, c .before .before .before .before .pre .1)
 
 place-requires : tie.Need-place-requires Inv-loop μ-loop
-place-requires c κs = search needs
+place-requires c κs =
+    let x = c .before .before .before .before .args in
+    let y = c .before .before .before .before .pre .0 in
+    let l = c .before .before .loop in
+    let nd = c .node-at in
+    let test = c .before .loop-test in
+    let h : l .i < x .n = omega arith in
+    omega (arith, y .atoms-high, y .few-nodes, y .slots-high, c .before .before .before .before .pre .1)
 
 left-part-requires : tie.Need-left-part-requires Inv-loop μ-loop
-left-part-requires c κs = search needs
+left-part-requires c κs = (c .before .before .before .before .before .pre .0 .atoms-high, c .before .node-at .ensures .left-byte)
 
 place-requires-2 : tie.Need-place-requires-2 Inv-loop μ-loop
-place-requires-2 c κs = search needs
+place-requires-2 c κs = (c .left-part .ensures .1, c .before .before .before .before .before .before .pre .0 .slots-high)
 
 add-place-2 : tie.Need-add-place-2 Inv-loop μ-loop
-add-place-2 c = search needs
+add-place-2 c = omega (arith, c .before .before .before .before .before .before .before .before .pre .0 .atoms-high, c .before .before .before .before .node-at .ensures .right-byte)
 
 place-requires-3 : tie.Need-place-requires-3 Inv-loop μ-loop
-place-requires-3 c κs = search needs
+place-requires-3 c κs = (omega (arith, c .before .before .before .before .before .before .before .before .pre .0 .atoms-high, c .before .before .before .before .node-at .ensures .right-byte), c .before .before .before .before .before .before .before .before .pre .0 .slots-high)
+
+cast-a : tie.Need-cast-a Inv-loop μ-loop
+cast-a c = omega (arith, c .before .before .before .before .before .before .node-at .ensures .from-byte)
+
+cast-b : tie.Need-cast-b Inv-loop μ-loop
+cast-b c = omega (arith, c .before .before .before .before .before .before .before .node-at .ensures .to-byte)
 
 cast-test-node : tie.Need-cast-test-node Inv-loop μ-loop
-cast-test-node c = search needs
-
--- what is tested is the node's part of the rows
-part : (c : tie.After-place3 Inv-loop μ-loop) →
-    nodeRows (c .before .before .before .before .before .node-at .result .kind) (c .before .before .before .before .before .before .before .before .before .args .t) (c .before .before .before .before .place .result) (c .before .before .place2 .result) (c .place3 .result)
-    ≡ partRows (c .before .before .before .before .before .before .before .before .before .args .t) (c .before .before .before .before .before .before .before .before .before .args .m) (nodesIn (c .before .before .before .before .before .before .before .before .before .args .table .now)) (c .before .before .before .before .before .before .before .loop .i)
-part c =
-    let two = c .before .before in
-    let nd = two .before .before .before in
-    let a = nd .before .before .before .before .args in
-    node-part (a .t) (a .m) (nodesIn (a .table .now)) (nd .before .before .loop .i) (nd .node-at .result .kind) (nd .node-at .result .left) (nd .node-at .result .right)
-    (nd .node-at .ensures .is) (two .before .before .place .ensures .0) (two .place2 .ensures .0 ∙ ap (λ (x : ℕ). x * a .t) (two .before .left-part .ensures .0)) (c .place3 .ensures .0)
+cast-test-node c = omega (arith, c .before .before .before .before .before .before .before .before .before .before .before .pre .0 .slots-high)
 
 test-node-requires : tie.Need-test-node-requires Inv-loop μ-loop
-test-node-requires c κs = omega arith
-
--- the rows of one node more are tested
-more : (c : tie.After-test-node Inv-loop μ-loop) →
-    let l = c .before .before .before .before .before .before .before .before in
-    let a = l .before .before .args in
-    c .test-node .result ≡ tested (a .e) (shortfall (a .figures .now)) (Clear 0) (flat (partRows (a .t) (a .m) (nodesIn (a .table .now))) (l .loop .i + 1))
-more c =
-    let l = c .before .before .before .before .before .before .before .before in
-    let a = l .before .before .args in
-    let f = shortfall (a .figures .now) in
-    let g = partRows (a .t) (a .m) (nodesIn (a .table .now)) in
-    c .test-node .ensures .0 ∙ ap (tested (a .e) f (l .loop .done)) (part (c .before)) ∙ ap (λ (x : Search). tested (a .e) f x (g (l .loop .i))) (l .loop .inv .1)
-    ∙ sym (tested-more (a .e) f (Clear 0) g (l .loop .i))
+test-node-requires c κs =
+    let x = c .before .before .before .before .before .before .before .before .before .before .before .args in
+    let y = c .before .before .before .before .before .before .before .before .before .before .before .pre .0 in
+    let l = c .before .before .before .before .before .before .before .before .before .loop in
+    let nd = c .before .before .before .before .before .before .before .node-at in
+    let test = c .before .before .before .before .before .before .before .before .loop-test in
+    let h : l .i < x .n = omega arith in
+    let k : l .i < recordCount (x .table .now) = omega (arith, c .before .before .before .before .before .before .before .before .before .before .before .pre .1) in
+    let w = allowed (x .m) (l .i) (nd .result .kind) (nd .result .left) (nd .result .right) (nd .result .from) (nd .result .to) (subst⁻¹ (NodeGood (x .m) (l .i)) (nd .ensures .is) (y .nodes (l .i) k)) in
+    (y .slots-high, c .before .before .before .before .before .before .place .ensures .1, c .before .before .before .before .place2 .ensures .1, c .before .before .place3 .ensures .1, w, omega (arith, l .inv .2, y .few-nodes, c .before .before .before .before .before .before .before .before .before .before .before .pre .1))
 
 is-over-requires : tie.Need-is-over-requires Inv-loop μ-loop
 is-over-requires c κs = search needs
@@ -79,33 +87,56 @@ is-over-requires c κs = search needs
 returns : tie.Need-returns Inv-loop μ-loop
 unfolding rowsTo
 returns c =
-    let k = c .before .before in
-    let turn = k .before .before .before .before .before .before .before in
-    let l = turn .before in
-    let a = l .before .before .args in
-    let test = turn .loop-test in
-    (over-rest (a .e) (shortfall (a .figures .now)) (Clear 0) (partRows (a .t) (a .m) (nodesIn (a .table .now))) (l .loop .i + 1) (a .n) (omega (arith, test)) (more k) (sym (c .before .is-over .ensures) ∙ c .if1 .taken), omega (arith, test, k .test-node .ensures .1))
+    let x = c .before .before .before .before .before .before .before .before .before .before .before .before .before .before .args in
+    let y = c .before .before .before .before .before .before .before .before .before .before .before .before .before .before .pre .0 in
+    let l = c .before .before .before .before .before .before .before .before .before .before .before .before .loop in
+    let nd = c .before .before .before .before .before .before .before .before .before .before .node-at in
+    let test = c .before .before .before .before .before .before .before .before .before .before .before .loop-test in
+    let h : l .i < x .n = omega arith in
+    let r = nd .result in
+    let part = node-part (x .t) (x .m) (nodesIn (x .table .now)) (l .i) (r .kind) (r .left) (r .right) (r .from) (r .to) (nd .ensures .is) (c .before .before .before .before .before .before .before .before .before .place .ensures .0) (c .before .before .before .before .before .before .before .place2 .ensures .0 ∙ ap (λ (n : ℕ). n * x .t) (c .before .before .before .before .before .before .before .before .left-part .ensures .0)) (c .before .before .before .before .before .place3 .ensures .0) in
+    let f = shortfall (x .figures .now) in
+    let g = partRows (x .t) (x .m) (nodesIn (x .table .now)) in
+    let o = c .before .before .test-node .ensures in
+    let more = o .0 ∙ ap (tested (x .e) f (l .done)) part ∙ ap (λ (z : Search). tested (x .e) f z (g (l .i))) (l .inv .1) ∙ sym (tested-more (x .e) f (Clear 0) g (l .i)) in
+    (over-rest (x .e) f (Clear 0) g (l .i + 1) (x .n) (omega arith) more (sym (c .before .is-over .ensures) ∙ c .if1 .taken), omega (arith, o .1, l .inv .2, h))
 
 add-i : tie.Need-add-i Inv-loop μ-loop
-add-i c = search needs
+add-i c =
+    let x = c .before .before .before .before .before .before .before .before .before .before .before .before .before .before .args in
+    let y = c .before .before .before .before .before .before .before .before .before .before .before .before .before .before .pre .0 in
+    let l = c .before .before .before .before .before .before .before .before .before .before .before .before .loop in
+    let nd = c .before .before .before .before .before .before .before .before .before .before .node-at in
+    let test = c .before .before .before .before .before .before .before .before .before .before .before .loop-test in
+    let h : l .i < x .n = omega arith in
+    omega (arith, y .few-nodes, c .before .before .before .before .before .before .before .before .before .before .before .before .before .before .pre .1)
 
 loop-less : tie.Need-loop-less Inv-loop μ-loop
-loop-less c = search needs
+loop-less c = let test = c .before .before .before .before .before .before .before .before .before .before .before .loop-test in omega arith
 
 loop-again : tie.Need-loop-again Inv-loop μ-loop
 loop-again c =
-    let k = c .before .before in
-    let turn = k .before .before .before .before .before .before .before in
-    let test = turn .loop-test in
-    (omega (arith, test), more k, omega (arith, turn .before .loop .inv .2, k .test-node .ensures .1))
+    let x = c .before .before .before .before .before .before .before .before .before .before .before .before .before .before .args in
+    let y = c .before .before .before .before .before .before .before .before .before .before .before .before .before .before .pre .0 in
+    let l = c .before .before .before .before .before .before .before .before .before .before .before .before .loop in
+    let nd = c .before .before .before .before .before .before .before .before .before .before .node-at in
+    let test = c .before .before .before .before .before .before .before .before .before .before .before .loop-test in
+    let h : l .i < x .n = omega arith in
+    let r = nd .result in
+    let part = node-part (x .t) (x .m) (nodesIn (x .table .now)) (l .i) (r .kind) (r .left) (r .right) (r .from) (r .to) (nd .ensures .is) (c .before .before .before .before .before .before .before .before .before .place .ensures .0) (c .before .before .before .before .before .before .before .place2 .ensures .0 ∙ ap (λ (n : ℕ). n * x .t) (c .before .before .before .before .before .before .before .before .left-part .ensures .0)) (c .before .before .before .before .before .place3 .ensures .0) in
+    let f = shortfall (x .figures .now) in
+    let g = partRows (x .t) (x .m) (nodesIn (x .table .now)) in
+    let o = c .before .before .test-node .ensures in
+    let more = o .0 ∙ ap (tested (x .e) f (l .done)) part ∙ ap (λ (z : Search). tested (x .e) f z (g (l .i))) (l .inv .1) ∙ sym (tested-more (x .e) f (Clear 0) g (l .i)) in
+    (omega arith, more, omega (arith, o .1, l .inv .2))
 
 returns-2 : tie.Need-returns-2 Inv-loop μ-loop
 unfolding rowsTo
 returns-2 c =
-    let l = c .before in
-    let a = l .before .before .args in
-    let e : l .loop .i ≡ a .n = omega arith in
-    (l .loop .inv .1 ∙ ap (λ (k : ℕ). tested (a .e) (shortfall (a .figures .now)) (Clear 0) (flat (partRows (a .t) (a .m) (nodesIn (a .table .now))) k)) e, omega arith)
+    let x = c .before .before .before .args in
+    let l = c .before .loop in
+    let e : l .i ≡ x .n = let test = c .loop-test in omega arith in
+    (l .inv .1 ∙ ap (λ (k : ℕ). tested (x .e) (shortfall (x .figures .now)) (Clear 0) (flat (partRows (x .t) (x .m) (nodesIn (x .table .now))) k)) e, omega (arith, l .inv .2))
 
 pub test-nodes-spec : {M : Type 1} → statement M
 test-nodes-spec =
@@ -121,6 +152,8 @@ test-nodes-spec =
     place-requires-2
     add-place-2
     place-requires-3
+    cast-a
+    cast-b
     cast-test-node
     test-node-requires
     is-over-requires

@@ -1,8 +1,12 @@
 -- `slotlines::put_slot` meets its contract. By the kind, and whether a slot follows. Assumes nothing.
-use mathlib.Core.Path.{refl}
+use mathlib.Core.Path.{refl, subst}
+use native.Mathlib.Omega.{arith}
 use Rattle.rowlines.specs.Texts.{lineOf}
 use Rattle.lines.specs.Sent.{sent-as}
-use Rattle.slotlines.specs.Each.{of-kind}
+use Rattle.rowlines.specs.Laws.{of-kind}
+use Rattle.slotlines.specs.Each.{Seen}
+use Rattle.table.specs.declared.Kind.{Kind}
+use Rattle.windowlines.specs.Over.{run}
 use borrow.Author.Needs.{needs}
 use Rattle.slotlines.proofs.put_slot.Statement.{statement}
 use Rattle.slotlines.proofs.put_slot.Tie as tie
@@ -70,6 +74,26 @@ put-until-requires c κs = search needs
 put-same-requires-4 : tie.Need-put-same-requires-4
 put-same-requires-4 c κs = search needs
 
+enum-told-9 : tie.Need-enum-told-9
+enum-told-9 c = search needs
+
+put-window-requires : tie.Need-put-window-requires
+put-window-requires c κs =
+    let k = c .before in
+    let s = k .before .before .before in
+    let w = subst (λ (x : Kind). Seen x (s .args .big) (s .args .first) (s .args .count)) (k .enum-told9 .given .1) (s .pre .4) in
+    (s .pre .0, s .pre .1, s .pre .2, w .0, w .1, w .2, s .pre .3)
+
+enum-told-10 : tie.Need-enum-told-10
+enum-told-10 c = search needs
+
+put-window-requires-2 : tie.Need-put-window-requires-2
+put-window-requires-2 c κs =
+    let k = c .before in
+    let s = k .before .before .before in
+    let w = subst (λ (x : Kind). Seen x (s .args .big) (s .args .first) (s .args .count)) (k .enum-told10 .given .1) (s .pre .4) in
+    (s .pre .0, s .pre .1, s .pre .2, w .0, w .1, w .2, s .pre .3)
+
 same-length : tie.Need-same-length
 same-length c = search needs
 
@@ -79,7 +103,7 @@ returns c =
     let k = w .before .before in
     let a = k .before .before .before .args in
     let p = w .put-same .ensures in
-    (sent-as (of-kind (lineOf (a .text)) (a .i) (a .big) (a .p) (a .q) (k .enum-told .given .1) refl) (p .0), p .1)
+    (sent-as (of-kind (lineOf (a .text)) (a .i) (a .big) (a .p) (a .q) (run (a .first) (a .count)) (k .enum-told .given .1) refl) (p .0), omega (arith, p .1))
 
 same-length-2 : tie.Need-same-length-2
 same-length-2 c = search needs
@@ -90,7 +114,7 @@ returns-2 c =
     let k = w .before .before in
     let a = k .before .before .before .args in
     let p = w .put-not .ensures in
-    (sent-as (of-kind (lineOf (a .text)) (a .i) (a .big) (a .p) (a .q) (k .enum-told2 .given .1) refl) (p .0), p .1)
+    (sent-as (of-kind (lineOf (a .text)) (a .i) (a .big) (a .p) (a .q) (run (a .first) (a .count)) (k .enum-told2 .given .1) refl) (p .0), omega (arith, p .1))
 
 same-length-3 : tie.Need-same-length-3
 same-length-3 c = search needs
@@ -101,7 +125,7 @@ returns-3 c =
     let k = w .before .before in
     let a = k .before .before .before .args in
     let p = w .put-and .ensures in
-    (sent-as (of-kind (lineOf (a .text)) (a .i) (a .big) (a .p) (a .q) (k .enum-told3 .given .1) refl) (p .0), p .1)
+    (sent-as (of-kind (lineOf (a .text)) (a .i) (a .big) (a .p) (a .q) (run (a .first) (a .count)) (k .enum-told3 .given .1) refl) (p .0), omega (arith, p .1))
 
 same-length-4 : tie.Need-same-length-4
 same-length-4 c = search needs
@@ -112,7 +136,7 @@ returns-4 c =
     let k = w .before .before in
     let a = k .before .before .before .args in
     let p = w .put-or .ensures in
-    (sent-as (of-kind (lineOf (a .text)) (a .i) (a .big) (a .p) (a .q) (k .enum-told4 .given .1) refl) (p .0), p .1)
+    (sent-as (of-kind (lineOf (a .text)) (a .i) (a .big) (a .p) (a .q) (run (a .first) (a .count)) (k .enum-told4 .given .1) refl) (p .0), omega (arith, p .1))
 
 same-length-5 : tie.Need-same-length-5
 same-length-5 c = search needs
@@ -123,7 +147,7 @@ returns-5 c =
     let k = w .before .before in
     let a = k .before .before .before .args in
     let p = w .put-implies .ensures in
-    (sent-as (of-kind (lineOf (a .text)) (a .i) (a .big) (a .p) (a .q) (k .enum-told5 .given .1) refl) (p .0), p .1)
+    (sent-as (of-kind (lineOf (a .text)) (a .i) (a .big) (a .p) (a .q) (run (a .first) (a .count)) (k .enum-told5 .given .1) refl) (p .0), omega (arith, p .1))
 
 same-length-6 : tie.Need-same-length-6
 same-length-6 c = search needs
@@ -135,7 +159,7 @@ returns-6 c =
     let k = t .before in
     let a = k .before .before .before .args in
     let p = w .put-or2 .ensures in
-    (sent-as (of-kind (lineOf (a .text)) (a .i) (a .big) (a .p) (a .q) (k .enum-told6 .given .1) (t .if1 .taken)) (p .0), p .1)
+    (sent-as (of-kind (lineOf (a .text)) (a .i) (a .big) (a .p) (a .q) (run (a .first) (a .count)) (k .enum-told6 .given .1) (t .if1 .taken)) (p .0), omega (arith, p .1))
 
 same-length-7 : tie.Need-same-length-7
 same-length-7 c = search needs
@@ -147,7 +171,7 @@ returns-7 c =
     let k = t .before in
     let a = k .before .before .before .args in
     let p = w .put-same2 .ensures in
-    (sent-as (of-kind (lineOf (a .text)) (a .i) (a .big) (a .p) (a .q) (k .enum-told6 .given .1) (t .if1 .left)) (p .0), p .1)
+    (sent-as (of-kind (lineOf (a .text)) (a .i) (a .big) (a .p) (a .q) (run (a .first) (a .count)) (k .enum-told6 .given .1) (t .if1 .left)) (p .0), omega (arith, p .1))
 
 same-length-8 : tie.Need-same-length-8
 same-length-8 c = search needs
@@ -159,7 +183,7 @@ returns-8 c =
     let k = t .before in
     let a = k .before .before .before .args in
     let p = w .put-and2 .ensures in
-    (sent-as (of-kind (lineOf (a .text)) (a .i) (a .big) (a .p) (a .q) (k .enum-told7 .given .1) (t .if2 .taken)) (p .0), p .1)
+    (sent-as (of-kind (lineOf (a .text)) (a .i) (a .big) (a .p) (a .q) (run (a .first) (a .count)) (k .enum-told7 .given .1) (t .if2 .taken)) (p .0), omega (arith, p .1))
 
 same-length-9 : tie.Need-same-length-9
 same-length-9 c = search needs
@@ -171,7 +195,7 @@ returns-9 c =
     let k = t .before in
     let a = k .before .before .before .args in
     let p = w .put-same3 .ensures in
-    (sent-as (of-kind (lineOf (a .text)) (a .i) (a .big) (a .p) (a .q) (k .enum-told7 .given .1) (t .if2 .left)) (p .0), p .1)
+    (sent-as (of-kind (lineOf (a .text)) (a .i) (a .big) (a .p) (a .q) (run (a .first) (a .count)) (k .enum-told7 .given .1) (t .if2 .left)) (p .0), omega (arith, p .1))
 
 same-length-10 : tie.Need-same-length-10
 same-length-10 c = search needs
@@ -183,7 +207,7 @@ returns-10 c =
     let k = t .before in
     let a = k .before .before .before .args in
     let p = w .put-until .ensures in
-    (sent-as (of-kind (lineOf (a .text)) (a .i) (a .big) (a .p) (a .q) (k .enum-told8 .given .1) (t .if3 .taken)) (p .0), p .1)
+    (sent-as (of-kind (lineOf (a .text)) (a .i) (a .big) (a .p) (a .q) (run (a .first) (a .count)) (k .enum-told8 .given .1) (t .if3 .taken)) (p .0), omega (arith, p .1))
 
 same-length-11 : tie.Need-same-length-11
 same-length-11 c = search needs
@@ -195,7 +219,29 @@ returns-11 c =
     let k = t .before in
     let a = k .before .before .before .args in
     let p = w .put-same4 .ensures in
-    (sent-as (of-kind (lineOf (a .text)) (a .i) (a .big) (a .p) (a .q) (k .enum-told8 .given .1) (t .if3 .left)) (p .0), p .1)
+    (sent-as (of-kind (lineOf (a .text)) (a .i) (a .big) (a .p) (a .q) (run (a .first) (a .count)) (k .enum-told8 .given .1) (t .if3 .left)) (p .0), omega (arith, p .1))
+
+same-length-12 : tie.Need-same-length-12
+same-length-12 c = search needs
+
+returns-12 : tie.Need-returns-12
+returns-12 c =
+    let w = c .before .before in
+    let k = w .before .before in
+    let a = k .before .before .before .args in
+    let p = w .put-window .ensures in
+    (sent-as (of-kind (lineOf (a .text)) (a .i) (a .big) (a .p) (a .q) (run (a .first) (a .count)) (k .enum-told9 .given .1) refl) (p .0), p .1)
+
+same-length-13 : tie.Need-same-length-13
+same-length-13 c = search needs
+
+returns-13 : tie.Need-returns-13
+returns-13 c =
+    let w = c .before .before in
+    let k = w .before .before in
+    let a = k .before .before .before .args in
+    let p = w .put-window2 .ensures in
+    (sent-as (of-kind (lineOf (a .text)) (a .i) (a .big) (a .p) (a .q) (run (a .first) (a .count)) (k .enum-told10 .given .1) refl) (p .0), p .1)
 
 pub put-slot-spec : {M : Type 1} → statement M
 put-slot-spec =
@@ -222,6 +268,10 @@ put-slot-spec =
     enum-told-8
     put-until-requires
     put-same-requires-4
+    enum-told-9
+    put-window-requires
+    enum-told-10
+    put-window-requires-2
     same-length
     returns
     same-length-2
@@ -243,4 +293,8 @@ put-slot-spec =
     same-length-10
     returns-10
     same-length-11
-    returns-11)
+    returns-11
+    same-length-12
+    returns-12
+    same-length-13
+    returns-13)

@@ -13,6 +13,12 @@ wide-requires c κs = search needs
 wide-requires-2 : tie.Need-wide-requires-2
 wide-requires-2 c κs = search needs
 
+wide-requires-3 : tie.Need-wide-requires-3
+wide-requires-3 c κs = search needs
+
+wide-requires-4 : tie.Need-wide-requires-4
+wide-requires-4 c κs = search needs
+
 kind-of-requires : tie.Need-kind-of-requires
 kind-of-requires c κs = search needs
 
@@ -27,15 +33,19 @@ enum-told c = search needs
 
 returns : tie.Need-returns
 returns c =
-    let a = c .before .before .before .before .before .before .before .args in
+    let a = c .before .before .before .before .before .before .before .before .before .args in
     let e : kindIn (a .kind) ≡ Known (c .before .before .read .given .0 .0) = sym (c .before .before .before .before .kind-of .ensures) ∙ c .before .before .read .given .1 in
-    c .parts-good .ensures ∙ rw (nodeIn-kind (a .left) (a .right) (a .kind), e, c .before .before .before .before .before .before .wide .ensures .0, c .before .before .before .before .before .wide2 .ensures .0) refl
+    let l = c .before .before .before .before .before .before .before .before .wide .ensures .0 in
+    let r = c .before .before .before .before .before .before .before .wide2 .ensures .0 in
+    let i = c .before .before .before .before .before .before .wide3 .ensures .0 in
+    let j = c .before .before .before .before .before .wide4 .ensures .0 in
+    c .parts-good .ensures ∙ rw (nodeIn-kind (a .left) (a .right) (a .from) (a .to) (a .kind), e, l, r, i, j) refl
 
 returns-2 : tie.Need-returns-2
 returns-2 c =
-    let a = c .before .before .before .before .before .args in
+    let a = c .before .before .before .before .before .before .before .args in
     let e : kindIn (a .kind) ≡ Unknown = sym (c .before .before .kind-of .ensures) ∙ c .enum-told .given .1 in
-    rw (nodeIn-kind (a .left) (a .right) (a .kind), e)
+    rw (nodeIn-kind (a .left) (a .right) (a .from) (a .to) (a .kind), e)
 
 pub fields-good-spec : {M : Type 1} → statement M
 fields-good-spec =
@@ -43,6 +53,8 @@ fields-good-spec =
     (tie.spec
     wide-requires
     wide-requires-2
+    wide-requires-3
+    wide-requires-4
     kind-of-requires
     enum-known-read
     parts-good-requires

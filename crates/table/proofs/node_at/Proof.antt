@@ -1,4 +1,4 @@
--- `table::node_at` meets its contract: its three bytes are node n's kind, left and right. Assumes nothing.
+-- `table::node_at` meets its contract: its five bytes are node n's kind, left, right and window. Assumes nothing.
 use mathlib.Core.Path.{_≡_, sym, _∙_}
 use native.Mathlib.Omega.{arith}
 use Rattle.rules.specs.TableTest.{byteAt}
@@ -29,6 +29,24 @@ shared-slice-read-wide-2 c = search needs
 wide-requires-2 : tie.Need-wide-requires-2
 wide-requires-2 c κs = search needs
 
+add-wide-3 : tie.Need-add-wide-3
+add-wide-3 c = search needs
+
+shared-slice-read-wide-3 : tie.Need-shared-slice-read-wide-3
+shared-slice-read-wide-3 c = search needs
+
+wide-requires-3 : tie.Need-wide-requires-3
+wide-requires-3 c κs = search needs
+
+add-wide-4 : tie.Need-add-wide-4
+add-wide-4 c = search needs
+
+shared-slice-read-wide-4 : tie.Need-shared-slice-read-wide-4
+shared-slice-read-wide-4 c = search needs
+
+wide-requires-4 : tie.Need-wide-requires-4
+wide-requires-4 c κs = search needs
+
 add-kind-of : tie.Need-add-kind-of
 add-kind-of c = search needs
 
@@ -46,17 +64,20 @@ enum-told c = search needs
 
 returns : tie.Need-returns
 returns c =
-    let a = c .before .before .before .before .before .before .before .before .before .before .args in
+    let a = c .before .before .before .before .before .before .before .before .before .before .before .before .before .before .args in
     let e : kindIn (byteAt (a .table .now) (a .n) 2) ≡ Known (c .before .read .given .0 .0) = sym (c .before .before .before .kind-of .ensures) ∙ c .before .read .given .1 in
-    let l = c .before .before .before .before .before .before .before .wide .ensures in
-    let r = c .before .before .before .before .before .wide2 .ensures in
-    record { is = rw (l .0, r .0) (known-is (a .table .now) (a .n) _ (c .before .before .before .before .before .before .before .before .before .before .pre) e); left-byte = l .1; right-byte = r .1 }
+    let l = c .before .before .before .before .before .before .before .before .before .before .before .wide .ensures in
+    let r = c .before .before .before .before .before .before .before .before .before .wide2 .ensures in
+    let i = c .before .before .before .before .before .before .before .wide3 .ensures in
+    let j = c .before .before .before .before .before .wide4 .ensures in
+    let h = c .before .before .before .before .before .before .before .before .before .before .before .before .before .before .pre in
+    record { is = rw (l .0, r .0, i .0, j .0) (known-is (a .table .now) (a .n) _ h e); left-byte = l .1; right-byte = r .1; from-byte = i .1; to-byte = j .1 }
 
 returns-2 : tie.Need-returns-2
 returns-2 c =
-    let a = c .before .before .before .before .before .before .before .before .before .args in
+    let a = c .before .before .before .before .before .before .before .before .before .before .before .before .before .args in
     let e : kindIn (byteAt (a .table .now) (a .n) 2) ≡ Unknown = sym (c .before .before .kind-of .ensures) ∙ c .enum-told .given .1 in
-    record { is = unknown-is (a .table .now) (a .n) (c .before .before .before .before .before .before .before .before .before .pre) e; left-byte = omega arith; right-byte = omega arith }
+    record { is = unknown-is (a .table .now) (a .n) (c .before .before .before .before .before .before .before .before .before .before .before .before .before .pre) e; left-byte = omega arith; right-byte = omega arith; from-byte = omega arith; to-byte = omega arith }
 
 pub node-at-spec : {M : Type 1} → statement M
 node-at-spec =
@@ -69,6 +90,12 @@ node-at-spec =
     add-wide-2
     shared-slice-read-wide-2
     wide-requires-2
+    add-wide-3
+    shared-slice-read-wide-3
+    wide-requires-3
+    add-wide-4
+    shared-slice-read-wide-4
+    wide-requires-4
     add-kind-of
     shared-slice-read-kind-of
     kind-of-requires

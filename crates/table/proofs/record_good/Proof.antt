@@ -31,6 +31,18 @@ add-fields-good-3 c = search needs
 shared-slice-read-fields-good-3 : tie.Need-shared-slice-read-fields-good-3
 shared-slice-read-fields-good-3 c = search needs
 
+add-fields-good-4 : tie.Need-add-fields-good-4
+add-fields-good-4 c = search needs
+
+shared-slice-read-fields-good-4 : tie.Need-shared-slice-read-fields-good-4
+shared-slice-read-fields-good-4 c = search needs
+
+add-fields-good-5 : tie.Need-add-fields-good-5
+add-fields-good-5 c = search needs
+
+shared-slice-read-fields-good-5 : tie.Need-shared-slice-read-fields-good-5
+shared-slice-read-fields-good-5 c = search needs
+
 fields-good-requires : tie.Need-fields-good-requires
 fields-good-requires c κs = search needs
 
@@ -40,8 +52,8 @@ both-requires c κs = search needs
 returns : tie.Need-returns
 unfolding recordGood
 returns c =
-    let a = c .before .before .before .before .before .before .before .args in
-    c .both .ensures ∙ rw (c .before .before .before .before .before .marked .ensures, c .before .fields-good .ensures, add-zero (5 * a .n)) refl
+    let a = c .before .before .before .before .before .before .before .before .before .args in
+    c .both .ensures ∙ rw (c .before .before .before .before .before .before .before .marked .ensures, c .before .fields-good .ensures, add-zero (7 * a .n)) refl
 
 pub record-good-spec : {M : Type 1} → statement M
 record-good-spec =
@@ -55,6 +67,10 @@ record-good-spec =
     shared-slice-read-fields-good-2
     add-fields-good-3
     shared-slice-read-fields-good-3
+    add-fields-good-4
+    shared-slice-read-fields-good-4
+    add-fields-good-5
+    shared-slice-read-fields-good-5
     fields-good-requires
     both-requires
     returns)

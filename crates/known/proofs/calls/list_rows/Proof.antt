@@ -11,7 +11,7 @@ use Rattle.known.proofs.calls.list_rows.Tie as tie
 slice-aggregate-buffer : tie.Need-slice-aggregate-buffer
 slice-aggregate-buffer c =
     let p = c .before .before .before .before .before in
-    sym (page-length (page (p .before .before .before .args .input .now)) (replicate 160000 254) (p .page-of .last .1 .0) (length-replicate {A = ℕ} 160000 254) (p .page-of .ensures .1))
+    sym (page-length (page (p .before .before .before .args .input .now)) (replicate 184000 254) (p .page-of .last .1 .0) (length-replicate {A = ℕ} 184000 254) (p .page-of .ensures .1))
 
 pub list-rows-spec : {M : Type 1} → statement M
 list-rows-spec =

@@ -1,0 +1,296 @@
+-- How long a page is at most: each term of the rows gives at most one line of a column, so a page has as many lines as terms, rows and variables.
+use mathlib.Core.Path.{_≡_, refl, sym, ap, ap₂, _∙_}
+use mathlib.Core.Bool.{Bool, true, false, cond}
+use mathlib.Core.List.{List, [], _∷_, _++_, map}
+use Prim.Native.Nat.{ℕ, zero, suc, _+_, _-_, _*_, _≤_, _<_}
+use native.Mathlib.Nat.{mul-le-mul}
+use native.Mathlib.Omega.{arith}
+use lib.Dec.{eqb, ltb}
+use borrow.Author.Tests.{ne-eqb, eqb-true}
+use lib.IntN.{ℤ, pos, negsuc, negℤ, natAbs, _+ℤ_}
+use lib.ListN.{length, length-append, length-map, length-replicate}
+use Rattle.lists.specs.Every.{Every}
+use Rattle.lists.specs.Flat.{flat}
+use Rattle.ints.specs.Sizes.{sum-size}
+use Rattle.lists.specs.Passing.{passing-length}
+use Rattle.rules.specs.Rule.{Unary, Binary, Window}
+use Rattle.rules.specs.Rule.Unary.{not, eventually, always}
+use Rattle.rules.specs.Rule.Binary.{and, or, implies, until}
+use Rattle.rules.specs.Rule.Window.{within, throughout}
+use Rattle.rules.specs.Table.{Node}
+use Rattle.rules.specs.Table.Node.{atom, unary, binary, windowed}
+use Rattle.rules.specs.Rows.{Relation, Term, Row, plus, minus, ge, inWindow, windowSlots, unaryRows, binaryRows, windowRows, slack, rowsAt, slotsRows, nodesRows, slackRows, goalRow, rowsOf}
+use Rattle.rules.specs.Rows.Relation.{at-least, equal}
+use Rattle.rules.specs.RowRecords.{Small, Recordable, rows-recordable}
+use Rattle.rules.specs.RowCount.{rows-count}
+use Rattle.text.specs.Decimal.{decimal, signedText, below-1000, below-100000, below-1000000}
+use Rattle.mps.specs.Words.{NAME, ROWS, COLUMNS, RHS, BOUNDS, ENDATA, COST, N, G, E, BND, BV, UP, R, X}
+use Rattle.mps.specs.Merged.{coefficient, isZero, stands}
+use Rattle.mps.specs.Page.{field, ended, rowName, variableName, typeText, typeLine, rowLine, numberLine, numberUnlessZero, entryLine, rightLine, eachRow, costLine, columnLines, binaryLine, upperLine, boundLine, rowSection, columnSection, rightSection, boundSection, pageOf, page}
+
+-- ---- sums over 0, 1, .., n − 1
+
+abbrev sumTo : (ℕ → ℕ) → ℕ → ℕ
+sumTo f zero = 0
+sumTo f (suc n) = sumTo f n + f n
+
+sum-add : (f g : ℕ → ℕ) (n : ℕ) → sumTo (λ i. f i + g i) n ≡ sumTo f n + sumTo g n
+sum-add f g zero = omega arith
+sum-add f g (suc n) = omega (arith, sum-add f g n)
+
+sum-zero : (n : ℕ) → sumTo (λ i. 0) n ≡ 0
+sum-zero zero = refl
+sum-zero (suc n) = omega (arith, sum-zero n)
+
+length-flat : {A : Type 0} (f : ℕ → List A) (g : ℕ → ℕ) (n : ℕ) → ((i : ℕ) → i < n → length (f i) ≤ g i) → length (flat f n) ≤ sumTo g n
+unfolding flat
+length-flat f g zero h = omega arith
+length-flat f g (suc n) h = omega (arith, length-append (flat f n) (f n), length-flat f g n (λ i l. h i (omega arith)), h n (omega arith))
+
+-- ---- how often a variable stands in terms and in rows: in all, as often as there are terms
+
+abbrev hit : (a v : ℕ) → ℕ
+hit a v = cond (eqb a v) 1 0
+
+hit-none : (a n : ℕ) → n ≤ a → sumTo (hit a) n ≡ 0
+hit-none a zero h = refl
+hit-none a (suc n) h = let e : hit a n ≡ 0 = ap (λ (b : Bool). cond b 1 0) (ne-eqb a n (λ q. omega arith)) in omega (arith, hit-none a n (omega arith))
+
+hit-once : (a n : ℕ) → sumTo (hit a) n ≤ 1
+hit-once a zero = omega arith
+hit-once a (suc n) = go (eqb a n) refl (hit-once a n)
+  where
+    go : (b : Bool) → eqb a n ≡ b → sumTo (hit a) n ≤ 1 → sumTo (hit a) n + cond b 1 0 ≤ 1
+    go true e h = omega (arith, hit-none a n (let q = eqb-true a n e in omega arith))
+    go false e h = omega arith
+
+abbrev occurs : (v : ℕ) → List Term → ℕ
+occurs v [] = 0
+occurs v (t ∷ ts) = hit (t .variable) v + occurs v ts
+
+occurs-all : (ts : List Term) (n : ℕ) → sumTo (λ v. occurs v ts) n ≤ length ts
+occurs-all [] n = omega (arith, sum-zero n)
+occurs-all (t ∷ ts) n = omega (arith, sum-add (hit (t .variable)) (λ v. occurs v ts) n, hit-once (t .variable) n, occurs-all ts n)
+
+abbrev inRows : (v : ℕ) → List Row → ℕ
+inRows v [] = 0
+inRows v (r ∷ rs) = occurs v (r .terms) + inRows v rs
+
+abbrev pub termCount : List Row → ℕ
+termCount [] = 0
+termCount (r ∷ rs) = length (r .terms) + termCount rs
+
+rows-all : (rs : List Row) (n : ℕ) → sumTo (λ v. inRows v rs) n ≤ termCount rs
+rows-all [] n = omega (arith, sum-zero n)
+rows-all (r ∷ rs) n = omega (arith, sum-add (λ v. occurs v (r .terms)) (λ v. inRows v rs) n, occurs-all (r .terms) n, rows-all rs n)
+
+-- ---- a line has at most 40 bytes
+
+field-length : (column : ℕ) (text content : List ℕ) → length (field column text content) ≡ length text + (column - 1 - length text + length content)
+unfolding field
+field-length column text content = simp (length-append, length-replicate)
+
+number-short : (name row : List ℕ) (c : ℤ) → length name ≤ 7 → length row ≤ 7 → length (signedText c) ≤ 7 → length (numberLine name row c) ≤ 40
+unfolding numberLine
+number-short name row c a b d =
+    let first = field 5 [] name in
+    let second = field 15 first row in
+    let third = field 25 second (signedText c) in
+    omega (arith, field-length 5 [] name, field-length 15 first row, field-length 25 second (signedText c), length-append third (10 ∷ []))
+
+name-short : (letter n : ℕ) → n < 1000000 → length (letter ∷ decimal n) ≤ 7
+name-short letter n h = omega (arith, below-1000000 n h)
+
+signed-short : (c : ℤ) → natAbs c < 100000 → length (signedText c) ≤ 7
+signed-short (pos n) h = omega (arith, below-100000 n h)
+signed-short (negsuc n) h = omega (arith, below-100000 (suc n) h)
+
+letter-short : (type name : List ℕ) → length type ≡ 1 → length name ≤ 7 → length (typeLine type name) ≤ 40
+unfolding typeLine
+letter-short type name e h =
+    let first = field 2 [] type in
+    let second = field 5 first name in
+    omega (arith, field-length 2 [] type, field-length 5 first name, length-append second (10 ∷ []))
+
+type-short : (o : Relation) (i : ℕ) → i < 1000000 → length (typeLine (typeText o) (rowName i)) ≤ 40
+type-short at-least i h = letter-short G (rowName i) refl (name-short R i h)
+type-short equal i h = letter-short E (rowName i) refl (name-short R i h)
+
+bound-short : (atoms v : ℕ) → v < 1000000 → length (boundLine atoms v) ≤ 40
+unfolding binaryLine upperLine
+bound-short atoms v h = go (ltb v atoms)
+  where
+    named : (type : List ℕ) → length type ≡ 2 → length (field 15 (field 5 (field 2 [] type) BND) (variableName v)) ≤ 21
+    named type e =
+        let first = field 2 [] type in
+        let second = field 5 first BND in
+        omega (arith, field-length 2 [] type, field-length 5 first BND, field-length 15 second (variableName v), name-short X v h)
+
+    go : (b : Bool) → length (cond b (binaryLine v) (upperLine v)) ≤ 40
+    go true = omega (arith, named BV refl, length-append (field 15 (field 5 (field 2 [] BV) BND) (variableName v)) (10 ∷ []))
+    go false =
+        let third = field 15 (field 5 (field 2 [] UP) BND) (variableName v) in
+        let fourth = field 25 third (decimal 1) in
+        omega (arith, named UP refl, field-length 25 third (decimal 1), below-1000 1 (omega arith), length-append fourth (10 ∷ []))
+
+-- ---- entries: as many as the variable stands in rows
+
+coefficient-none : (v : ℕ) (ts : List Term) → occurs v ts ≡ 0 → coefficient v ts ≡ pos 0
+unfolding coefficient
+coefficient-none v [] e = refl
+coefficient-none v (t ∷ ts) e = go (eqb (t .variable) v) refl (λ q. coefficient-none v ts q)
+  where
+    go : (b : Bool) → eqb (t .variable) v ≡ b → (occurs v ts ≡ 0 → coefficient v ts ≡ pos 0) → cond b (t .coefficient) (pos 0) +ℤ coefficient v ts ≡ pos 0
+    go true q f = let z : hit (t .variable) v ≡ 1 = ap (λ (b : Bool). cond b 1 0) q in absurd (omega arith)
+    go false q f = rw (f (omega arith)) refl
+
+small-size : (c : ℤ) → Small c → natAbs c ≤ 128
+small-size (pos n) h = omega arith
+small-size (negsuc n) h = omega arith
+
+coefficient-size : (v : ℕ) (ts : List Term) → Every (λ (t : Term). Small (t .coefficient)) ts → natAbs (coefficient v ts) ≤ 128 * length ts
+unfolding coefficient
+coefficient-size v [] h = omega arith
+coefficient-size v (t ∷ ts) h = go (eqb (t .variable) v) (coefficient-size v ts (h .1))
+  where
+    go : (b : Bool) → natAbs (coefficient v ts) ≤ 128 * length ts → natAbs (cond b (t .coefficient) (pos 0) +ℤ coefficient v ts) ≤ 128 * suc (length ts)
+    go true g = omega (arith, sum-size (t .coefficient) (coefficient v ts) (small-size (t .coefficient) (h .0)) g)
+    go false g = omega (arith, sum-size (pos 0) (coefficient v ts) {m = 0} (omega arith) g)
+
+unless-zero-short : (name : List ℕ) (i : ℕ) (c : ℤ) → length name ≤ 7 → i < 1000000 → natAbs c < 100000 → length (numberUnlessZero name i c) ≤ 40
+unfolding numberUnlessZero
+unless-zero-short name i c a b d = go (isZero c)
+  where
+    go : (b : Bool) → length (cond b [] (numberLine name (rowName i) c)) ≤ 40
+    go true = omega arith
+    go false = number-short name (rowName i) c a (name-short R i b) (signed-short c d)
+
+entry-length : (v i : ℕ) (r : Row) → v < 1000000 → i < 1000000 → Recordable r → length (entryLine v i r) ≤ 40 * occurs v (r .terms)
+unfolding numberUnlessZero
+entry-length v i r g h q = go (occurs v (r .terms)) refl
+  where
+    go : (k : ℕ) → occurs v (r .terms) ≡ k → length (entryLine v i r) ≤ 40 * k
+    go zero e = rw (coefficient-none v (r .terms) e) (omega arith)
+    go (suc k) e =
+        omega (arith, unless-zero-short (variableName v) i (coefficient v (r .terms)) (name-short X v g) h (omega (arith, coefficient-size v (r .terms) (q .small), q .few)))
+
+entries-length : (v i : ℕ) (rs : List Row) → v < 1000000 → i + length rs ≤ 1000000 → Every Recordable rs → length (eachRow (entryLine v) i rs) ≤ 40 * inRows v rs
+unfolding eachRow
+entries-length v i [] g h q = omega arith
+entries-length v i (r ∷ rs) g h q =
+    omega (arith, length-append (entryLine v i r) (eachRow (entryLine v) (i + 1) rs), entry-length v i r g (omega arith) (q .0), entries-length v (i + 1) rs g (omega arith) (q .1))
+
+column-length : (rs : List Row) (v : ℕ) → v < 1000000 → length rs ≤ 1000000 → Every Recordable rs → length (columnLines rs v) ≤ 40 + 40 * inRows v rs
+unfolding columnLines costLine
+column-length rs v g h q = go (stands v rs)
+  where
+    go : (b : Bool) → length (cond b (eachRow (entryLine v) 0 rs) (costLine v)) ≤ 40 + 40 * inRows v rs
+    go true = omega (arith, entries-length v 0 rs g (omega arith) q)
+    go false = omega (arith, number-short (variableName v) COST (pos 0) (name-short X v g) (omega arith) (signed-short (pos 0) (omega arith)))
+
+sum-scaled : (f : ℕ → ℕ) (n : ℕ) → sumTo (λ v. 40 + 40 * f v) n ≡ 40 * n + 40 * sumTo f n
+sum-scaled f zero = omega arith
+sum-scaled f (suc n) = omega (arith, sum-scaled f n)
+
+sum-forty : (n : ℕ) → sumTo (λ v. 40) n ≡ 40 * n
+sum-forty zero = omega arith
+sum-forty (suc n) = omega (arith, sum-forty n)
+
+-- ---- rows and right sides
+
+each-short : (f : ℕ → Row → List ℕ) (i : ℕ) (rs : List Row) → i + length rs ≤ 1000000 → Every Recordable rs → ((j : ℕ) (r : Row) → j < 1000000 → Recordable r → length (f j r) ≤ 40) → length (eachRow f i rs) ≤ 40 * length rs
+unfolding eachRow
+each-short f i [] h q g = omega arith
+each-short f i (r ∷ rs) h q g = omega (arith, length-append (f i r) (eachRow f (i + 1) rs), g i r (omega arith) (q .0), each-short f (i + 1) rs (omega arith) (q .1) g)
+
+row-short : (i : ℕ) (r : Row) → i < 1000000 → length (rowLine i r) ≤ 40
+unfolding rowLine
+row-short i r h = type-short (r .relation) i h
+
+right-short : (i : ℕ) (r : Row) → i < 1000000 → Recordable r → length (rightLine i r) ≤ 40
+right-short i r h q = unless-zero-short RHS i (r .right) (omega arith) h (omega (arith, small-size (r .right) (q .right-small)))
+
+-- ---- the whole page
+
+module _ (atoms n : ℕ) (rs : List Row) (few : n ≤ 1000000) (short : length rs ≤ 1000000) (q : Every Recordable rs) where
+  free-short : length (typeLine N COST) ≤ 40
+  free-short = letter-short N COST refl (omega arith)
+
+  pub pageOf-length : length (pageOf atoms n rs) ≤ 40 * (2 * length rs + termCount rs + 2 * n) + 100
+  unfolding pageOf rowSection columnSection rightSection boundSection
+  pageOf-length =
+      let a = each-short rowLine 0 rs (omega arith) q (λ j r h p. row-short j r h) in
+      let b = each-short rightLine 0 rs (omega arith) q right-short in
+      let c = length-flat (columnLines rs) (λ v. 40 + 40 * inRows v rs) n (λ v h. column-length rs v (omega arith) short q) in
+      let d = length-flat (boundLine atoms) (λ v. 40) n (λ v h. bound-short atoms v (omega arith)) in
+      let e = sum-scaled (λ v. inRows v rs) n in
+      let f = sum-forty n in
+      let g = rows-all rs n in
+      let h = free-short in
+      simp length-append (omega arith)
+
+-- ---- how many terms the rows of a table have: at most 3·T + 11 for each node and slot, and the goal row's
+
+terms-append : (a b : List Row) → termCount (a ++ b) ≡ termCount a + termCount b
+terms-append [] b = omega arith
+terms-append (r ∷ a) b = omega (arith, terms-append a b)
+
+unary-terms : (u : Unary) (inner : Bool) (P p P′ : ℕ) → termCount (unaryRows u inner P p P′) ≤ 11
+unary-terms not inner P p P′ = omega arith
+unary-terms eventually true P p P′ = omega arith
+unary-terms eventually false P p P′ = omega arith
+unary-terms always true P p P′ = omega arith
+unary-terms always false P p P′ = omega arith
+
+binary-terms : (o : Binary) (inner : Bool) (P p q P′ : ℕ) → termCount (binaryRows o inner P p q P′) ≤ 11
+binary-terms and inner P p q P′ = omega arith
+binary-terms or inner P p q P′ = omega arith
+binary-terms implies inner P p q P′ = omega arith
+binary-terms until true P p q P′ = omega arith
+binary-terms until false P p q P′ = omega arith
+
+pair-terms : (f : ℕ → Row) → ((s : ℕ) → length (f s .terms) ≡ 2) → (ss : List ℕ) → termCount (map f ss) ≡ 2 * length ss
+pair-terms f h [] = refl
+pair-terms f h (s ∷ ss) = omega (arith, h s, pair-terms f h ss)
+
+-- two for each slot of the window, and the last row's
+window-terms : (w : Window) (P : ℕ) (p : ℕ → ℕ) (ss : List ℕ) → termCount (windowRows w P p ss) ≡ 3 * length ss + 1
+window-terms within P p ss =
+    let pair : ℕ → Row = λ s. ge (plus P ∷ minus (p s) ∷ []) (pos 0) in
+    let long : Row = ge (map (λ s. plus (p s)) ss ++ (minus P ∷ [])) (pos 0) in
+    omega (arith, terms-append (map pair ss) (long ∷ []), pair-terms pair (λ s. refl) ss, length-append (map (λ (s : ℕ). plus (p s)) ss) (minus P ∷ []), length-map ss (λ (s : ℕ). plus (p s)))
+window-terms throughout P p ss =
+    let pair : ℕ → Row = λ s. ge (plus (p s) ∷ minus P ∷ []) (pos 0) in
+    let long : Row = ge (plus P ∷ map (λ s. minus (p s)) ss) (negℤ (pos (length ss - 1))) in
+    omega (arith, terms-append (map pair ss) (long ∷ []), pair-terms pair (λ s. refl) ss, length-map ss (λ (s : ℕ). minus (p s)))
+
+module _ (T M : ℕ) where
+  at-terms : (n : ℕ) (nd : Node) (t : ℕ) → termCount (rowsAt T M n nd t) ≤ 3 * T + 11
+  at-terms n (atom a) t = omega arith
+  at-terms n (unary u c) t = omega (arith, unary-terms u (ltb t T) (slack T M n t) (slack T M c t) (slack T M n (t + 1)))
+  at-terms n (binary o l r) t = omega (arith, binary-terms o (ltb t T) (slack T M n t) (slack T M l t) (slack T M r t) (slack T M n (t + 1)))
+  at-terms n (windowed w a b c) t = omega (arith, window-terms w (slack T M n t) (slack T M c) (windowSlots T t a b), passing-length (inWindow T t a b) T 1)
+
+  slots-terms : (n : ℕ) (nd : Node) (k t : ℕ) → termCount (slotsRows T M n nd k t) ≤ (3 * T + 11) * k
+  slots-terms n nd zero t = omega arith
+  slots-terms n nd (suc k) t =
+      omega (arith, terms-append (rowsAt T M n nd t) (slotsRows T M n nd k (t + 1)), at-terms n nd t, slots-terms n nd k (t + 1))
+
+  nodes-terms : (n : ℕ) (ns : List Node) → termCount (nodesRows T M n ns) ≤ (3 * T + 11) * (length ns * T)
+  nodes-terms n [] = omega arith
+  nodes-terms n (nd ∷ ns) =
+      omega (arith, terms-append (slotsRows T M n nd T 1) (nodesRows T M (n + 1) ns), slots-terms n nd T 1, nodes-terms (n + 1) ns)
+
+  rows-terms : (ns : List Node) → termCount (rowsOf T M ns) ≤ (3 * T + 11) * (length ns * T) + 1
+  rows-terms ns = omega (arith, terms-append (slackRows T M ns) (goalRow T M ns ∷ []), nodes-terms 0 ns)
+
+pub page-short : (T M : ℕ) (ns : List Node) → T ≤ 64 → M ≤ 16 → length ns ≤ 128 → length (page T M ns) ≤ 120000000
+unfolding page
+page-short T M ns t m few =
+    let v : (M + length ns) * T ≤ 144 * 64 = mul-le-mul {n₂ = 144} {m₂ = 64} (omega arith) t in
+    let k : length ns * T ≤ 128 * 64 = mul-le-mul {n₂ = 128} {m₂ = 64} few t in
+    let r : (T + 4) * (length ns * T) ≤ 68 * 8192 = mul-le-mul {n₂ = 68} {m₂ = 8192} (omega arith) (omega arith) in
+    let c : (3 * T + 11) * (length ns * T) ≤ 203 * 8192 = mul-le-mul {n₂ = 203} {m₂ = 8192} (omega arith) (omega arith) in
+    let rs = rowsOf T M ns in
+    let n = rows-count T M ns in
+    omega (arith, n, rows-terms T M ns, pageOf-length (M * T) ((M + length ns) * T) rs (omega arith) (omega arith) (rows-recordable T M t ns))

@@ -1,0 +1,9 @@
+pub mod Sums
+pub mod Digits
+pub mod Terms
+pub mod RowSizes
+pub mod Windows
+pub mod Nodes
+pub mod Sections
+pub mod Idle
+pub mod Page

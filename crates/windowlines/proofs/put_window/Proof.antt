@@ -1,0 +1,101 @@
+-- `windowlines::put_window` meets its contract. By the text. Assumes nothing.
+use mathlib.Core.Path.{_≡_, refl, subst, subst⁻¹}
+use mathlib.Core.List.{List}
+use Prim.Native.Nat.{ℕ, _≤_}
+use native.Mathlib.Omega.{arith}
+use borrow.Author.Needs.{needs}
+use Rattle.rules.specs.Rows.{Row}
+use Rattle.mps.specs.Page.{eachRow}
+use Rattle.lines.specs.Sent.{Sent, sent-as}
+use Rattle.rowlines.specs.declared.Text.{Text}
+use Rattle.rowlines.specs.Texts.{lineOf, TextFits}
+use Rattle.windowlines.specs.Over.{windowBy, types-text, rights-text}
+use Rattle.windowlines.proofs.put_window.Statement.{statement}
+use Rattle.windowlines.proofs.put_window.Tie as tie
+
+-- what is put, for a text that is known
+known-lines : {at next : ℕ} {before after xs : List ℕ} {text known : Text} (i : ℕ) (rs : List Row) → text ≡ known → xs ≡ eachRow (lineOf known) i rs →
+    Sent at xs before after next → Sent at (eachRow (lineOf text) i rs) before after next
+known-lines {at} {next} {before} {after} i rs e f p = subst⁻¹ (λ (t : Text). Sent at (eachRow (lineOf t) i rs) before after next) e (sent-as f p)
+
+enum-told : tie.Need-enum-told
+enum-told c = search needs
+
+add-put-types : tie.Need-add-put-types
+add-put-types c = search needs
+
+put-types-requires : tie.Need-put-types-requires
+put-types-requires c κs = search needs
+
+enum-told-2 : tie.Need-enum-told-2
+enum-told-2 c = search needs
+
+add-put-right : tie.Need-add-put-right
+add-put-right c = search needs
+
+put-right-requires : tie.Need-put-right-requires
+put-right-requires c κs = search needs
+
+enum-known-text : tie.Need-enum-known-text
+enum-known-text c = search needs
+
+put-entries-requires : tie.Need-put-entries-requires
+put-entries-requires c κs =
+    let t = c .before .before in
+    let s = t .before .before .before in
+    (s .pre .0, subst TextFits (t .text .given .1) (s .pre .1), s .pre .2, s .pre .4, s .pre .5, s .pre .6)
+
+same-length : tie.Need-same-length
+same-length c = search needs
+
+returns : tie.Need-returns
+returns c =
+    let w = c .before .before in
+    let t = w .before .before in
+    let s = t .before .before .before in
+    let a = s .args in
+    let p = w .put-types .ensures in
+    (known-lines (a .i) _ (t .enum-told .given .1) (types-text (a .i) (windowBy (a .within)) (a .big) (a .first) (a .count)) (p .0), omega (arith, p .1, s .pre .4))
+
+same-length-2 : tie.Need-same-length-2
+same-length-2 c = search needs
+
+returns-2 : tie.Need-returns-2
+returns-2 c =
+    let w = c .before .before in
+    let t = w .before .before in
+    let s = t .before .before .before in
+    let a = s .args in
+    let p = w .put-right .ensures in
+    (known-lines (a .i) _ (t .enum-told2 .given .1) (rights-text (a .i) (windowBy (a .within)) (a .big) (a .first) (a .count)) (p .0), omega (arith, p .1))
+
+same-length-3 : tie.Need-same-length-3
+same-length-3 c = search needs
+
+returns-3 : tie.Need-returns-3
+returns-3 c =
+    let w = c .before .before in
+    let t = w .before .before .before in
+    let s = t .before .before .before in
+    let a = s .args in
+    let p = w .put-entries .ensures in
+    (known-lines (a .i) _ (t .text .given .1) refl (p .0), p .1)
+
+pub put-window-spec : {M : Type 1} → statement M
+put-window-spec =
+    tie.close
+    (tie.spec
+    enum-told
+    add-put-types
+    put-types-requires
+    enum-told-2
+    add-put-right
+    put-right-requires
+    enum-known-text
+    put-entries-requires
+    same-length
+    returns
+    same-length-2
+    returns-2
+    same-length-3
+    returns-3)
