@@ -891,19 +891,24 @@ def solution(run, truth):
     return [ONE * bit for bit in atoms + [int(bit) for bit in truth.replace(" ", "")]]
 
 
+def on_runs(t, records, cases):
+    """The truth of each node over runs of three atoms, and the judge's verdict on the figures that it makes."""
+    for run, answer, truth, verdict in cases:
+        evaluate(t, 3, len(truth.replace(" ", "")), answer, run, truth, records)
+        judge(t, 3, 0, solution(run, truth), verdict, records)
+
+
 def of_every_kind():
     say("A rule of every kind, `G(a0>Fa1)&!(a2U!a0)|a1`; its truths are also those of the reference implementation in bench/")
     read(3, 91, MIXED_RULE, "G(a0>Fa1)&!(a2U!a0)|a1")
     read(3, 90, "r11", "G(a0>Fa1)&!(a2U!a0)|a1")
-    for run, answer, truth, verdict in (
+    on_runs(4, MIXED, (
         ([0, 1, 2, 4], "v0", "0100 0010 1110 1111 1111 0001 0100 1011 1011 0100 0100 0010 0110", "k97,1000000"),
         ([5, 7, 4, 1], "v0", "1101 0100 1100 1110 0000 1110 1101 0010 1110 0001 0000 0100 0100", "k97,1000000"),
         ([5, 5, 5, 7], "v1", "1111 0001 1111 1111 1111 1111 1111 0000 0000 1111 1111 0001 1111", "p98"),
         ([2, 0, 0, 0], "v1", "0000 1000 1000 1111 1111 0000 0000 1111 1111 0000 0000 1000 1000", "p98"),
         ([1, 4, 1, 3], "v1", "1011 0001 1111 1111 1111 0100 1011 0100 0100 1011 1011 0001 1011", "p98"),
-    ):
-        evaluate(4, 3, 52, answer, run, truth, MIXED)
-        judge(4, 3, 0, solution(run, truth), verdict, MIXED)
+    ))
 
 
 # A rule of both windows among others: `G(a0>F[1,2]a1)|!(a2UG[0,1]!a0)`.
@@ -915,13 +920,11 @@ def of_windows():
     say("By hand: a rule of both windows among others, `G(a0>F[1,2]a1)|!(a2UG[0,1]!a0)`, T 4, M 3")
     read(3, 84, WINDOWED_RULE, "G(a0>F[1,2]a1)|!(a2UG[0,1]!a0)")
     read(3, 83, "r11", "G ( a0 > F [ 1 , 2 ] a1 ) | ! ( a2 U G [ 0 , 1 ] ! a0 )")
-    for run, answer, truth, verdict in (
+    on_runs(4, WINDOWED, (
         ([1, 4, 2, 0], "v1", "1000 0010 1100 1111 1111 0100 1000 0111 0111 0111 1000 1111", "p93"),
         ([5, 5, 0, 0], "v0", "1100 0000 0000 0011 0011 1100 1100 0011 0011 1111 0000 0011", "k92,1000000"),
         ([5, 4, 1, 1], "v1", "1011 0000 0000 0100 0000 1100 1011 0100 0000 0000 1111 1111", "p93"),
-    ):
-        evaluate(4, 3, 48, answer, run, truth, WINDOWED)
-        judge(4, 3, 0, solution(run, truth), verdict, WINDOWED)
+    ))
 
 
 def writing_pages():

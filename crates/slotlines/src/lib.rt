@@ -7,8 +7,8 @@ ghost use Prim.Native.Nat.{_+_, _*_, _-_, _≤_, _<_};
 ghost use Rattle.rules.specs.Rows.{sameRows, notRows, andRows, orRows, impliesRows, untilRows};
 ghost use Rattle.mps.specs.Page.{eachRow};
 ghost use Rattle.row.specs.Meaning.{rowOf};
-ghost use Rattle.row.specs.Kinds.{kindRows};
-ghost use Rattle.windowlines.specs.Over.{run};
+ghost use Rattle.row.specs.Kinds.{overRows, kindRows};
+ghost use Rattle.windowlines.specs.Over.{windowBy, run};
 ghost use Rattle.slotlines.specs.Each.{Seen};
 ghost use Rattle.lines.specs.Sent.{Sent};
 ghost use Rattle.rowlines.specs.Texts.{lineOf, TextFits};
@@ -105,6 +105,25 @@ fn put_until(out: &mut [u8], at: usize, text: Text, i: usize, big: u16, p: u16, 
     )
 }
 
+// The rows of a window at a slot: the part's variables at its slots are the `count` from `first` on.
+fn put_window(
+    out: &mut [u8],
+    at: usize,
+    text: Text,
+    i: usize,
+    within: bool,
+    big: u16,
+    first: u16,
+    count: u16,
+) -> usize
+    requires { ⌜ (at ≤ 1099511600000) × TextFits text × (i + 65 ≤ 1000000) × (1 ≤ count) × (count ≤ 64) × (first + count ≤ big) × (big ≤ 30000) ⌝ }
+    ensures { λ r. ⌜ Sent at (eachRow (lineOf text) i (overRows (windowBy within) big (run first count))) (now (out .entry)) (now (out .exit)) r × (r ≤ at + 2600) ⌝ }
+{
+    let own = big as usize;
+    let from = first as usize;
+    windowlines::put_window(out, at, text, i, within, own, from, count as usize)
+}
+
 // The lines of the rows of a node of this kind at a slot, from row i on. `inner` is whether a slot follows. For windows, the part's variables at
 // the slots of the window are the `count` from `first` on.
 pub fn put_slot(
@@ -150,29 +169,7 @@ pub fn put_slot(
                 put_same(out, at, text, i, big, q)
             }
         }
-        Kind::Within => {
-            windowlines::put_window(
-                out,
-                at,
-                text,
-                i,
-                true,
-                big as usize,
-                first as usize,
-                count as usize,
-            )
-        }
-        Kind::Throughout => {
-            windowlines::put_window(
-                out,
-                at,
-                text,
-                i,
-                false,
-                big as usize,
-                first as usize,
-                count as usize,
-            )
-        }
+        Kind::Within => put_window(out, at, text, i, true, big, first, count),
+        Kind::Throughout => put_window(out, at, text, i, false, big, first, count),
     }
 }
