@@ -23,7 +23,7 @@ edits for the promises of the calls and programs offered to others, for the defi
 what the scope paper's "The wording of each promise" (c) and the requests name. Other crates need none: their callers'
 proofs would break. `known` compares nothing inside a proof, so it has none either: the gate compares what it prints.
 
-What (c) and the requests name, each in the code and in what the contracts cite:
+What (c) and the requests name: two edits or more each, in the code or its contracts and in what these cite:
 """
 NAMED = {
     "01 (c)": (
