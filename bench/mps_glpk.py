@@ -28,7 +28,7 @@ from statistics import median
 LEAST = 2_000_000  # nanoseconds that one timing takes at least
 DECK = 1  # GLP_MPS_DECK, the fixed columns
 OFF = 0  # GLP_OFF
-NODE_BYTES = 7
+NODE_BYTES = 8
 ROOM = 25_000_000  # more than the bytes of any page
 SMALL = b"a0Ua1"
 MEDIUM = b"G(a0&!a1>F(a2|a3))&(a4Ua5)Ua2>F(a3&a5)"
@@ -37,8 +37,8 @@ MIXED = b"G(a0&!a1>F[0,5](a2|a3))&G[1,12](a4>F[2,9]a5)&a4Ua2>F[3,20](a3|F[0,63]G
 
 def chain(kind, a, b):
     """128 nodes, all but the first of one kind."""
-    first = bytes([0x4E, 0x44, 1, 0, 0, 0, 0])
-    return first + b"".join(bytes([0x4E, 0x44, kind, node - 1, 0, a, b]) for node in range(1, 128))
+    first = bytes([0x4E, 0x44, 1, 0, 0, 0, 0, 0])
+    return first + b"".join(bytes([0x4E, 0x44, kind, node - 1, 0, a, b, node]) for node in range(1, 128))
 
 
 # Untils: the most rows without windows. The widest windows of G: the most rows and the longest page of all.

@@ -1,9 +1,9 @@
-/* Reads a rule, writes its rows and its MPS page, evaluates a run and judges the figures that the run makes. Build and run: examples/run-c */
+/* Reads a rule and draws it, writes its rows and its MPS page, evaluates a run and judges the figures that the run makes. Build and run: examples/run-c */
 #include <stdio.h>
 #include <string.h>
 #include "sepia.h"
 
-enum { T = 8, M = 2, NODES = 128, NODE_BYTES = 7, ONE = 1000000 };
+enum { T = 8, M = 2, NODES = 128, NODE_BYTES = 8, KIND = 2, HEIGHT = 7, ONE = 1000000 };
 
 int main(void) {
     const char *rule = "G(a0 > F[0,5] a1)"; /* read-back within five slots */
@@ -23,6 +23,12 @@ int main(void) {
     }
     size_t nodes = read.value, bytes = NODE_BYTES * nodes;
     printf("nodes %zu\n", nodes);
+
+    /* the rule as a tree, the root first, each node as far to the right as its height is below the root's */
+    for (size_t n = nodes; n-- > 0;) {
+        const uint8_t *node = table + NODE_BYTES * n;
+        printf("%*skind %d, height %d\n", 2 * (table[bytes - 1] - node[HEIGHT]), "", node[KIND], node[HEIGHT]);
+    }
 
     sepia_answer written = sepia_rows(table, bytes, T, M, rows, sizeof rows);
     printf("rows %u\n", written.value);

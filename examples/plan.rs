@@ -55,10 +55,10 @@ fn judge(table: &[u8], t: usize, m: usize, figures: &[i32], e: i32) -> Result<(u
 const T: usize = 8;
 const M: usize = 2;
 const NODES: usize = 128;
-const NODE_BYTES: usize = 7;
+const NODE_BYTES: usize = 8;
 const ONE: i32 = 1_000_000;
 
-const VERSION: u32 = 4; // of the boundary declared above
+const VERSION: u32 = 5; // of the boundary declared above
 
 fn main() -> Result<(), u32> {
     assert_eq!(unsafe { sepia_version() }, VERSION);

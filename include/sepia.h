@@ -14,9 +14,13 @@
 extern "C" {
 #endif
 
-/* The version that this header describes. It rises with each change of the boundary: 4 since rules have windows (node records of 7 bytes, row
- * records without padding, refusal 12, the order of refusals). */
-#define SEPIA_VERSION 4
+/* The version that this header describes. It rises with each change of the boundary:
+ *   1  as first offered
+ *   2  a broken verdict carries its shortfall
+ *   3  sepia_mps
+ *   4  rules with windows: node records of 7 bytes, row records without padding, refusal 12, the order of refusals; sepia_version
+ *   5  node records of 8 bytes, with the node's height; refusal 7 also when a height is wrong */
+#define SEPIA_VERSION 5
 
 /* The version of the library; to be compared with SEPIA_VERSION. */
 uint32_t sepia_version(void);
@@ -30,7 +34,7 @@ enum {
     SEPIA_GRAMMAR = 4,     /* read: the text is outside the grammar */
     SEPIA_ATOM_NUMBER = 5, /* read: an atom number of M or more */
     SEPIA_NODES = 6,       /* read: over 128 nodes */
-    SEPIA_TABLE = 7,       /* all but read: the table is not good */
+    SEPIA_TABLE = 7,       /* all but read: the table is not good; also when a height is wrong, be it of a node that the root does not use */
     SEPIA_RUN = 8,         /* evaluate: the run is not T numbers, or a bit at M or above is set */
     SEPIA_FIGURES = 9,     /* judge: the figures are not (M + N)*T */
     SEPIA_TOLERANCE = 10,  /* judge: the tolerance is not 0 to 1,000 */
@@ -63,8 +67,9 @@ typedef struct {
 } sepia_verdict;
 
 /* Reads a rule text with atoms below m into its node table. The result is the node count.
- * A node has 7 bytes: 4E 44 (hexadecimal), kind, left, right, and the window's a and b, which are 0 in kinds other than 9 (F[a,b]) and
- * 10 (G[a,b]). A table has at most 128 nodes, 896 bytes. */
+ * A node has 8 bytes: 4E 44 (hexadecimal), kind, left, right, the window's a and b, which are 0 in kinds other than 9 (F[a,b]) and
+ * 10 (G[a,b]), and the node's height: 0 for an atom, otherwise 1 more than that of its highest child. Callers may rely on the height: it is
+ * filled in here, and the other calls refuse a table in which one is wrong. A table has at most 128 nodes, 1,024 bytes. */
 sepia_answer sepia_read(const uint8_t *text, size_t text_len, size_t m, uint8_t *out, size_t out_len);
 
 /* Evaluates a table over a run of t numbers, bit a of each the truth of atom a; after slot t the run repeats slot t for good.

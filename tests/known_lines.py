@@ -9,6 +9,8 @@ What is expected is written down below, comes from SPIN (tests/spin.txt) or is w
 must also be what the paper's words give. A new call has a function here that writes its case and what must be printed.
 """
 
+import itertools
+
 import paper
 from data_file import TOP, write_or_check
 
@@ -34,7 +36,7 @@ LISTING = 184000
 LONG = 1000
 NAMES = {"n": "value", "v": "value", "r": "refused", "o": "outside", "b": "not binary", "k": "broken", "p": "passed"}
 KINDS = {**paper.SINGLE, **paper.DOUBLE}
-RECORD = 7
+RECORD = paper.RECORD
 
 CASES, PRINTED = [], []
 
@@ -99,8 +101,24 @@ def table(*nodes):
     return paper.table([(*node, 0, 0)[:5] for node in nodes])
 
 
-def read(m, room, expected, text):
-    """Expected is a refusal, or the nodes as nodes_of takes them."""
+def heights_in(records):
+    return list(records[RECORD - 1 :: RECORD])
+
+
+def with_height(records, number, height):
+    """The table with this height in the record of node `number`."""
+    at = RECORD * number + RECORD - 1
+    return records[:at] + bytes([height]) + records[at + 1 :]
+
+
+def with_heights(records, heights):
+    for number, height in enumerate(heights):
+        records = with_height(records, number, height)
+    return records
+
+
+def read(m, room, expected, text, heights=None):
+    """Expected is a refusal, or the nodes as nodes_of takes them; heights are those of the nodes, as words."""
     text = text.encode() if isinstance(text, str) else text
     found = paper.reading(text.decode("latin-1"), m, room)
     if expected[0] == "r":
@@ -109,17 +127,14 @@ def read(m, room, expected, text):
     else:
         nodes = nodes_of(expected)
         assert nodes == found
+        assert heights is None or heights_in(paper.table(nodes)) == [int(height) for height in heights.split()]
         case("read", [room, m], text, f"value {len(nodes)}", lent(room, paper.table(nodes)))
-
-
-def nodes_in(records):
-    return [tuple(records[at + 2 : at + RECORD]) for at in range(0, len(records), RECORD)]
 
 
 def truths(records, m, run):
     """The truth of each node at each slot, of the paper's words."""
     atoms = [[number >> atom & 1 for number in run] for atom in range(m)]
-    return [[int(bit) for bit in truth] for truth in paper.truth(nodes_in(records), atoms)]
+    return [[int(bit) for bit in truth] for truth in paper.truth(paper.nodes_in(records), atoms)]
 
 
 def evaluate(t, m, room, answer, run, truth, nodes):
@@ -155,7 +170,7 @@ def rows(t, m, room, answer, expected, nodes):
     if refusal is not None:
         assert answer == f"r{refusal}" and not expected
     else:
-        found = paper.rows(nodes_in(nodes), t, m)
+        found = paper.rows(paper.nodes_in(nodes), t, m)
         fits = row_bytes(found) <= room
         assert answer == (f"n{len(found)}" if fits else "r11") and expected == (found if fits else [])
     case("write", [room, t, m], nodes, said(answer), lent(room, b"".join(map(paper.record, expected))))
@@ -167,7 +182,7 @@ def judge(t, m, e, figures, answer, nodes):
         refusal = 9
     if refusal is None and not 0 <= e <= 1000:
         refusal = 10
-    assert said(answer) == (f"refused {refusal}" if refusal is not None else paper.verdict(nodes_in(nodes), t, m, figures, e))
+    assert said(answer) == (f"refused {refusal}" if refusal is not None else paper.verdict(paper.nodes_in(nodes), t, m, figures, e))
     case("judge", [t, m, e, *figures], nodes, said(answer))
 
 
@@ -182,7 +197,7 @@ def mps(t, m, room, answer, page, nodes):
         assert answer == ("r11" if refusal is None else f"r{refusal}") and not page
     else:
         assert answer == f"n{len(page)}" and refusal is None
-        assert len(page) > LONG or page == page_of(nodes_in(nodes), t, m)
+        assert len(page) > LONG or page == page_of(paper.nodes_in(nodes), t, m)
     case("mps", [room, t, m], nodes, said(answer), lent(room, page.encode(), text=True))
 
 
@@ -221,84 +236,84 @@ NOTS = table((1, 0, 0), *((2, child, 0) for child in range(127)))
 
 def reading():
     say("The paper, refusals: empty; `a0 a1`; `a01`; `a 0`; `a16`, M 16; 128 times `!`; 1,025 spaces; M 0")
-    read(2, 896, "r4", "")
-    read(2, 896, "r4", "a0 a1")
-    read(2, 896, "r4", "a01")
-    read(2, 896, "r4", "a 0")
-    read(16, 896, "r5", "a16")
-    read(1, 903, "r6", "!" * 128 + "a0")
-    read(1, 896, "r3", " " * 1025)
-    read(0, 896, "r2", "a0")
+    read(2, 1024, "r4", "")
+    read(2, 1024, "r4", "a0 a1")
+    read(2, 1024, "r4", "a01")
+    read(2, 1024, "r4", "a 0")
+    read(16, 1024, "r5", "a16")
+    read(1, 1032, "r6", "!" * 128 + "a0")
+    read(1, 1024, "r3", " " * 1025)
+    read(0, 1024, "r2", "a0")
     say("The paper, accepted: 127 times `!` then `a0`; `a0` followed by 1,022 spaces; its known rules")
-    read(1, 896, "a0" + " !" * 127, "!" * 127 + "a0")
-    read(1, 896, "a0", "a0" + " " * 1022)
-    read(2, 21, "a0 a1 U", "a0 U a1")
-    read(2, 14, "a1 F", "F a1")
-    read(2, 14, "a0 G", "G a0")
-    read(2, 21, "a0 a1 >", "a0>a1")
-    read(2, 21, "a0 F G", "GFa0")
-    read(2, 21, "a0 G F", "FGa0")
-    read(2, 35, "a0 a1 & a0 |", "a0&a1|a0")
-    read(2, 35, "a0 a1 a0 U U", "a0Ua1Ua0")
-    read(2, 28, "a0 ! a1 U", "!a0Ua1")
+    read(1, 1024, "a0" + " !" * 127, "!" * 127 + "a0")
+    read(1, 1024, "a0", "a0" + " " * 1022)
+    read(2, 24, "a0 a1 U", "a0 U a1")
+    read(2, 16, "a1 F", "F a1")
+    read(2, 16, "a0 G", "G a0")
+    read(2, 24, "a0 a1 >", "a0>a1")
+    read(2, 24, "a0 F G", "GFa0")
+    read(2, 24, "a0 G F", "FGa0")
+    read(2, 40, "a0 a1 & a0 |", "a0&a1|a0")
+    read(2, 40, "a0 a1 a0 U U", "a0Ua1Ua0")
+    read(2, 32, "a0 ! a1 U", "!a0Ua1")
     say("By hand from the paper: limits of M, of the text's length and of the nodes; the buffer")
-    read(17, 896, "r2", "a0")
-    read(257, 896, "r2", "a0")
-    read(65537, 896, "r2", "a0")
-    read(4294967297, 896, "r2", "a0")
-    read(16, 896, "a15", "a15")
-    read(1, 896, "r5", "a1")
-    read(1, 896, "a0", " " * 1022 + "a0")
-    read(1, 896, "a0", " " * 511 + "a0" + " " * 511)
-    read(1, 896, "r3", "a0" + " " * 1023)
-    read(1, 896, "r4", " " * 1024)
-    read(1, 896, "a0 !" + " a0" * 63 + " &" * 63, "!a0" + "&a0" * 63)
-    read(1, 903, "r6", "a0" + "&a0" * 64)
-    read(1, 896, "a0" + " a0" * 63 + " U" * 63, "a0" + "Ua0" * 63)
-    read(1, 896, "a0", "(" * 511 + "a0" + ")" * 511)
-    read(1, 896, "r4", "(" * 1024)
-    read(1, 896, "r4", "!" * 1024)
-    read(1, 896, "r6", "!" * 1022 + "a0")
-    read(1, 7, "a0", "a0")
+    read(17, 1024, "r2", "a0")
+    read(257, 1024, "r2", "a0")
+    read(65537, 1024, "r2", "a0")
+    read(4294967297, 1024, "r2", "a0")
+    read(16, 1024, "a15", "a15")
+    read(1, 1024, "r5", "a1")
+    read(1, 1024, "a0", " " * 1022 + "a0")
+    read(1, 1024, "a0", " " * 511 + "a0" + " " * 511)
+    read(1, 1024, "r3", "a0" + " " * 1023)
+    read(1, 1024, "r4", " " * 1024)
+    read(1, 1024, "a0 !" + " a0" * 63 + " &" * 63, "!a0" + "&a0" * 63)
+    read(1, 1032, "r6", "a0" + "&a0" * 64)
+    read(1, 1024, "a0" + " a0" * 63 + " U" * 63, "a0" + "Ua0" * 63)
+    read(1, 1024, "a0", "(" * 511 + "a0" + ")" * 511)
+    read(1, 1024, "r4", "(" * 1024)
+    read(1, 1024, "r4", "!" * 1024)
+    read(1, 1024, "r6", "!" * 1022 + "a0")
     read(1, 8, "a0", "a0")
-    read(1, 6, "r11", "a0")
+    read(1, 9, "a0", "a0")
+    read(1, 7, "r11", "a0")
     read(1, 0, "r11", "a0")
-    read(2, 20, "r11", "a0Ua1")
-    read(2, 21, "a0 a1 U", "a0Ua1")
-    read(1, 895, "r11", "!" * 127 + "a0")
+    read(2, 23, "r11", "a0Ua1")
+    read(2, 24, "a0 a1 U", "a0Ua1")
+    read(1, 1023, "r11", "!" * 127 + "a0")
     say("By hand: the first refusal in the order of the checks wins, and a fault at the end comes before all that is known earlier")
     read(0, 0, "r2", " " * 1025)
     read(17, 0, "r2", "")
     read(1, 0, "r3", "a9" + ")" * 1023)
-    read(1, 896, "r4", "!" * 200 + ")")
-    read(1, 896, "r4", "!" * 200 + "a0)")
-    read(2, 896, "r4", "a9)")
+    read(1, 1024, "r4", "!" * 200 + ")")
+    read(1, 1024, "r4", "!" * 200 + "a0)")
+    read(2, 1024, "r4", "a9)")
     read(2, 0, "r4", "a0&")
-    read(1, 896, "r5", "!" * 128 + "a9")
+    read(1, 1024, "r5", "!" * 128 + "a9")
     read(1, 0, "r5", "a1")
     read(1, 0, "r6", "!" * 128 + "a0")
     say("By hand: atom numbers of any length, no leading zeros, no space within")
-    read(16, 896, "r4", "a00")
-    read(16, 896, "r4", "a01")
-    read(16, 896, "r4", "a015")
-    read(16, 896, "r4", "a")
-    read(16, 896, "r4", "aa0")
-    read(16, 896, "r4", "a1 5")
-    read(16, 896, "a10", "a10")
+    read(16, 1024, "r4", "a00")
+    read(16, 1024, "r4", "a01")
+    read(16, 1024, "r4", "a015")
+    read(16, 1024, "r4", "a")
+    read(16, 1024, "r4", "aa0")
+    read(16, 1024, "r4", "a1 5")
+    read(16, 1024, "a10", "a10")
     for power in (8, 16, 32, 64, 128):
-        read(16, 896, "r5", f"a{2**power}")
-    read(16, 896, "r5", f"a{2**64 + 1}&a0")
-    read(16, 896, "r5", "a" + "1" * 1023)
-    read(16, 896, "r5", "a" + "9" * 1023)
-    read(16, 896, "r4", "a" + "0" * 1023)
-    read(16, 896, "r3", "a" + "1" * 1024)
+        read(16, 1024, "r5", f"a{2**power}")
+    read(16, 1024, "r5", f"a{2**64 + 1}&a0")
+    read(16, 1024, "r5", "a" + "1" * 1023)
+    read(16, 1024, "r5", "a" + "9" * 1023)
+    read(16, 1024, "r4", "a" + "0" * 1023)
+    read(16, 1024, "r3", "a" + "1" * 1024)
     say("By hand: bytes that the grammar does not use, at the start, in the middle and at the end")
     for byte in (0x00, 0x09, 0x0A, 0x0D, 0x80, 0xA0, 0xFF):
         other = bytes([byte])
-        read(2, 896, "r4", other + b"a0&a1")
-        read(2, 896, "r4", b"a0" + other + b"&a1")
-        read(2, 896, "r4", b"a0&a1" + other)
-        read(2, 896, "r4", other)
+        read(2, 1024, "r4", other + b"a0&a1")
+        read(2, 1024, "r4", b"a0" + other + b"&a1")
+        read(2, 1024, "r4", b"a0&a1" + other)
+        read(2, 1024, "r4", other)
     say("By hand: outside the grammar")
     for text in (
         "a0U", "Ua0", "a0>", ">a0", "a0&", "&a0", "a0|", "|a0", "!", "F", "G", "(", ")", "()", "(a0", "a0)", "((a0)",
@@ -306,16 +321,16 @@ def reading():
         "ga0", "Xa0", "a-1", "a+1", "a0.", "a0->a1", "a0&&a1", "a0||a1", "a0U a1 a0", "a0 0", "!(a0", ")a0(", "a0[]",
         "a0,a1",
     ):
-        read(2, 896, "r4", text)
+        read(2, 1024, "r4", text)
     say("By hand: spaces and brackets make no node")
-    read(2, 896, "a0 a1 U", "  a0  U  a1  ")
-    read(2, 896, "a0 a1 U", "( ( a0 ) U ( ( a1 ) ) )")
-    read(2, 896, "a0 !", " ! ( a0 ) ")
-    read(2, 896, "a0 a1 U !", "!(a0Ua1)")
-    read(2, 896, "a0 a1 F > G a0 ! |", "G(a0>Fa1)|!a0")
-    read(2, 896, "a0 a1 a0 > >", "a0 > a1 > a0")
-    read(2, 896, "a0 a1 > a0 a1 | U a0 &", "(a0>a1)U(a0|a1)&a0")
-    read(2, 896, "a0 a1 & F a0 ! U a0 a1 > G |", "F(a0&a1)U!a0|G(a0>a1)")
+    read(2, 1024, "a0 a1 U", "  a0  U  a1  ")
+    read(2, 1024, "a0 a1 U", "( ( a0 ) U ( ( a1 ) ) )")
+    read(2, 1024, "a0 !", " ! ( a0 ) ")
+    read(2, 1024, "a0 a1 U !", "!(a0Ua1)")
+    read(2, 1024, "a0 a1 F > G a0 ! |", "G(a0>Fa1)|!a0")
+    read(2, 1024, "a0 a1 a0 > >", "a0 > a1 > a0")
+    read(2, 1024, "a0 a1 > a0 a1 | U a0 &", "(a0>a1)U(a0|a1)&a0")
+    read(2, 1024, "a0 a1 & F a0 ! U a0 a1 > G |", "F(a0&a1)U!a0|G(a0>a1)")
 
 
 # What may stand wrong in a window.
@@ -333,44 +348,44 @@ NOT_WINDOWS = (
 
 def reading_windows():
     say("The request (N4): windows before a Single, with spaces before and after each token")
-    read(1, 14, "a0 F[0,5]", "F[0,5]a0")
-    read(1, 14, "a0 G[0,5]", "G[0,5]a0")
-    read(1, 14, "a0 F[0,5]", "F [ 0 , 5 ] a0")
-    read(1, 14, "a0 G[10,63]", "   G   [   10   ,   63   ]   a0   ")
-    read(1, 14, "a0 F[0,0]", "F[0,0]a0")
-    read(1, 14, "a0 G[63,63]", "G[63,63](a0)")
-    read(1, 14, "a0 F[0,63]", "(F[0,63]((a0)))")
-    read(1, 14, "a0 F[9,10]", "F[9, 10]a0")
-    read(2, 21, "a1 G[1,2] F[0,3]", "F[0,3]G[1,2]a1")
-    read(1, 35, "a0 F[2,2] ! G F[0,1]", "F[0,1]G!F[2,2]a0")
-    read(1, 21, "a0 F F[0,1]", "F[0,1]Fa0")
-    read(1, 21, "a0 F[0,1] F", "FF[0,1]a0")
-    read(1, 21, "a0 G[0,0] !", "!G[0,0]a0")
-    read(2, 28, "a0 F[0,1] a1 U", "F[0,1]a0Ua1")
-    read(2, 28, "a0 a1 U F[0,1]", "F[0,1](a0Ua1)")
-    read(2, 28, "a0 a1 G[0,1] U", "a0UG[0,1]a1")
-    read(2, 49, "a0 F[0,1] a1 G[2,3] & a0 >", "F[0,1]a0&G[2,3]a1>a0")
-    read(2, 35, "a0 a1 F[1,5] > G", "G(a0>F[1,5]a1)")
+    read(1, 16, "a0 F[0,5]", "F[0,5]a0")
+    read(1, 16, "a0 G[0,5]", "G[0,5]a0")
+    read(1, 16, "a0 F[0,5]", "F [ 0 , 5 ] a0")
+    read(1, 16, "a0 G[10,63]", "   G   [   10   ,   63   ]   a0   ")
+    read(1, 16, "a0 F[0,0]", "F[0,0]a0")
+    read(1, 16, "a0 G[63,63]", "G[63,63](a0)")
+    read(1, 16, "a0 F[0,63]", "(F[0,63]((a0)))")
+    read(1, 16, "a0 F[9,10]", "F[9, 10]a0")
+    read(2, 24, "a1 G[1,2] F[0,3]", "F[0,3]G[1,2]a1")
+    read(1, 40, "a0 F[2,2] ! G F[0,1]", "F[0,1]G!F[2,2]a0")
+    read(1, 24, "a0 F F[0,1]", "F[0,1]Fa0")
+    read(1, 24, "a0 F[0,1] F", "FF[0,1]a0")
+    read(1, 24, "a0 G[0,0] !", "!G[0,0]a0")
+    read(2, 32, "a0 F[0,1] a1 U", "F[0,1]a0Ua1")
+    read(2, 32, "a0 a1 U F[0,1]", "F[0,1](a0Ua1)")
+    read(2, 32, "a0 a1 G[0,1] U", "a0UG[0,1]a1")
+    read(2, 56, "a0 F[0,1] a1 G[2,3] & a0 >", "F[0,1]a0&G[2,3]a1>a0")
+    read(2, 40, "a0 a1 F[1,5] > G", "G(a0>F[1,5]a1)")
     say("By hand: 128 nodes of windows, and the buffer")
-    read(1, 896, "a0" + " G[0,63]" * 127, "G[0,63]" * 127 + "a0")
-    read(1, 895, "r11", "G[0,63]" * 127 + "a0")
-    read(1, 897, "a0" + " F[1,2]" * 127, "F[1,2]" * 127 + "a0")
-    read(1, 903, "r6", "F[0,1]" * 128 + "a0")
+    read(1, 1024, "a0" + " G[0,63]" * 127, "G[0,63]" * 127 + "a0")
+    read(1, 1023, "r11", "G[0,63]" * 127 + "a0")
+    read(1, 1025, "a0" + " F[1,2]" * 127, "F[1,2]" * 127 + "a0")
+    read(1, 1032, "r6", "F[0,1]" * 128 + "a0")
     read(1, 0, "r6", "F[0,1]" * 128 + "a0")
-    read(1, 13, "r11", "F[0,5]a0")
-    read(1, 15, "a0 F[0,5]", "F[0,5]a0")
+    read(1, 15, "r11", "F[0,5]a0")
+    read(1, 17, "a0 F[0,5]", "F[0,5]a0")
     read(1, 0, "r11", "F[0,5]a0")
     say("By hand: outside the grammar, a window among it")
     for text in NOT_WINDOWS:
-        read(2, 896, "r4", text)
+        read(2, 1024, "r4", text)
     for byte in (0x00, 0x09, 0x0A, 0x0D, 0x80, 0xA0, 0xFF):
         other = bytes([byte])
-        read(1, 896, "r4", b"F" + other + b"[0,5]a0")
-        read(1, 896, "r4", b"F[0" + other + b",5]a0")
-        read(1, 896, "r4", b"F[0,5" + other + b"]a0")
-        read(1, 896, "r4", b"F[0,5]" + other + b"a0")
-    read(1, 896, "r4", "F[" + "0" * 1000 + ",5]a0")
-    read(1, 896, "r4", "F[0,0" + "1" * 1000 + "]a0")
+        read(1, 1024, "r4", b"F" + other + b"[0,5]a0")
+        read(1, 1024, "r4", b"F[0" + other + b",5]a0")
+        read(1, 1024, "r4", b"F[0,5" + other + b"]a0")
+        read(1, 1024, "r4", b"F[0,5]" + other + b"a0")
+    read(1, 1024, "r4", "F[" + "0" * 1000 + ",5]a0")
+    read(1, 1024, "r4", "F[0,0" + "1" * 1000 + "]a0")
 
 
 def refusing_windows():
@@ -381,29 +396,76 @@ def refusing_windows():
         "0,18446744073709551616", "0,18446744073709551679", "18446744073709551616,18446744073709551616",
         "1" + "0" * 999 + ",63", "0," + "9" * 1000, "9" * 500 + "," + "9" * 500,
     ):
-        read(1, 896, "r12", f"F[{window}]a0")
-        read(1, 896, "r12", f"G[{window}]a0")
+        read(1, 1024, "r12", f"F[{window}]a0")
+        read(1, 1024, "r12", f"G[{window}]a0")
     say("By hand: such a window at another place than the top")
     for text in (
         "a0&F[1,0]a1", "F[1,0]a0&a1", "G(a0>F[5,4]a1)", "F[0,1]F[1,0]a0", "F[1,0]F[0,1]a0", "!G[0,64]!a0", "a0U(a1UG[2,1]a0)",
     ):
-        read(2, 896, "r12", text)
+        read(2, 1024, "r12", text)
     say("By hand: the first in the order of the checks, 2, 3, 4, 5, 12, 6, 11")
-    read(0, 896, "r2", "F[1,0]a0")
+    read(0, 1024, "r2", "F[1,0]a0")
     read(17, 0, "r2", "F[1,0]a0")
-    read(1, 896, "r3", "F[1,0]a0" + " " * 1017)
-    read(1, 896, "r12", "F[1,0]a0" + " " * 1016)
+    read(1, 1024, "r3", "F[1,0]a0" + " " * 1017)
+    read(1, 1024, "r12", "F[1,0]a0" + " " * 1016)
     for text in ("F[1,0]a0)", "F[1,0]", "F[1,0]a0 a0", "(F[1,0]a0", "F[1,0]a9)", "F[1,0]F[01,2]a0", "!" * 200 + "F[1,0]"):
-        read(2, 896, "r4", text)
-    read(2, 896, "r5", "F[1,0]a9")
+        read(2, 1024, "r4", text)
+    read(2, 1024, "r5", "F[1,0]a9")
     read(2, 0, "r5", "F[0,64]a0&a2")
-    read(2, 896, "r5", "!" * 200 + "F[1,0]a9")
-    read(2, 896, "r12", "!" * 198 + "F[1,0]a0")
-    read(2, 896, "r12", "F[1,0]a0" + "&a0" * 99)
-    read(1, 896, "r12", "F[0,1]" * 127 + "G[0,64]a0")
+    read(2, 1024, "r5", "!" * 200 + "F[1,0]a9")
+    read(2, 1024, "r12", "!" * 198 + "F[1,0]a0")
+    read(2, 1024, "r12", "F[1,0]a0" + "&a0" * 99)
+    read(1, 1024, "r12", "F[0,1]" * 127 + "G[0,64]a0")
     read(1, 0, "r12", "F[1,0]a0")
-    read(1, 13, "r12", "F[0,64]a0")
-    read(1, 903, "r12", "G[1,0]" * 128 + "a0")
+    read(1, 15, "r12", "F[0,64]a0")
+    read(1, 1032, "r12", "G[1,0]" * 128 + "a0")
+
+
+def reading_heights():
+    say("By hand from the request (N6): the heights that the reader fills in, 0 for an atom, otherwise 1 more than the highest child")
+    read(1, 8, "a0", "a0", "0")
+    for single in "!", "F", "G", "F[0,5]", "G[2,63]":
+        read(1, 16, f"a0 {single}", f"{single}a0", "0 1")
+    for double in "&|>U":
+        read(2, 24, f"a0 a1 {double}", f"a0{double}a1", "0 0 1")
+        read(2, 32, f"a0 ! a1 {double}", f"!a0{double}a1", "0 1 0 2")
+        read(2, 32, f"a0 a1 ! {double}", f"a0{double}!a1", "0 0 1 2")
+        read(2, 40, f"a0 F a1 G {double}", f"Fa0{double}Ga1", "0 1 0 1 2")
+        read(2, 48, f"a0 G[0,1] F a1 ! {double}", f"FG[0,1]a0{double}!a1", "0 1 2 0 1 3")
+        read(2, 56, f"a0 a1 a0 a1 {double} {double} {double}", f"a0{double}a1{double}a0{double}a1", "0 0 0 0 1 2 3")
+        read(2, 56, f"a0 a1 {double} a0 {double} a1 {double}", f"((a0{double}a1){double}a0){double}a1", "0 0 1 0 2 0 3")
+        read(2, 56, f"a0 a1 {double} a0 a1 {double} {double}", f"(a0{double}a1){double}(a0{double}a1)", "0 0 1 0 0 1 2")
+    read(3, 48, "a0 a1 a2 ! | &", "a0&(a1|!a2)", "0 0 0 1 2 3")
+    read(3, 48, "a0 ! a1 | a2 &", "(!a0|a1)&a2", "0 1 0 2 0 3")
+    read(3, 72, "a0 a1 a2 a0 a1 U & | >", "a0>a1|a2&a0Ua1", "0 0 0 0 0 1 2 3 4")
+    read(3, 72, "a0 a1 U a2 & a0 | a1 >", "a0Ua1&a2|a0>a1", "0 0 1 0 2 0 3 0 4")
+    read(2, 40, "a0 a1 F[1,5] > G", "G(a0>F[1,5]a1)", "0 0 1 2 3")
+    read(2, 48, "a0 F[0,1] a1 ! G[2,3] U", "F[0,1]a0UG[2,3]!a1", "0 1 0 1 2 3")
+    read(1, 16, "a0 !", " ! ( ( ( a0 ) ) ) ", "0 1")
+    read(3, 104, MIXED_RULE, "G(a0>Fa1)&!(a2U!a0)|a1", "0 0 1 2 3 0 0 1 2 3 4 0 5")
+    read(3, 96, WINDOWED_RULE, "G(a0>F[1,2]a1)|!(a2UG[0,1]!a0)", "0 0 1 2 3 0 0 1 2 3 4 5")
+    say("By hand: chains up to 127, the largest height; chains grouped to the right and to the left; 64 atoms in pairs, of height 6")
+    to_127, to_63 = (" ".join(map(str, range(end))) for end in (128, 64))
+    for words in ["!"], ["F"], ["G"], ["F[0,1]"], ["G[0,63]"], ["F", "G", "!"], ["!", "F[0,1]", "G", "F", "G[2,3]"]:
+        chain = (words * 127)[:127]
+        read(1, 1024, " ".join(["a0", *reversed(chain)]), "".join(chain) + "a0", to_127)
+    read(1, 1016, "a0" + " a0" * 63 + " U" * 63, "a0" + "Ua0" * 63, "0 " * 63 + to_63)
+    read(1, 1024, "a0 !" + " a0" * 63 + " &" * 63, "!a0" + "&a0" * 63, "0 1 " + "0 " * 62 + to_63)
+    lefts = " ".join(f"0 {height}" for height in range(1, 64))
+    read(1, 1016, "a0" + " a0 >" * 63, "(" * 62 + "a0" + ">a0)" * 62 + ">a0", f"0 {lefts}")
+    rule, text, heights = "a0", "a0", "0"
+    for height in range(1, 7):
+        rule, text, heights = f"{rule} {rule} |", f"({text}|{text})", f"{heights} {heights} {height}"
+    read(1, 1016, rule, text, heights)
+    say("By hand: the buffer has 8 bytes for each node; the 7 bytes of a record without height are too few")
+    for count, rule, text in (
+        (1, "a0", "a0"), (2, "a0 G", "Ga0"), (3, "a0 a0 U", "a0Ua0"), (8, "a0" + " F[0,1]" * 7, "F[0,1]" * 7 + "a0"),
+        (127, "a0" + " !" * 126, "!" * 126 + "a0"), (128, "a0" + " F" * 127, "F" * 127 + "a0"),
+    ):
+        for room in 7 * count, 8 * count - 1:
+            read(1, room, "r11", text)
+        for room in 8 * count, 8 * count + 1:
+            read(1, room, rule, text)
 
 
 def evaluating():
@@ -469,7 +531,7 @@ def evaluating():
     evaluate(2, 2, 0, "r11", [0, 0], "", UNTIL)
     say("By hand: tables that are not good")
     for nodes in (
-        ATOM[:5], ATOM[:6], ATOM + b"\x4e", ATOM + ATOM[:6], NOTS + b"\x4e", NOTS + ATOM, b"\x4e\x45" + ATOM[2:],
+        ATOM[:5], ATOM[:7], ATOM + b"\x4e", ATOM + ATOM[:7], NOTS + b"\x4e", NOTS + ATOM, b"\x4e\x45" + ATOM[2:],
         b"\x4f\x44" + ATOM[2:], b"\x44\x4e" + ATOM[2:], table((0, 0, 0)), table((11, 0, 0)), table((255, 0, 0)),
         table((2, 0, 0)), table((3, 0, 0)), table((1, 2, 0)), table((1, 255, 0)), table((1, 0, 1)),
         *(table((1, 0, 0), second) for second in (
@@ -900,8 +962,8 @@ def on_runs(t, records, cases):
 
 def of_every_kind():
     say("A rule of every kind, `G(a0>Fa1)&!(a2U!a0)|a1`; its truths are also those of the reference implementation in bench/")
-    read(3, 91, MIXED_RULE, "G(a0>Fa1)&!(a2U!a0)|a1")
-    read(3, 90, "r11", "G(a0>Fa1)&!(a2U!a0)|a1")
+    read(3, 104, MIXED_RULE, "G(a0>Fa1)&!(a2U!a0)|a1")
+    read(3, 103, "r11", "G(a0>Fa1)&!(a2U!a0)|a1")
     on_runs(4, MIXED, (
         ([0, 1, 2, 4], "v0", "0100 0010 1110 1111 1111 0001 0100 1011 1011 0100 0100 0010 0110", "k97,1000000"),
         ([5, 7, 4, 1], "v0", "1101 0100 1100 1110 0000 1110 1101 0010 1110 0001 0000 0100 0100", "k97,1000000"),
@@ -918,13 +980,132 @@ WINDOWED = paper.table(nodes_of(WINDOWED_RULE))
 
 def of_windows():
     say("By hand: a rule of both windows among others, `G(a0>F[1,2]a1)|!(a2UG[0,1]!a0)`, T 4, M 3")
-    read(3, 84, WINDOWED_RULE, "G(a0>F[1,2]a1)|!(a2UG[0,1]!a0)")
-    read(3, 83, "r11", "G ( a0 > F [ 1 , 2 ] a1 ) | ! ( a2 U G [ 0 , 1 ] ! a0 )")
+    read(3, 96, WINDOWED_RULE, "G(a0>F[1,2]a1)|!(a2UG[0,1]!a0)")
+    read(3, 95, "r11", "G ( a0 > F [ 1 , 2 ] a1 ) | ! ( a2 U G [ 0 , 1 ] ! a0 )")
     on_runs(4, WINDOWED, (
         ([1, 4, 2, 0], "v1", "1000 0010 1100 1111 1111 0100 1000 0111 0111 0111 1000 1111", "p93"),
         ([5, 5, 0, 0], "v0", "1100 0000 0000 0011 0011 1100 1100 0011 0011 1111 0000 0011", "k92,1000000"),
         ([5, 4, 1, 1], "v1", "1011 0000 0000 0100 0000 1100 1011 0100 0000 0000 1111 1111", "p93"),
     ))
+
+
+# Hand-made good tables and their heights: children shared, the same on both sides, and nodes that the root does not use.
+HEIGHTS = (
+    ("0", ATOM),
+    ("0 0", table((1, 0, 0), (1, 2, 0))),
+    ("0 0 0 1 0", table((1, 1, 0), (1, 2, 0), (1, 0, 0), (3, 0, 2), (1, 2, 0))),
+    ("0 1 2 3 4 5", table((1, 0, 0), (2, 0, 0), (6, 1, 0), (7, 2, 0), (9, 3, 0, 0, 1), (10, 4, 0, 2, 63))),
+    *(("0 1 0 2", table((1, 0, 0), (2, 0, 0), (1, 1, 0), (kind, 1, 2))) for kind in paper.DOUBLE.values()),
+    *(("0 1 0 2", table((1, 0, 0), (7, 0, 0), (1, 1, 0), (kind, 2, 1))) for kind in paper.DOUBLE.values()),
+    ("0 1 2 3 4", table((1, 0, 0), (3, 0, 0), (4, 1, 1), (5, 2, 2), (8, 3, 3))),
+    ("0 1 2 2 3 4 4", table((1, 0, 0), (2, 0, 0), (5, 0, 1), (4, 1, 0), (8, 2, 3), (3, 4, 0), (3, 0, 4))),
+    ("0 1 2 0 3 3 1", table((1, 0, 0), (9, 0, 0, 0, 1), (2, 1, 0), (1, 1, 0), (3, 2, 3), (8, 3, 2), (6, 3, 0))),
+    ("0 1 2 3 0", table((1, 0, 0), (2, 0, 0), (10, 1, 0, 1, 1), (6, 2, 0), (1, 1, 0))),
+    ("0 1 2 1 2", table((1, 0, 0), (2, 0, 0), (2, 1, 0), (7, 0, 0), (8, 3, 0))),
+    ("0 0 1 1 2 2 1", table((1, 0, 0), (1, 1, 0), (3, 0, 1), (6, 1, 0), (4, 2, 1), (5, 0, 3), (8, 1, 0))),
+)
+# 128 nodes, of the heights 0 to 127.
+LONGEST = (
+    NOTS,
+    table((1, 0, 0), *((8, child, child) for child in range(127))),
+    table((1, 0, 0), *((3, child, 0) for child in range(127))),
+    table((1, 0, 0), *((5, 0, child) for child in range(127))),
+    table((1, 0, 0), *((9, child, 0, 0, child % 64) for child in range(127))),
+)
+
+
+def tested(is_good, m, nodes, calls="ewmj"):
+    """Calls to which all that is checked after the table is wrong: the run and the buffer, the buffer, the figures and e."""
+    if "e" in calls:
+        evaluate(1, m, 0, "r8" if is_good else "r7", [], "", nodes)
+    if "w" in calls:
+        rows(1, m, 0, "r11" if is_good else "r7", [], nodes)
+    if "m" in calls:
+        mps(1, m, 0, "r11" if is_good else "r7", "", nodes)
+    if "j" in calls:
+        judge(1, m, -1, [], "r9" if is_good else "r7", nodes)
+
+
+def wrong_heights(records, number):
+    """Heights that are not that of node `number`: one off, an atom's and its parent's, by left or right alone, the count of
+    the nodes before, and above the largest."""
+    heights = heights_in(records)
+    _, left, right, *_ = paper.nodes_in(records)[number]
+    found = {heights[number] + 1, (heights[number] - 1) % 256, 0, 1, number, 128, 255}
+    found.update(heights[child] + 1 for child in (left, right) if child < number)
+    return sorted(found - {heights[number]})
+
+
+def of_heights():
+    say("By hand from the request (N6): good tables and their heights; each call gets to the refusal after 7. Truths of the paper's words")
+    for heights, records in HEIGHTS:
+        assert heights_in(records) == [int(height) for height in heights.split()]
+        tested(True, 3, records)
+        truth = truths(records, 3, [5, 2])
+        evaluate(2, 3, 2 * len(truth), f"v{truth[-1][0]}", [5, 2], "".join(str(bit) for bits in truth for bit in bits), records)
+    calls = itertools.cycle("ewmj")
+    for records in LONGEST:
+        assert heights_in(records) == list(range(128))
+        tested(True, 3, records, next(calls))
+    say("By hand: in each record of these tables a wrong height, also where the root does not use it; the calls take turns")
+    for _, records in HEIGHTS:
+        for number in range(len(records) // RECORD):
+            for height in wrong_heights(records, number):
+                tested(False, 3, with_height(records, number, height), next(calls))
+    for records, number, height in (
+        (LONGEST[0], 0, 255), (LONGEST[0], 1, 0), (LONGEST[0], 63, 62), (LONGEST[0], 126, 127), (LONGEST[0], 127, 126),
+        (LONGEST[1], 127, 128), (LONGEST[2], 127, 1), (LONGEST[3], 127, 1), (LONGEST[4], 127, 0), (LONGEST[4], 64, 128),
+    ):
+        tested(False, 3, with_height(records, number, height), next(calls))
+    say("By hand: a wrong height in node 0, in the root, in nodes that the root does not use: each call")
+    unused = table((1, 0, 0), (2, 0, 0), (2, 1, 0), (1, 1, 0), (3, 1, 3))
+    for number, height in (0, 1), (0, 255), (4, 1), (4, 3), (4, 4), (2, 1), (2, 3), (2, 0), (3, 1):
+        tested(False, 2, with_height(unused, number, height))
+    tested(True, 2, unused)
+    say("By hand: wrong heights that the nodes above carry on; heights counted from the root, from 1, of the right alone; all 0; all 1")
+    chain = NOTS[: RECORD * 8]
+    for records, heights in (
+        (chain, range(1, 9)), (chain, range(7, -1, -1)), (chain, [0] * 8), (chain, [0, *range(7)]), (chain, (0, 1, 2, 4, 5, 6, 7, 8)),
+        (GF_A0, (1, 2, 3)), (GF_A0, (2, 1, 0)), (GF_A0, (1, 1, 1)), (GF_A0, (0, 2, 3)), (GF_A0, (255, 0, 1)),
+        (UNTIL, (1, 1, 2)), (UNTIL, (1, 0, 2)), (UNTIL, (0, 1, 2)), (UNTIL, (1, 1, 0)), (UNTIL, (0, 1, 1)), (UNTIL, (1, 0, 1)),
+        (unused, (0, 1, 3, 0, 2)), (unused, (0, 1, 2, 0, 3)), (unused, (0, 1, 2, 0, 1)), (unused, (0, 2, 3, 0, 3)),
+    ):
+        tested(False, 2, with_heights(records, heights))
+    tested(False, 2, with_heights(NOTS, range(1, 129)), next(calls))
+    say("By hand: the first refusal in the order of the checks, 1 and 2 before a wrong height, and it before 8, 9, 10 and 11")
+    low = with_height(UNTIL, 2, 0)
+    for t, m, answer in (0, 2, "r1"), (65, 17, "r1"), (2, 0, "r2"), (2, 17, "r2"), (64, 2, "r7"), (1, 16, "r7"):
+        evaluate(t, m, 200, answer, [0] * t, "", low)
+        rows(t, m, 999, answer, [], low)
+        mps(t, m, 9999, answer, "", low)
+        judge(t, m, 0, [0] * min((m + 3) * t, 320), answer, low)
+    for run, room in ([], 200), ([4, 0], 200), ([0, 0], 5), ([0, 0], 0), ([0, 0, 0], 0):
+        evaluate(2, 2, room, "r7", run, "", low)
+    for room in 0, 13, 115, 116:
+        rows(2, 2, room, "r7", [], low)
+    for e, count in (0, 10), (0, 9), (1001, 10), (-1, 10), (1001, 0):
+        judge(2, 2, e, [ONE + 2000] * count, "r7", low)
+    say("By hand: other faults of a table, with heights that would else be right or wrong")
+    for records in (
+        *(table((kind, 0, 0)) for kind in (0, 2, 3, 6, 8, 9, 10, 11, 255)), table((1, 2, 0)), table((1, 0, 1)), table((1, 0, 0, 0, 1)),
+        *(table((1, 0, 0), second) for second in (
+            (0, 0, 0), (11, 0, 0), (2, 1, 0), (2, 0, 1), (6, 2, 0), (3, 0, 1), (8, 1, 0), (9, 0, 0, 1, 0), (10, 0, 0, 0, 64), (7, 0, 0, 0, 1),
+        )),
+        UNTIL[:-8] + b"\x4e\x45" + UNTIL[-6:],
+    ):
+        for height in 0, 1, 2:
+            tested(False, 2, with_height(records, len(records) // RECORD - 1, height), next(calls))
+    say("By hand: bytes that are not whole records; records of 7 bytes, without the height, and of 5; 129 records")
+    for records in ATOM, UNTIL, chain:
+        for nodes in records[:-1], records + b"\x00", records + b"\x4e", records[1:], records[:-8] + records[-7:]:
+            tested(False, 2, nodes, next(calls))
+    tested(False, 2, NOTS[:-1], next(calls))
+    tested(False, 2, NOTS + b"\x4e", next(calls))
+    for size in 7, 5:
+        for records in ATOM, UNTIL, chain, NOTS[: RECORD * 16], NOTS:
+            tested(False, 2, b"".join(record[:size] for record in paper.records_in(records)), next(calls))
+    tested(False, 2, NOTS + ATOM, next(calls))
+    tested(False, 2, NOTS + with_height(ATOM, 0, 128), next(calls))
 
 
 def writing_pages():
@@ -1077,7 +1258,7 @@ def of_spin():
     for line in (TOP / "tests" / "spin.txt").read_text().splitlines():
         t, m, run, bits, text = line.split(" ", 4)
         t, m, run, nodes = int(t), int(m), [int(number) for number in run.split(",")], paper.parse(text)
-        case("read", [896, m], text.encode(), f"value {len(nodes)}", lent(896, paper.table(nodes)))
+        case("read", [1024, m], text.encode(), f"value {len(nodes)}", lent(1024, paper.table(nodes)))
         *parts, root = truths(paper.table(nodes), m, run)
         root = [own if bit == "-" else int(bit) for own, bit in zip(root, bits)]
         words = " ".join("".join(map(str, truth)) for truth in [*parts, root])
@@ -1136,6 +1317,7 @@ def main():
     reading()
     reading_windows()
     refusing_windows()
+    reading_heights()
     evaluating()
     evaluating_windows()
     writing_rows()
@@ -1147,6 +1329,7 @@ def main():
     judging_windows()
     of_every_kind()
     of_windows()
+    of_heights()
     of_spin()
     largest()
     summing()

@@ -43,6 +43,11 @@ NAMED = {
         "12 after 6",
         "a above b taken as good",
     ),
+    "N6": (
+        "an atom's height 1",
+        "the lower child's height taken",
+        "the height of an unused node not tested",
+    ),
 }
 DEMANDS = ("demand 1", "demand 2", "demand 3")
 MOST = 300  # characters of what the prover says

@@ -11,6 +11,7 @@ WINDOW = {"F": 9, "G": 10}
 DOUBLE = {">": 5, "|": 4, "&": 3, "U": 8}  # loosest first
 ATOM, NOT, AND, OR, IMPLIES, EVENTUALLY, ALWAYS, UNTIL, WITHIN, THROUGHOUT = range(1, 11)
 NUMBER = "0|[1-9][0-9]*"
+RECORD = 8  # bytes of a node record
 
 
 class Fault(Exception):
@@ -71,7 +72,7 @@ def reading(text, m, room):
         (5, any(kind == ATOM and left >= m for kind, left, *_ in nodes)),
         (12, any(a > b or b > 63 for *_, a, b in nodes)),
         (6, len(nodes) > 128),
-        (11, room < 7 * len(nodes)),
+        (11, room < RECORD * len(nodes)),
     )
     return next((number for number, applies in checks if applies), nodes)
 
@@ -105,15 +106,35 @@ def truth(nodes, atoms):
     return truths
 
 
+def heights(nodes):
+    """0 for an atom, otherwise 1 more than the highest child; a child that is not below its node, as no good table has it,
+    is passed over."""
+    found = []
+    for kind, left, right, *_ in nodes:
+        children = () if kind == ATOM else (left, right) if kind in DOUBLE.values() else (left,)
+        found.append(max((found[child] + 1 for child in children if child < len(found)), default=0))
+    return found
+
+
 def table(nodes):
     """The records of nodes."""
-    return b"".join(bytes([0x4E, 0x44, *node]) for node in nodes)
+    return b"".join(bytes([0x4E, 0x44, *node, height]) for node, height in zip(nodes, heights(nodes)))
+
+
+def records_in(data):
+    return [data[at : at + RECORD] for at in range(0, len(data), RECORD)]
+
+
+def nodes_in(data):
+    """The nodes of whole records: all but mark and height."""
+    return [tuple(record[2:7]) for record in records_in(data)]
 
 
 def good_record(record, number, m):
-    if len(record) != 7 or record[:2] != b"ND":
+    """All but the height, which takes the records before."""
+    if len(record) != RECORD or record[:2] != b"ND":
         return False
-    kind, left, right, a, b = record[2:]
+    kind, left, right, a, b, _ = record[2:]
     if kind in (WITHIN, THROUGHOUT):
         return left < number and right == 0 and a <= b <= 63
     own = {ATOM: left < m and right == 0, **dict.fromkeys(SINGLE.values(), left < number and right == 0)}
@@ -122,8 +143,10 @@ def good_record(record, number, m):
 
 
 def good(data, m):
-    records = [data[at : at + 7] for at in range(0, len(data), 7)]
-    return 1 <= len(records) <= 128 and all(good_record(record, number, m) for number, record in enumerate(records))
+    records = records_in(data)
+    if not 1 <= len(records) <= 128 or not all(good_record(record, number, m) for number, record in enumerate(records)):
+        return False
+    return [record[7] for record in records] == heights(nodes_in(data))
 
 
 def refusal(t, m, data):

@@ -5,8 +5,9 @@ use std::fmt::Debug;
 
 use crate::inputs;
 use crate::random::Random;
-use crate::reference::{self, Verdict};
+use crate::reference::{self, Verdict, HEIGHT, NODE_BYTES};
 use crate::sepia;
+use crate::shape;
 
 /// Bytes before and behind each output buffer that no call may change.
 const GUARD: usize = 16;
@@ -111,8 +112,8 @@ fn read(cases: u64, random: &mut Random, counts: &mut Counts) -> Result<(), Stri
     for case in 0..cases {
         let m = inputs::atom_count(random);
         inputs::text(random, m, &mut text);
-        let nodes = reference::read(&text, m, &mut [0; reference::MAX_NODES * reference::NODE_BYTES]).unwrap_or(3);
-        let room = inputs::room(random, nodes * reference::NODE_BYTES);
+        let nodes = reference::read(&text, m, &mut [0; reference::MAX_NODES * NODE_BYTES]).unwrap_or(3);
+        let room = inputs::room(random, nodes * NODE_BYTES);
         outputs.fill(random, room);
         let kept = text.clone();
         let expected = reference::read(&text, m, outputs.of_reference());
@@ -132,6 +133,8 @@ fn read(cases: u64, random: &mut Random, counts: &mut Counts) -> Result<(), Stri
         });
         counts.note(text.contains(&b'['), "a bracket of a window");
         counts.note(expected.is_ok() && text.contains(&b'['), "a window, and read");
+        let root = expected.map(|nodes| outputs.of_reference()[nodes * NODE_BYTES - 1]);
+        counts.note(root.is_ok_and(|height| height >= 64), "a height of 64 or more, and read");
     }
     Ok(())
 }
@@ -158,7 +161,7 @@ fn evaluate(cases: u64, random: &mut Random, counts: &mut Counts) -> Result<(), 
             Ok(truth) => format!("root is {truth}"),
             Err(number) => refusal(number),
         });
-        counts.note(expected.is_ok() && has_window(&table), "a window, and evaluated");
+        note_table(counts, &expected, &table, t, m);
     }
     Ok(())
 }
@@ -184,14 +187,58 @@ fn rows(cases: u64, random: &mut Random, counts: &mut Counts) -> Result<(), Stri
             Ok(_) => "100,000 rows or more".to_string(),
             Err(number) => refusal(number),
         });
-        counts.note(expected.is_ok() && has_window(&table), "a window, and written");
+        note_table(counts, &expected, &table, t, m);
     }
     Ok(())
 }
 
+/// What a table has, where it was answered, and some of what can be wrong with one that was refused.
+fn note_table<A>(counts: &mut Counts, answer: &Result<A, u32>, table: &[u8], t: usize, m: usize) {
+    match answer {
+        Ok(_) => {
+            counts.note(has_window(table), "a window, and answered");
+            counts.note(shape::has_shared(table), "a shared child, and answered");
+            counts.note(!shape::unused(table).is_empty(), "a node that the root does not use, and answered");
+        }
+        Err(7) => {
+            counts.note(has_old_records(table), "records of 7 bytes");
+            note_heights(counts, table, t, m);
+        }
+        Err(_) => {}
+    }
+}
+
+/// How the heights of a refused table are wrong, where all else in it is good.
+fn note_heights(counts: &mut Counts, table: &[u8], t: usize, m: usize) {
+    let wrong = shape::wrong_heights(table);
+    let mut right = table.to_vec();
+    shape::fill_heights(&mut right, 0);
+    if wrong.is_empty() || reference::row_bytes(&right, t, m).is_err() {
+        return;
+    }
+    let unused = shape::unused(table);
+    counts.note(true, "a height alone wrong");
+    counts.note(
+        wrong.iter().all(|node| unused.contains(node)),
+        "a height alone wrong, of a node that the root does not use",
+    );
+    if let [node] = wrong[..] {
+        let height = table[node * NODE_BYTES + HEIGHT];
+        let lowest = shape::heights_under(table, node).min();
+        counts.note(lowest.is_none(), "a height alone wrong, in one record, an atom's");
+        let by_lowest = lowest.is_some_and(|lowest| height == lowest.wrapping_add(1));
+        counts.note(by_lowest, "a height alone wrong, in one record, as the lower child's would have it");
+    }
+}
+
+/// Whether a record begins every 7 bytes, as was so before records had a height.
+fn has_old_records(table: &[u8]) -> bool {
+    !table.is_empty() && table.len() % 7 == 0 && table.chunks_exact(7).all(|record| record[..2] == [0x4E, 0x44])
+}
+
 /// Whether a table that is good has a window.
 fn has_window(table: &[u8]) -> bool {
-    table.chunks_exact(reference::NODE_BYTES).any(|record| record[2] >= reference::WITHIN)
+    table.chunks_exact(NODE_BYTES).any(|record| record[2] >= reference::WITHIN)
 }
 
 /// Whether a line of a column has this number in its last field. Only COST lines have 0.
@@ -201,7 +248,7 @@ fn has_number(page: &[u8], number: &[u8]) -> bool {
 
 /// Whether a row of a good table has a term that another one cancels: an implication of a node by itself.
 fn has_cancelled(table: &[u8]) -> bool {
-    table.chunks_exact(reference::NODE_BYTES).any(|record| record[2] == reference::IMPLIES && record[3] == record[4])
+    table.chunks_exact(NODE_BYTES).any(|record| record[2] == reference::IMPLIES && record[3] == record[4])
 }
 
 fn mps(cases: u64, random: &mut Random, counts: &mut Counts) -> Result<(), String> {
@@ -231,8 +278,8 @@ fn mps(cases: u64, random: &mut Random, counts: &mut Counts) -> Result<(), Strin
             counts.note(has_number(&page, b"-2"), "a coefficient -2");
             counts.note(has_cancelled(&table), "a term that is dropped");
             counts.note(has_number(&page, b"0"), "a variable in no row");
-            counts.note(has_window(&table), "a window, and written");
         }
+        note_table(counts, &expected, &table, t, m);
     }
     Ok(())
 }
@@ -260,7 +307,7 @@ fn judge(cases: u64, random: &mut Random, counts: &mut Counts) -> Result<(), Str
             Ok(Verdict::Passed(_)) => "passed".to_string(),
             Err(number) => refusal(number),
         });
-        counts.note(expected.is_ok() && has_window(&table), "a window, and judged");
+        note_table(counts, &expected, &table, t, m);
         if let Ok(Verdict::Broken(row, _)) = expected {
             let kind = reference::kind_of_row(&table, t, m, row);
             counts.note(kind >= Some(reference::WITHIN), "a window's row broken");

@@ -1,8 +1,9 @@
 //! Random inputs of the calls, good and damaged.
 
 use crate::random::Random;
-use crate::reference::{self, ALWAYS, AND, ATOM, EVENTUALLY, IMPLIES, MAX_AHEAD, MAX_NODES, MAX_TEXT, NODE_BYTES};
-use crate::reference::{NOT, OR, THROUGHOUT, UNTIL, WITHIN};
+use crate::reference::{self, ALWAYS, AND, ATOM, EVENTUALLY, HEIGHT, IMPLIES, MAX_AHEAD, MAX_NODES, MAX_TEXT};
+use crate::reference::{NODE_BYTES, NOT, OR, THROUGHOUT, UNTIL, WITHIN};
+use crate::shape;
 
 const ALPHABET: &[u8] = b"aUFG!&|>()[],0123456789 ";
 const UNARY: [(u8, u8); 3] = [(b'!', NOT), (b'F', EVENTUALLY), (b'G', ALWAYS)];
@@ -63,7 +64,7 @@ pub fn room(random: &mut Random, needed: usize) -> usize {
         9..=10 => needed.saturating_sub(1),
         11..=17 => needed + random.between(1, 40),
         18 => random.below(needed + 1),
-        _ => random.pick(&[0, 1, 6, 7, 8, 13, 14, 18, 19]),
+        _ => random.pick(&[0, 1, 7, 8, 9, 15, 16, 18, 19]),
     }
 }
 
@@ -387,12 +388,12 @@ pub fn text(random: &mut Random, m: usize, text: &mut Vec<u8>) {
 // ---------------------------------------------------------------------------------------------- tables
 
 fn push_node(table: &mut Vec<u8>, kind: u8, left: usize, right: usize) {
-    table.extend_from_slice(&[0x4E, 0x44, kind, left as u8, right as u8, 0, 0]);
+    table.extend_from_slice(&[0x4E, 0x44, kind, left as u8, right as u8, 0, 0, 0]);
 }
 
 fn push_window(random: &mut Random, table: &mut Vec<u8>, left: usize, widest: bool) {
     let (a, b) = if widest { (0, MAX_AHEAD) } else { window(random) };
-    table.extend_from_slice(&[0x4E, 0x44, random.pick(&[WITHIN, THROUGHOUT]), left as u8, 0, a as u8, b as u8]);
+    table.extend_from_slice(&[0x4E, 0x44, random.pick(&[WITHIN, THROUGHOUT]), left as u8, 0, a as u8, b as u8, 0]);
 }
 
 /// A good table of any shape: shared and unused nodes, left equal to right, windows.
@@ -426,6 +427,7 @@ fn shaped_table(random: &mut Random, m: usize, nodes: usize, table: &mut Vec<u8>
             _ => push_node(table, ATOM, random.below(m), 0),
         }
     }
+    shape::fill_heights(table, 0);
 }
 
 fn good_table(random: &mut Random, m: usize, table: &mut Vec<u8>) {
@@ -450,10 +452,22 @@ fn good_table(random: &mut Random, m: usize, table: &mut Vec<u8>) {
 
 /// Changes one thing by which a table is no longer good, or may be so.
 fn damage_table(random: &mut Random, m: usize, table: &mut Vec<u8>) {
-    let nodes = table.len() / NODE_BYTES;
-    let number = random.below(nodes);
-    let record = number * NODE_BYTES;
-    match random.below(20) {
+    match random.below(32) {
+        0..=6 => damage_size(random, m, table),
+        7..=18 => {
+            damage_record(random, m, table);
+            // Mostly heights that fit the new record, so that it is refused for itself.
+            if random.percent(70) {
+                shape::fill_heights(table, 0);
+            }
+        }
+        19 => damage(random, table, &[0x4E, 0x44, 0, 1, 2, 3, 8, 9, 10, 63, 64]),
+        _ => damage_height(random, table),
+    }
+}
+
+fn damage_size(random: &mut Random, m: usize, table: &mut Vec<u8>) {
+    match random.below(7) {
         0 => table.clear(),
         1 => table.truncate(4),
         2 => {
@@ -469,32 +483,55 @@ fn damage_table(random: &mut Random, m: usize, table: &mut Vec<u8>) {
             let nodes = random.pick(&[129, 130, 256, 257]);
             shaped_table(random, m, nodes, table);
         }
-        6 => table[record + random.below(2)] ^= 1 << random.below(8),
-        7 => table[record + 2] = random.pick(&[0, 1, 2, 3, 4, 5, 6, 7, 8, 9, 10, 11, 64, 128, 255]),
-        8 => table[record + 3] = number as u8,
-        9 => table[record + 4] = number as u8,
-        10 => table[record + 3] = random.pick(&[m, m - 1, 16, 127, 128, 255]) as u8,
-        11 => table[record + 4] = random.pick(&[0, 1, 127, 128, 255]),
-        12 => {
-            let place = random.below(table.len());
-            table[place] = random.next() as u8;
+        _ => {
+            // The layouts of before: records without a height, and without a window either.
+            let length = random.pick(&[5, 7, 7]);
+            *table = table.chunks_exact(NODE_BYTES).flat_map(|record| &record[..length]).copied().collect();
         }
-        13 => table[record + 5] = random.pick(&[0, 1, 5, 62, 63, 64, 128, 255]),
-        14 => table[record + 6] = random.pick(&[0, 1, 5, 62, 63, 64, 65, 128, 255]),
-        15 => table.swap(record + 5, record + 6),
-        16..=17 => {
+    }
+}
+
+fn damage_record(random: &mut Random, m: usize, table: &mut [u8]) {
+    let number = random.below(shape::len(table));
+    let record = &mut table[number * NODE_BYTES..][..NODE_BYTES];
+    match random.below(12) {
+        0 => record[random.below(2)] ^= 1 << random.below(8),
+        1 => record[2] = random.pick(&[0, 1, 2, 3, 4, 5, 6, 7, 8, 9, 10, 11, 64, 128, 255]),
+        2 => record[3] = number as u8,
+        3 => record[4] = number as u8,
+        4 => record[3] = random.pick(&[m, m - 1, 16, 127, 128, 255]) as u8,
+        5 => record[4] = random.pick(&[0, 1, 127, 128, 255]),
+        6 => record[random.below(NODE_BYTES)] = random.next() as u8,
+        7 => record[5] = random.pick(&[0, 1, 5, 62, 63, 64, 128, 255]),
+        8 => record[6] = random.pick(&[0, 1, 5, 62, 63, 64, 65, 128, 255]),
+        9 => record.swap(5, 6),
+        _ => {
             // A node with a window, as the node's own kind or a window's.
-            let kind = random.pick(&[table[record + 2], WITHIN, THROUGHOUT]);
             let (a, b) = if random.percent(50) { window(random) } else { refused_window(random) };
-            table[record + 2] = kind;
-            table[record + 5..record + 7].copy_from_slice(&[a as u8, b as u8]);
+            record[2] = random.pick(&[record[2], WITHIN, THROUGHOUT]);
+            record[5..7].copy_from_slice(&[a as u8, b as u8]);
         }
-        18 => {
-            // Records without their windows: the layout of before.
-            let short: Vec<u8> = table.chunks_exact(NODE_BYTES).flat_map(|record| &record[..5]).copied().collect();
-            *table = short;
-        }
-        _ => damage(random, table, &[0x4E, 0x44, 0, 1, 2, 3, 8, 9, 10, 63, 64]),
+    }
+}
+
+/// Changes a height, at any node or at one that the root does not use; in half of the tables those above follow it, so
+/// that the one record alone is wrong.
+fn damage_height(random: &mut Random, table: &mut [u8]) {
+    let unused = shape::unused(table);
+    let any = random.below(shape::len(table));
+    let node = if unused.is_empty() || random.percent(50) { any } else { random.pick(&unused) };
+    let lowest = shape::heights_under(table, node).min().unwrap_or(0);
+    let height = &mut table[node * NODE_BYTES + HEIGHT];
+    *height = match random.below(8) {
+        0..=1 => *height + 1,
+        2 => height.wrapping_sub(1),
+        3..=4 => lowest + 1,
+        5 => lowest,
+        6 => 0,
+        _ => random.next() as u8,
+    };
+    if random.percent(50) {
+        shape::fill_heights(table, node + 1);
     }
 }
 
@@ -510,7 +547,7 @@ pub fn table(random: &mut Random, m: usize, table: &mut Vec<u8>) {
     // A table for fewer or more atoms than are asked, now and then.
     let m = if random.percent(3) { random.between(1, 16) } else { m };
     good_table(random, m, table);
-    if random.percent(12) {
+    if random.percent(16) {
         damage_table(random, m, table);
     }
 }

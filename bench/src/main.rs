@@ -7,6 +7,7 @@ mod random;
 #[forbid(unsafe_code)]
 mod reference;
 mod sepia;
+mod shape;
 mod speed;
 
 use std::process::ExitCode;

@@ -11,10 +11,12 @@ pub const MAX_ATOMS: usize = 16;
 pub const MAX_TEXT: usize = 1024;
 pub const MAX_NODES: usize = 128;
 pub const MAX_AHEAD: usize = 63;
-pub const NODE_BYTES: usize = 7;
+pub const NODE_BYTES: usize = 8;
 pub const ONE: i64 = 1_000_000;
 
 const NODE_MARK: [u8; 2] = [0x4E, 0x44];
+/// The place of the height in a node record.
+pub const HEIGHT: usize = 7;
 const ROW_MARK: [u8; 2] = [0x52, 0x57];
 /// What stands before the terms of a row record.
 const HEAD_BYTES: usize = 5;
@@ -71,7 +73,7 @@ fn read_with<const LEVELS: bool>(text: &[u8], m: usize, out: &mut [u8]) -> Resul
         atom_too_large: false,
         window_refused: false,
         count: 0,
-        records: [0; MAX_NODES * NODE_BYTES],
+        records: [[0; NODE_BYTES]; MAX_NODES],
     };
     parser.skip_spaces();
     parser.rule().ok_or(4u32)?;
@@ -79,9 +81,9 @@ fn read_with<const LEVELS: bool>(text: &[u8], m: usize, out: &mut [u8]) -> Resul
     require(!parser.atom_too_large, 5)?;
     require(!parser.window_refused, 12)?;
     require(parser.count <= MAX_NODES, 6)?;
-    let written = parser.count * NODE_BYTES;
-    require(out.len() >= written, 11)?;
-    out[..written].copy_from_slice(&parser.records[..written]);
+    let written = parser.records[..parser.count].as_flattened();
+    require(out.len() >= written.len(), 11)?;
+    out[..written.len()].copy_from_slice(written);
     Ok(parser.count)
 }
 
@@ -110,7 +112,7 @@ struct Parser<'a, const LEVELS: bool> {
     atom_too_large: bool,
     window_refused: bool,
     count: usize,
-    records: [u8; MAX_NODES * NODE_BYTES],
+    records: [[u8; NODE_BYTES]; MAX_NODES],
 }
 
 impl<const LEVELS: bool> Parser<'_, LEVELS> {
@@ -147,7 +149,7 @@ impl<const LEVELS: bool> Parser<'_, LEVELS> {
             }
             self.step();
             let right = self.climb(binding)?;
-            left = self.node(kind, left, right, NO_WINDOW);
+            left = self.join(kind, left, right);
         }
         Some(left)
     }
@@ -159,7 +161,7 @@ impl<const LEVELS: bool> Parser<'_, LEVELS> {
         }
         self.step();
         let right = self.implies()?;
-        Some(self.node(IMPLIES, left, right, NO_WINDOW))
+        Some(self.join(IMPLIES, left, right))
     }
 
     fn or(&mut self) -> Option<usize> {
@@ -169,7 +171,7 @@ impl<const LEVELS: bool> Parser<'_, LEVELS> {
         }
         self.step();
         let right = self.or()?;
-        Some(self.node(OR, left, right, NO_WINDOW))
+        Some(self.join(OR, left, right))
     }
 
     fn and(&mut self) -> Option<usize> {
@@ -179,7 +181,7 @@ impl<const LEVELS: bool> Parser<'_, LEVELS> {
         }
         self.step();
         let right = self.and()?;
-        Some(self.node(AND, left, right, NO_WINDOW))
+        Some(self.join(AND, left, right))
     }
 
     fn until(&mut self) -> Option<usize> {
@@ -189,7 +191,7 @@ impl<const LEVELS: bool> Parser<'_, LEVELS> {
         }
         self.step();
         let right = self.until()?;
-        Some(self.node(UNTIL, left, right, NO_WINDOW))
+        Some(self.join(UNTIL, left, right))
     }
 
     fn single(&mut self) -> Option<usize> {
@@ -220,7 +222,7 @@ impl<const LEVELS: bool> Parser<'_, LEVELS> {
     fn prefixed(&mut self, kind: u8) -> Option<usize> {
         self.step();
         let child = self.single()?;
-        Some(self.node(kind, child, 0, NO_WINDOW))
+        Some(self.cap(kind, child, NO_WINDOW))
     }
 
     /// A letter that may have a window behind it, and is then of another kind.
@@ -228,7 +230,7 @@ impl<const LEVELS: bool> Parser<'_, LEVELS> {
         self.step();
         let (kind, window) = if self.peek() == Some(b'[') { (windowed, self.window()?) } else { (open, NO_WINDOW) };
         let child = self.single()?;
-        Some(self.node(kind, child, 0, window))
+        Some(self.cap(kind, child, window))
     }
 
     fn window(&mut self) -> Option<(usize, usize)> {
@@ -245,7 +247,7 @@ impl<const LEVELS: bool> Parser<'_, LEVELS> {
         self.at += 1;
         let number = self.number()?;
         self.atom_too_large |= number >= self.atoms;
-        Some(self.node(ATOM, number, 0, NO_WINDOW))
+        Some(self.node(ATOM, number, 0, NO_WINDOW, 0))
     }
 
     /// All digits that stand here, at least one, without a leading zero, and the spaces behind them.
@@ -265,12 +267,27 @@ impl<const LEVELS: bool> Parser<'_, LEVELS> {
         Some(number)
     }
 
-    fn node(&mut self, kind: u8, left: usize, right: usize, (a, b): (usize, usize)) -> usize {
+    fn join(&mut self, kind: u8, left: usize, right: usize) -> usize {
+        let height = self.height(left).max(self.height(right)) + 1;
+        self.node(kind, left, right, NO_WINDOW, height)
+    }
+
+    fn cap(&mut self, kind: u8, child: usize, window: (usize, usize)) -> usize {
+        let height = self.height(child) + 1;
+        self.node(kind, child, 0, window, height)
+    }
+
+    /// A node's height, from its record; that of a node beyond the table does not matter.
+    fn height(&self, node: usize) -> u8 {
+        self.records.get(node).map_or(0, |record| record[HEIGHT])
+    }
+
+    fn node(&mut self, kind: u8, left: usize, right: usize, (a, b): (usize, usize), height: u8) -> usize {
         let number = self.count;
-        if let Some(record) = self.records.chunks_exact_mut(NODE_BYTES).nth(number) {
+        if let Some(record) = self.records.get_mut(number) {
             // Within the table all numbers are below 128.
             let [mark, second] = NODE_MARK;
-            record.copy_from_slice(&[mark, second, kind, left as u8, right as u8, a as u8, b as u8]);
+            *record = [mark, second, kind, left as u8, right as u8, a as u8, b as u8, height];
         }
         self.count += 1;
         number
@@ -281,7 +298,7 @@ impl<const LEVELS: bool> Parser<'_, LEVELS> {
 
 /// A table that was found good.
 struct Table<'a> {
-    records: &'a [u8],
+    records: &'a [[u8; NODE_BYTES]],
 }
 
 #[derive(Clone, Copy)]
@@ -291,6 +308,7 @@ struct Node {
     right: usize,
     a: usize,
     b: usize,
+    height: u8,
 }
 
 impl Node {
@@ -307,33 +325,44 @@ impl Node {
 
 impl<'a> Table<'a> {
     fn good(bytes: &'a [u8], m: usize) -> Option<Self> {
-        let count = bytes.len() / NODE_BYTES;
-        if bytes.len() % NODE_BYTES != 0 || !(1..=MAX_NODES).contains(&count) {
+        let (records, rest) = bytes.as_chunks();
+        if !rest.is_empty() || !(1..=MAX_NODES).contains(&records.len()) {
             return None;
         }
-        let table = Table { records: bytes };
-        let marked = bytes.chunks_exact(NODE_BYTES).all(|record| record[..2] == NODE_MARK);
-        let fitting = table.nodes().enumerate().all(|(number, Node { kind, left, right, a, b })| match kind {
-            ATOM => left < m && right == 0 && (a, b) == NO_WINDOW,
-            NOT | EVENTUALLY | ALWAYS => left < number && right == 0 && (a, b) == NO_WINDOW,
-            AND | OR | IMPLIES | UNTIL => left < number && right < number && (a, b) == NO_WINDOW,
-            WITHIN | THROUGHOUT => left < number && right == 0 && a <= b && b <= MAX_AHEAD,
-            _ => false,
-        });
+        let table = Table { records };
+        let marked = records.iter().all(|record| record[..2] == NODE_MARK);
+        let fitting = table.nodes().enumerate().all(|(number, node)| table.fits(number, node, m));
         (marked && fitting).then_some(table)
     }
 
+    /// Whether a node's fields may stand in record `number`, where those of all records before it may.
+    fn fits(&self, number: usize, node: Node, m: usize) -> bool {
+        let Node { kind, left, right, a, b, height } = node;
+        let under = |child: usize| self.records[child][HEIGHT];
+        let plain = (a, b) == NO_WINDOW;
+        match kind {
+            ATOM => left < m && right == 0 && plain && height == 0,
+            NOT | EVENTUALLY | ALWAYS => left < number && right == 0 && plain && height == under(left) + 1,
+            AND | OR | IMPLIES | UNTIL => {
+                left < number && right < number && plain && height == under(left).max(under(right)) + 1
+            }
+            WITHIN | THROUGHOUT => left < number && right == 0 && a <= b && b <= MAX_AHEAD && height == under(left) + 1,
+            _ => false,
+        }
+    }
+
     fn len(&self) -> usize {
-        self.records.len() / NODE_BYTES
+        self.records.len()
     }
 
     fn nodes(&self) -> impl Iterator<Item = Node> + 'a {
-        self.records.chunks_exact(NODE_BYTES).map(|record| Node {
-            kind: record[2],
-            left: usize::from(record[3]),
-            right: usize::from(record[4]),
-            a: usize::from(record[5]),
-            b: usize::from(record[6]),
+        self.records.iter().map(|&[_, _, kind, left, right, a, b, height]| Node {
+            kind,
+            left: usize::from(left),
+            right: usize::from(right),
+            a: usize::from(a),
+            b: usize::from(b),
+            height,
         })
     }
 }

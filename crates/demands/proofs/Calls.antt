@@ -2,14 +2,14 @@
 use mathlib.Core.Path.{_≡_, refl, sym, ap, ap₂, _∙_}
 use mathlib.Core.List.{List, [], _∷_}
 use mathlib.Core.Option.{some}
-use Prim.Native.Nat.{ℕ, _*_, _≤_}
+use Prim.Native.Nat.{ℕ, _+_, _*_, _≤_}
 use native.Mathlib.Omega.{arith}
 use lib.ListN.{length, take, drop, length-append, length-drop}
 use lib.Seq.{take-at}
 use Rattle.rules.specs.Quantities.{SlotsAllowed}
 use Rattle.rules.specs.Rule.{Rule, size}
 use Rattle.rules.specs.Grammar.{Says}
-use Rattle.rules.specs.Table.{Node, Good, kindOf, leftOf, rightOf, fromOf, toOf, tableBytes, nodesOf}
+use Rattle.rules.specs.Table.{Node, Good, kindOf, leftOf, rightOf, fromOf, toOf, tableFrom, tableBytes, nodesOf}
 use Rattle.rules.specs.TableRules.{length-nodesFrom}
 use Rattle.rules.specs.TableTest.{nodeIn, node-back, length-table}
 use Rattle.rules.specs.Rows.{rowsOf, rowsBytes}
@@ -40,18 +40,21 @@ node-same a b k l r f t =
     let y : some a ≡ some b = x ∙ node-back b in
     cc y
 
+records-same : (x y : List Node) (n : ℕ) (a b : List Node) → tableFrom x n a ≡ tableFrom y n b → a ≡ b
+records-same x y n [] [] e = refl
+records-same x y n [] (v ∷ b) e = let z : _≡_ {A = ℕ} 0 1 = cc in absurd (omega arith)
+records-same x y n (u ∷ a) [] e = let z : _≡_ {A = ℕ} 0 1 = cc in absurd (omega arith)
+records-same x y n (u ∷ a) (v ∷ b) e =
+    let k : kindOf u ≡ kindOf v = cc e in
+    let l : leftOf u ≡ leftOf v = cc e in
+    let r : rightOf u ≡ rightOf v = cc e in
+    let f : fromOf u ≡ fromOf v = cc e in
+    let t : toOf u ≡ toOf v = cc e in
+    let rest : tableFrom x (n + 1) a ≡ tableFrom y (n + 1) b = cc e in
+    ap₂ _∷_ (node-same u v k l r f t) (records-same x y (n + 1) a b rest)
+
 table-same : (a b : List Node) → tableBytes a ≡ tableBytes b → a ≡ b
-table-same [] [] e = refl
-table-same [] (n ∷ b) e = let z : _≡_ {A = ℕ} 0 1 = cc in absurd (omega arith)
-table-same (n ∷ a) [] e = let z : _≡_ {A = ℕ} 0 1 = cc in absurd (omega arith)
-table-same (n ∷ a) (m ∷ b) e =
-    let k : kindOf n ≡ kindOf m = cc e in
-    let l : leftOf n ≡ leftOf m = cc e in
-    let r : rightOf n ≡ rightOf m = cc e in
-    let f : fromOf n ≡ fromOf m = cc e in
-    let t : toOf n ≡ toOf m = cc e in
-    let rest : tableBytes a ≡ tableBytes b = cc e in
-    ap₂ _∷_ (node-same n m k l r f t) (table-same a b rest)
+table-same a b e = records-same a b 0 a b e
 
 -- the length of what is written
 rows-long : (t m : ℕ) (table : List ℕ) (room n : ℕ) (bytes : List ℕ) (p : Rule) → table ≡ tableBytes (nodesOf p) → rowsOutcome t m table room ≡ answered (wrote n bytes) → length bytes ≡ length (rowsBytes (rowsOf t m (nodesOf p)))
@@ -74,15 +77,15 @@ wrote-value (answered (wrote j bytes)) n e = let z : j ≡ n = cc in (bytes, ap 
 
 -- a table that was read has room
 pub read-room : (m : ℕ) (text out out′ : List ℕ) (n : ℕ) → told (Value n) ≡ result (readOutcome m text (length out)) → out′ ≡ buffer (readOutcome m text (length out)) out →
-    (7 * n ≤ length out) × (length out′ ≡ length out)
+    (8 * n ≤ length out) × (length out′ ≡ length out)
 read-room m text out out′ n e left =
     let w = wrote-value (readOutcome m text (length out)) n e in
     let x = reader-exact m text (length out) .answers (wrote n (w .0)) .0 (w .1) in
     let p = x .1 .0 in
     let f : n ≡ size p = cc (x .1 .2) in
     let g : w .0 ≡ tableBytes (nodesOf p) = cc (x .1 .2) in
-    let long : length (w .0) ≡ 7 * n = ap length g ∙ length-table (nodesOf p) ∙ omega (arith, length-nodesFrom 0 p) in
-    let fits : 7 * n ≤ length out = at-least (length out) (7 * n) (λ h. x .0 11 (ReadRefused.short (x .1 .1) (omega arith))) in
+    let long : length (w .0) ≡ 8 * n = ap length g ∙ length-table (nodesOf p) ∙ omega (arith, length-nodesFrom 0 p) in
+    let fits : 8 * n ≤ length out = at-least (length out) (8 * n) (λ h. x .0 11 (ReadRefused.short (x .1 .1) (omega arith))) in
     (fits, ap length (left ∙ ap (λ (a : Answer Written). buffer a out) (w .1)) ∙ length-append (w .0) (drop (length (w .0)) out) ∙ omega (arith, length-drop (length (w .0)) out))
 
 module _ (t m : ℕ) (text run table rows truth table′ : List ℕ) (left : table′ ≡ buffer (readOutcome m text (length table)) table) where
@@ -94,15 +97,15 @@ module _ (t m : ℕ) (text run table rows truth table′ : List ℕ) (left : tab
     count : ℕ
     v : ℕ
     read-is : readOutcome m text (length table) ≡ answered (wrote (size p) first)
-    handed : take (7 * size p) table′ ≡ first
-    rows-are : rowsOutcome t m (take (7 * size p) table′) (length rows) ≡ answered (wrote count second)
-    evaluate-is : evaluateOutcome t m (take (7 * size p) table′) run (length truth) ≡ answered (wrote v third)
+    handed : take (8 * size p) table′ ≡ first
+    rows-are : rowsOutcome t m (take (8 * size p) table′) (length rows) ≡ answered (wrote count second)
+    evaluate-is : evaluateOutcome t m (take (8 * size p) table′) run (length truth) ≡ answered (wrote v third)
     second-long : length second ≡ length (rowsBytes (rowsOf t m (nodesOf p)))
     third-long : length third ≡ size p * t
     at : Demand3At t m D run p first count second v third
 
   abbrev Rooms : Rule → Type 0
-  Rooms p = (7 * size p ≤ length table) × (length (rowsBytes (rowsOf t m (nodesOf p))) ≤ length rows) × (size p * t ≤ length truth)
+  Rooms p = (8 * size p ≤ length table) × (length (rowsBytes (rowsOf t m (nodesOf p))) ≤ length rows) × (size p * t ≤ length truth)
 
   facts : None (TextRefused m text) → SlotsAllowed t → RunGood t m run → (D : ℕ) → 1 ≤ D → (p : Rule) × Says text p × (Rooms p → Facts D p)
   facts none slots runs D 0<D =
@@ -117,8 +120,8 @@ module _ (t m : ℕ) (text run table rows truth table′ : List ℕ) (left : tab
           (evaluateOutcome t m first run (length truth) ≡ answered (wrote v third)) ×
           Demand3At t m D run p first count second v third → Facts D p
       given p (first, second, third, count, v, e, f, g, at) =
-          let long : length first ≡ 7 * size p = ap length (at .table-is) ∙ length-table (nodesOf p) ∙ omega (arith, length-nodesFrom 0 p) in
-          let handed = left-at (readOutcome m text (length table)) (size p) (7 * size p) first table table′ left e long in
+          let long : length first ≡ 8 * size p = ap length (at .table-is) ∙ length-table (nodesOf p) ∙ omega (arith, length-nodesFrom 0 p) in
+          let handed = left-at (readOutcome m text (length table)) (size p) (8 * size p) first table table′ left e long in
           let x = evaluated-long t m first run (length truth) v third g in
           let same : length (x .0) ≡ size p = omega (arith, long, ap length (x .1 .records), length-table (x .0)) in
           record {
@@ -152,45 +155,45 @@ module _ (t m : ℕ) (text run table rows truth table′ : List ℕ) (left : tab
         (f .0, f .1, λ a b c. let x = f .2 (a, b, c) in let g = e ∙ ap result (x .read-is) in let z : _≡_ {A = ℕ} 0 1 = cc g in absurd (omega arith))
 
     module _ (n : ℕ) (e : told (Value n) ≡ result (readOutcome m text (length table))) where
-      pub rows-refused : (k : Refusal) → told (Refusing k) ≡ result (rowsOutcome t m (take (7 * n) table′) (length rows)) → End
+      pub rows-refused : (k : Refusal) → told (Refusing k) ≡ result (rowsOutcome t m (take (8 * n) table′) (length rows)) → End
       rows-refused k h none slots runs D 0<D =
           let f = facts none slots runs D 0<D in (
             f .0,
             f .1,
             λ a b c.
                 let x = f .2 (a, b, c) in
-                let g = h ∙ ap (λ (i : ℕ). result (rowsOutcome t m (take (7 * i) table′) (length rows))) (nodes-are D (f .0) x n e) ∙ ap result (x .rows-are) in
+                let g = h ∙ ap (λ (i : ℕ). result (rowsOutcome t m (take (8 * i) table′) (length rows))) (nodes-are D (f .0) x n e) ∙ ap result (x .rows-are) in
                 let z : _≡_ {A = ℕ} 0 1 = cc g in absurd (omega arith),
           )
 
-      pub evaluate-refused : (k : Refusal) → told (Refusing k) ≡ result (evaluateOutcome t m (take (7 * n) table′) run (length truth)) → End
+      pub evaluate-refused : (k : Refusal) → told (Refusing k) ≡ result (evaluateOutcome t m (take (8 * n) table′) run (length truth)) → End
       evaluate-refused k h none slots runs D 0<D =
           let f = facts none slots runs D 0<D in (
             f .0,
             f .1,
             λ a b c.
                 let x = f .2 (a, b, c) in
-                let g = h ∙ ap (λ (i : ℕ). result (evaluateOutcome t m (take (7 * i) table′) run (length truth))) (nodes-are D (f .0) x n e) ∙ ap result (x .evaluate-is) in
+                let g = h ∙ ap (λ (i : ℕ). result (evaluateOutcome t m (take (8 * i) table′) run (length truth))) (nodes-are D (f .0) x n e) ∙ ap result (x .evaluate-is) in
                 let z : _≡_ {A = ℕ} 0 1 = cc g in absurd (omega arith),
           )
 
   module _ (n count v : ℕ) (rows′ truth′ : List ℕ) (e : told (Value n) ≡ result (readOutcome m text (length table)))
-      (h : told (Value count) ≡ result (rowsOutcome t m (take (7 * n) table′) (length rows))) (h′ : rows′ ≡ buffer (rowsOutcome t m (take (7 * n) table′) (length rows)) rows)
-      (i : told (Value v) ≡ result (evaluateOutcome t m (take (7 * n) table′) run (length truth)))
-      (i′ : truth′ ≡ buffer (evaluateOutcome t m (take (7 * n) table′) run (length truth)) truth) where
+      (h : told (Value count) ≡ result (rowsOutcome t m (take (8 * n) table′) (length rows))) (h′ : rows′ ≡ buffer (rowsOutcome t m (take (8 * n) table′) (length rows)) rows)
+      (i : told (Value v) ≡ result (evaluateOutcome t m (take (8 * n) table′) run (length truth)))
+      (i′ : truth′ ≡ buffer (evaluateOutcome t m (take (8 * n) table′) run (length truth)) truth) where
     pub done : Demanded t m text run table rows truth table′ rows′ truth′ (Done n count v)
     done none slots runs D 0<D =
         let f = facts none slots runs D 0<D in
         (f .0, f .1, λ a b c. ended (f .0) (f .2 (a, b, c)))
       where
         ended : (p : Rule) → Facts D p → (c w : ℕ) × (Done n count v ≡ Done (size p) c w) ×
-            Demand3At t m D run p (take (7 * size p) table′) c (take (length (rowsBytes (rowsOf t m (nodesOf p)))) rows′) w (take (size p * t) truth′)
+            Demand3At t m D run p (take (8 * size p) table′) c (take (length (rowsBytes (rowsOf t m (nodesOf p)))) rows′) w (take (size p * t) truth′)
         ended p x =
             let k = nodes-are D p x n e in
-            let a : rowsOutcome t m (take (7 * n) table′) (length rows) ≡ answered (wrote (x .count) (x .second)) = ap (λ (j : ℕ). rowsOutcome t m (take (7 * j) table′) (length rows)) k ∙ x .rows-are in
-            let b : evaluateOutcome t m (take (7 * n) table′) run (length truth) ≡ answered (wrote (x .v) (x .third)) = ap (λ (j : ℕ). evaluateOutcome t m (take (7 * j) table′) run (length truth)) k ∙ x .evaluate-is in
+            let a : rowsOutcome t m (take (8 * n) table′) (length rows) ≡ answered (wrote (x .count) (x .second)) = ap (λ (j : ℕ). rowsOutcome t m (take (8 * j) table′) (length rows)) k ∙ x .rows-are in
+            let b : evaluateOutcome t m (take (8 * n) table′) run (length truth) ≡ answered (wrote (x .v) (x .third)) = ap (λ (j : ℕ). evaluateOutcome t m (take (8 * j) table′) run (length truth)) k ∙ x .evaluate-is in
             let c : count ≡ x .count = cc (h ∙ ap result a) in
             let w : v ≡ x .v = cc (i ∙ ap result b) in
-            let r₂ = left-at (rowsOutcome t m (take (7 * n) table′) (length rows)) (x .count) (length (rowsBytes (rowsOf t m (nodesOf p)))) (x .second) rows rows′ h′ a (x .second-long) in
-            let r₃ = left-at (evaluateOutcome t m (take (7 * n) table′) run (length truth)) (x .v) (size p * t) (x .third) truth truth′ i′ b (x .third-long) in
+            let r₂ = left-at (rowsOutcome t m (take (8 * n) table′) (length rows)) (x .count) (length (rowsBytes (rowsOf t m (nodesOf p)))) (x .second) rows rows′ h′ a (x .second-long) in
+            let r₃ = left-at (evaluateOutcome t m (take (8 * n) table′) run (length truth)) (x .v) (size p * t) (x .third) truth truth′ i′ b (x .third-long) in
             (x .count, x .v, cc, rw (x .handed, r₂, r₃) (x .at))

@@ -2,12 +2,14 @@
 use mathlib.Core.Path.{_≡_, refl, sym, ap, _∙_}
 use mathlib.Core.Logic.{_↔_}
 use mathlib.Core.List.{List}
-use Prim.Native.Nat.{ℕ}
+use Prim.Native.Nat.{ℕ, _+_, _*_}
 use native.Mathlib.Omega.{arith}
-use lib.ListN.{length}
+use lib.ListN.{length, drop, getD, List·getD-append}
 use lib.IntN.{ℤ}
 use Rattle.rules.specs.Rule.{size}
 use Rattle.rules.specs.Table.{tableBytes, nodesOf}
+use Rattle.rules.specs.TableRules.{length-nodesFrom}
+use Rattle.rules.specs.TableTest.{length-table, height-written}
 use Rattle.rules.specs.Rows.{rowsOf, rowsBytes}
 use Rattle.rules.specs.Judge.{None, Verdict}
 use Rattle.rules.specs.Refusals.{ReadRefused, EvaluateRefused, RowsRefused}
@@ -16,6 +18,7 @@ use Rattle.rules.specs.Demands.Answer.{refused, answered}
 use Rattle.rules.specs.Demands.Written.{wrote}
 use Rattle.rules.specs.Outcome.{result, buffer, readOutcome, evaluateOutcome, rowsOutcome, judgeOutcome}
 use Rattle.rules.specs.Theorems.{reader-exact, evaluator-exact, rows-exact, judge-exact}
+use Rattle.demands.specs.Heights.{ReaderHeights}
 use Rattle.demands.specs.Demand2.{Holding, ReaderAnswers, EvaluatorAnswers, RowWriterAnswers, JudgeAnswers}
 
 record Wrote (a : Answer Written) (n : ℕ) (out out′ : List ℕ) : Type 0 where
@@ -47,6 +50,19 @@ reader-answers m text answer out out′ told left n =
     answers (ReadRefused m text (length out)) _ (readOutcome m text (length out)) (reader-exact m text (length out)) answer out out′ told left n _
     (λ bytes i h. let e : n ≡ size (i .0) = cc (i .2) in let f : bytes ≡ tableBytes (nodesOf (i .0)) = cc (i .2) in (i .0, i .1, e, rw f at h))
     (λ i. (tableBytes (nodesOf (i .0)), (i .0, i .1, ap (λ (k : ℕ). wrote k (tableBytes (nodesOf (i .0)))) (i .2))))
+
+pub reader-heights : (m : ℕ) (text : List ℕ) (answer : Answer ℕ) (out out′ : List ℕ) →
+    answer ≡ result (readOutcome m text (length out)) → out′ ≡ buffer (readOutcome m text (length out)) out → ReaderHeights text answer out′
+reader-heights m text answer out out′ told left n e =
+    let x = reader-answers m text answer out out′ told left n .0 e in
+    let p = x .1 .0 in
+    let bytes = tableBytes (nodesOf p) in
+    let long : length bytes ≡ 8 * n = length-table (nodesOf p) ∙ omega (arith, length-nodesFrom 0 p, x .1 .2) in (
+      p,
+      x .1 .1,
+      λ i h. ap (λ (l : List ℕ). getD l (8 * i + 7) 0) (x .1 .3) ∙ List·getD-append bytes (drop (length bytes) out) 0 (8 * i + 7) (omega (arith, long))
+          ∙ height-written (nodesOf p) i (omega (arith, length-nodesFrom 0 p, x .1 .2)),
+    )
 
 pub evaluator-answers : (t m : ℕ) (table run : List ℕ) (answer : Answer ℕ) (out out′ : List ℕ) →
     answer ≡ result (evaluateOutcome t m table run (length out)) → out′ ≡ buffer (evaluateOutcome t m table run (length out)) out → EvaluatorAnswers t m table run answer out out′

@@ -1,5 +1,6 @@
 pub mod Demand1
 pub mod Demand2
+pub mod Heights
 pub mod Demand3
 pub mod Passed
 pub mod Shortfall

@@ -5,6 +5,7 @@ ghost use Rattle.sums.specs.Summed.{summed};
 ghost use Rattle.judge.specs.Ruled.{ruled};
 ghost use Rattle.demands.specs.Demand1.{ReaderRefuses, EvaluatorRefuses, RowWriterRefuses, JudgeRefuses};
 ghost use Rattle.demands.specs.Demand2.{ReaderAnswers, EvaluatorAnswers, RowWriterAnswers, JudgeAnswers};
+ghost use Rattle.demands.specs.Heights.{ReaderHeights};
 ghost use Rattle.demands.specs.Demand3.{Demanded};
 ghost use Rattle.demands.specs.Passed.{PassedMeans, PassedAtZero};
 ghost use Rattle.demands.specs.Shortfall.{SameVerdict, CarriesShortfall};
@@ -16,10 +17,11 @@ use judge::Ruling;
 use row::Terms;
 use sums::RowSum;
 
-// Demands 1 and 2 of the reader.
+// Demands 1 and 2 of the reader, and the heights that it writes.
 pub fn read(text: &[u8], m: usize, out: &mut [u8]) -> Answer
     ensures { λ r. ⌜ ReaderRefuses m (now (text .entry)) (told r) (now (out .entry)) (now (out .exit)) ⌝ }
     ensures { λ r. ⌜ ReaderAnswers m (now (text .entry)) (told r) (now (out .entry)) (now (out .exit)) ⌝ }
+    ensures { λ r. ⌜ ReaderHeights (now (text .entry)) (told r) (now (out .exit)) ⌝ }
 {
     reader::read(text, m, out)
 }
@@ -94,7 +96,7 @@ pub fn plan(
     match reader::read(text, m, table) {
         Answer::Refused(r) => Planned::Refused(r),
         Answer::Value(n) => {
-            let end = 7 * n;
+            let end = 8 * n;
             match rows::write_rows(&table[..end], t, m, rows) {
                 Answer::Refused(r) => Planned::Refused(r),
                 Answer::Value(count) => match evaluator::evaluate(&table[..end], t, m, run, truth) {

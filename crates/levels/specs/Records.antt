@@ -2,10 +2,10 @@
 use mathlib.Core.Path.{_≡_, refl}
 use mathlib.Core.Bool.{Bool, true, false, cond}
 use mathlib.Core.List.{List, [], _∷_, _++_}
-use Prim.Native.Nat.{ℕ, _+_, _-_, _*_, _%_, min, max, _≤_}
+use Prim.Native.Nat.{ℕ, _+_, _-_, _*_, _%_, min, max, _≤_, _<_}
 use native.Mathlib.Omega.{arith}
 use lib.ListN.{length, length-append}
-use Rattle.rules.specs.Rule.{Rule, size}
+use Rattle.rules.specs.Rule.{Rule, size, height}
 use Rattle.rules.specs.Rule.Rule.{atom, unary, binary, windowed}
 use Rattle.rules.specs.Table.{unaryKind, binaryKind, windowKind}
 use Rattle.rules.specs.TableTest.{windowGood}
@@ -46,18 +46,25 @@ flaw-le (unary u p) = flaw-le p
 flaw-le (binary o p q) = let h = flaw-le p in let k = flaw-le q in omega arith
 flaw-le (windowed w a b p) = let h = flaw-le p in let k = bad-le (min 255 a) (min 255 b) in omega arith
 
-abbrev pub entry : (kind left right from to : ℕ) → List ℕ
-entry k l r a b = 0x4E ∷ 0x44 ∷ k ∷ l % 256 ∷ r % 256 ∷ a % 256 ∷ b % 256 ∷ []
+-- a node's height is below its count of nodes
+pub height-less : (p : Rule) → height p < size p
+height-less (atom a) = omega arith
+height-less (unary u p) = let h = height-less p in omega arith
+height-less (binary o p q) = let h = height-less p in let k = height-less q in omega arith
+height-less (windowed w a b p) = let h = height-less p in omega arith
+
+abbrev pub entry : (kind left right from to high : ℕ) → List ℕ
+entry k l r a b h = 0x4E ∷ 0x44 ∷ k ∷ l % 256 ∷ r % 256 ∷ a % 256 ∷ b % 256 ∷ h % 256 ∷ []
 
 -- the records of a rule whose first node has the number n
 unfoldable pub records : ℕ → Rule → List ℕ
-records n (atom a) = entry 1 (min 255 a) 0 0 0
-records n (unary u p) = records n p ++ entry (unaryKind u) (n + size p - 1) 0 0 0
+records n (atom a) = entry 1 (min 255 a) 0 0 0 0
+records n (unary u p) = records n p ++ entry (unaryKind u) (n + size p - 1) 0 0 0 (height p + 1)
 records n (binary o p q) =
-    records n p ++ (records (n + size p) q ++ entry (binaryKind o) (n + size p - 1) (n + size p + size q - 1) 0 0)
-records n (windowed w a b p) = records n p ++ entry (windowKind w) (n + size p - 1) 0 (min 255 a) (min 255 b)
+    records n p ++ (records (n + size p) q ++ entry (binaryKind o) (n + size p - 1) (n + size p + size q - 1) 0 0 (max (height p) (height q) + 1))
+records n (windowed w a b p) = records n p ++ entry (windowKind w) (n + size p - 1) 0 (min 255 a) (min 255 b) (height p + 1)
 
-pub length-records : (n : ℕ) (p : Rule) → length (records n p) ≡ 7 * size p
+pub length-records : (n : ℕ) (p : Rule) → length (records n p) ≡ 8 * size p
 unfolding records
 length-records n (atom a) = refl
 length-records n (unary u p) =

@@ -1,14 +1,15 @@
 // A rule's phrase and its records: five levels of the grammar that call each other in a cycle.
 ghost use mathlib.Core.Path.{_≡_};
-ghost use Prim.Native.Nat.{_+_, _*_, max, _≤_};
+ghost use Prim.Native.Nat.{_+_, _*_, _≤_};
 ghost use lib.ListN.{length};
 ghost use Rattle.rules.specs.Reading.Parser.{parsed, unaryOf};
 ghost use Rattle.levels.specs.Records.{bad as badWindow, entry};
-ghost use Rattle.levels.specs.Steps.{ruleLevel, orLevel, andLevel, untilLevel, singleLevel, Ready, Wrote, Told, Room, joined, JoinedIn, applied, AppliedIn, prefixKind, opened, closed, Fits, stepOf};
+ghost use Rattle.levels.specs.Steps.{ruleLevel, orLevel, andLevel, untilLevel, singleLevel, Ready, Wrote, Told, Room};
+ghost use Rattle.levels.specs.Steps.{joined, JoinedIn, applied, AppliedIn, prefixKind, opened, closed, Fits, stepOf};
 ghost use Rattle.levels.specs.declared.Step.the-variants.{Part};
 
 // No phrase, or one whose next token begins at `next`: `nodes` nodes are written so far, `top` is the phrase's highest atom
-// number, and `bad` is 1 where one of its windows is not allowed, and else 0.
+// number, `bad` is 1 where one of its windows is not allowed, and else 0, and `high` is its height.
 pub enum Step {
     Fail,
     Part {
@@ -16,6 +17,7 @@ pub enum Step {
         nodes: usize,
         top: usize,
         bad: usize,
+        high: usize,
     },
 }
 
@@ -30,22 +32,17 @@ fn unpack(code: usize) -> Step
         next: code % 2048,
         nodes: code / 2048 % 2048,
         top: code / 4194304 % 256,
-        bad: code / 1073741824,
+        bad: code / 1073741824 % 2,
+        high: code / 2147483648,
     }
 }
 
 // A part as one number: the levels return it in a register.
-fn pack(next: usize, nodes: usize, top: usize, bad: usize) -> usize
-    requires { ⌜ Fits next nodes top bad ⌝ }
-    ensures { λ r. ⌜ stepOf r ≡ Part next nodes top bad ⌝ }
+fn pack(next: usize, nodes: usize, top: usize, bad: usize, high: usize) -> usize
+    requires { ⌜ Fits next nodes top bad high ⌝ }
+    ensures { λ r. ⌜ stepOf r ≡ Part next nodes top bad high ⌝ }
 {
-    next + nodes * 2048 + top * 4194304 + bad * 1073741824
-}
-
-fn larger(a: usize, b: usize) -> usize
-    ensures { λ r. ⌜ r ≡ max a b ⌝ }
-{
-    if a < b { b } else { a }
+    next + nodes * 2048 + top * 4194304 + bad * 1073741824 + high * 2147483648
 }
 
 // 1 "when a is above b or b above 63", and else 0.
@@ -62,14 +59,23 @@ fn outside(from: usize, to: usize) -> usize
 }
 
 // Writes node `n`'s record, where it is one of the first 128: the records of a rule with more are not wanted.
-fn put(out: &mut [u8; 896], n: usize, kind: u8, left: usize, right: usize, from: usize, to: usize)
-    requires { ⌜ 7 * n + 7 ≤ 7168 ⌝ }
-    ensures { λ _. ⌜ Wrote (now (out .entry)) (7 * n) (entry kind left right from to) (now (out .exit)) ⌝ }
+fn put(
+    out: &mut [u8; 1024],
+    n: usize,
+    kind: u8,
+    left: usize,
+    right: usize,
+    from: usize,
+    to: usize,
+    high: usize,
+)
+    requires { ⌜ 8 * n + 8 ≤ 8192 ⌝ }
+    ensures { λ _. ⌜ Wrote (now (out .entry)) (8 * n) (entry kind left right from to high) (now (out .exit)) ⌝ }
 {
     if 128 <= n {
         return;
     }
-    let i = 7 * n;
+    let i = 8 * n;
     let mark = table::MARK;
     out[i] = mark[0];
     out[i + 1] = mark[1];
@@ -78,12 +84,21 @@ fn put(out: &mut [u8; 896], n: usize, kind: u8, left: usize, right: usize, from:
     out[i + 4] = (right % 256) as u8;
     out[i + 5] = (from % 256) as u8;
     out[i + 6] = (to % 256) as u8;
+    out[i + 7] = (high % 256) as u8;
 }
 
 // The node over the left part, whose last node is `nodes` - 1, and the right part.
-fn join(out: &mut [u8; 896], kind: u8, nodes: usize, top: usize, bad: usize, right: usize) -> usize
-    requires { ⌜ (1 ≤ nodes) × ((top ≤ 255) × ((bad ≤ 1) × Room (stepOf right))) ⌝ }
-    ensures { λ r. ⌜ (stepOf r ≡ joined top bad (stepOf right)) × JoinedIn (stepOf right) kind nodes (now (out .entry)) (now (out .exit)) ⌝ }
+fn join(
+    out: &mut [u8; 1024],
+    kind: u8,
+    nodes: usize,
+    top: usize,
+    bad: usize,
+    high: usize,
+    right: usize,
+) -> usize
+    requires { ⌜ (1 ≤ nodes) × ((top ≤ 255) × ((bad ≤ 1) × ((high ≤ 1023) × Room (stepOf right)))) ⌝ }
+    ensures { λ r. ⌜ (stepOf r ≡ joined top bad high (stepOf right)) × JoinedIn (stepOf right) kind nodes high (now (out .entry)) (now (out .exit)) ⌝ }
 {
     match unpack(right) {
         Step::Fail => 0,
@@ -92,15 +107,23 @@ fn join(out: &mut [u8; 896], kind: u8, nodes: usize, top: usize, bad: usize, rig
             nodes: m,
             top: b,
             bad: f,
+            high: h,
         } => {
-            put(out, m, kind, nodes - 1, m - 1, 0, 0);
-            pack(next, m + 1, larger(top, b), larger(bad, f))
+            let over = table::larger(high, h) + 1;
+            put(out, m, kind, nodes - 1, m - 1, 0, 0, over);
+            pack(
+                next,
+                m + 1,
+                table::larger(top, b),
+                table::larger(bad, f),
+                over,
+            )
         }
     }
 }
 
 // The node over one part, with its window, or 0 and 0.
-fn cap(out: &mut [u8; 896], kind: u8, from: usize, to: usize, inner: usize) -> usize
+fn cap(out: &mut [u8; 1024], kind: u8, from: usize, to: usize, inner: usize) -> usize
     requires { ⌜ Room (stepOf inner) ⌝ }
     ensures { λ r. ⌜ (stepOf r ≡ applied from to (stepOf inner)) × AppliedIn (stepOf inner) kind from to (now (out .entry)) (now (out .exit)) ⌝ }
 {
@@ -111,9 +134,17 @@ fn cap(out: &mut [u8; 896], kind: u8, from: usize, to: usize, inner: usize) -> u
             nodes: m,
             top,
             bad,
+            high,
         } => {
-            put(out, m, kind, m - 1, 0, from, to);
-            pack(next, m + 1, top, larger(bad, outside(from, to)))
+            let over = high + 1;
+            put(out, m, kind, m - 1, 0, from, to, over);
+            pack(
+                next,
+                m + 1,
+                top,
+                table::larger(bad, outside(from, to)),
+                over,
+            )
         }
     }
 }
@@ -156,19 +187,20 @@ fn close(text: &[u8], inner: usize) -> usize
             nodes,
             top,
             bad,
+            high,
         } => {
             let past = lexer::sign_at(text, next, b')');
             if past == 0 {
                 return 0;
             }
             let end = lexer::skip(text, past);
-            pack(end, nodes, top, bad)
+            pack(end, nodes, top, bad, high)
         }
     }
 }
 
 // Rule: Or, or Or > Rule. The levels pass the text on by a reference to the slice: each then has it in a register.
-fn rule(text: &&[u8], at: usize, n: usize, out: &mut [u8; 896]) -> usize
+fn rule(text: &&[u8], at: usize, n: usize, out: &mut [u8; 1024]) -> usize
     requires { ⌜ Ready (now (now text)) at n ⌝ }
     ensures { λ r. ⌜ Told (now (now (text .entry))) (parsed ruleLevel (now (now (text .entry))) at) n (now (out .entry)) (now (out .exit)) (stepOf r) ⌝ }
 {
@@ -180,19 +212,20 @@ fn rule(text: &&[u8], at: usize, n: usize, out: &mut [u8; 896]) -> usize
             nodes,
             top,
             bad,
+            high,
         } => {
             let after = lexer::sign_at(*text, next, b'>');
             if after == 0 {
                 return left;
             }
             let right = rule(text, after, nodes, out);
-            join(out, 5, nodes, top, bad, right)
+            join(out, 5, nodes, top, bad, high, right)
         }
     }
 }
 
 // Or: And, or And | Or.
-fn or(text: &&[u8], at: usize, n: usize, out: &mut [u8; 896]) -> usize
+fn or(text: &&[u8], at: usize, n: usize, out: &mut [u8; 1024]) -> usize
     requires { ⌜ Ready (now (now text)) at n ⌝ }
     ensures { λ r. ⌜ Told (now (now (text .entry))) (parsed orLevel (now (now (text .entry))) at) n (now (out .entry)) (now (out .exit)) (stepOf r) ⌝ }
 {
@@ -204,19 +237,20 @@ fn or(text: &&[u8], at: usize, n: usize, out: &mut [u8; 896]) -> usize
             nodes,
             top,
             bad,
+            high,
         } => {
             let after = lexer::sign_at(*text, next, b'|');
             if after == 0 {
                 return left;
             }
             let right = or(text, after, nodes, out);
-            join(out, 4, nodes, top, bad, right)
+            join(out, 4, nodes, top, bad, high, right)
         }
     }
 }
 
 // And: Until, or Until & And.
-fn and(text: &&[u8], at: usize, n: usize, out: &mut [u8; 896]) -> usize
+fn and(text: &&[u8], at: usize, n: usize, out: &mut [u8; 1024]) -> usize
     requires { ⌜ Ready (now (now text)) at n ⌝ }
     ensures { λ r. ⌜ Told (now (now (text .entry))) (parsed andLevel (now (now (text .entry))) at) n (now (out .entry)) (now (out .exit)) (stepOf r) ⌝ }
 {
@@ -228,19 +262,20 @@ fn and(text: &&[u8], at: usize, n: usize, out: &mut [u8; 896]) -> usize
             nodes,
             top,
             bad,
+            high,
         } => {
             let after = lexer::sign_at(*text, next, b'&');
             if after == 0 {
                 return left;
             }
             let right = and(text, after, nodes, out);
-            join(out, 3, nodes, top, bad, right)
+            join(out, 3, nodes, top, bad, high, right)
         }
     }
 }
 
 // Until: Single, or Single U Until.
-fn until(text: &&[u8], at: usize, n: usize, out: &mut [u8; 896]) -> usize
+fn until(text: &&[u8], at: usize, n: usize, out: &mut [u8; 1024]) -> usize
     requires { ⌜ Ready (now (now text)) at n ⌝ }
     ensures { λ r. ⌜ Told (now (now (text .entry))) (parsed untilLevel (now (now (text .entry))) at) n (now (out .entry)) (now (out .exit)) (stepOf r) ⌝ }
 {
@@ -252,27 +287,28 @@ fn until(text: &&[u8], at: usize, n: usize, out: &mut [u8; 896]) -> usize
             nodes,
             top,
             bad,
+            high,
         } => {
             let after = lexer::sign_at(*text, next, b'U');
             if after == 0 {
                 return left;
             }
             let right = until(text, after, nodes, out);
-            join(out, 8, nodes, top, bad, right)
+            join(out, 8, nodes, top, bad, high, right)
         }
     }
 }
 
 // Single: ! Single, or F Single, or G Single, or an atom, or ( Rule ); or F or G with a window and a Single.
-fn single(text: &&[u8], at: usize, n: usize, out: &mut [u8; 896]) -> usize
+fn single(text: &&[u8], at: usize, n: usize, out: &mut [u8; 1024]) -> usize
     requires { ⌜ Ready (now (now text)) at n ⌝ }
     ensures { λ r. ⌜ Told (now (now (text .entry))) (parsed singleLevel (now (now (text .entry))) at) n (now (out .entry)) (now (out .exit)) (stepOf r) ⌝ }
 {
     match lexer::token_at(*text, at) {
         lexer::Token::Atom { number, next } => {
-            put(out, n, 1, number, 0, 0, 0);
+            put(out, n, 1, number, 0, 0, 0, 0);
             let end = lexer::skip(*text, next);
-            pack(end, n + 1, number, 0)
+            pack(end, n + 1, number, 0, 0)
         }
         lexer::Token::Sign { byte, next } => {
             if byte == b'(' {
@@ -305,7 +341,7 @@ fn single(text: &&[u8], at: usize, n: usize, out: &mut [u8; 896]) -> usize
 }
 
 // The phrase that the text begins with.
-pub fn whole(text: &[u8], out: &mut [u8; 896]) -> Step
+pub fn whole(text: &[u8], out: &mut [u8; 1024]) -> Step
     requires { ⌜ length (now text) ≤ 1024 ⌝ }
     ensures { λ r. ⌜ Told (now (text .entry)) (parsed ruleLevel (now (text .entry)) 0) 0 (now (out .entry)) (now (out .exit)) r ⌝ }
 {

@@ -19,11 +19,11 @@ too-many-slots : (T M : ℕ) (text : List ℕ) → 64 < T → listed T M text �
 unfolding listed ruleOutcome
 too-many-slots T M text h = rw (le-leb 1 T (omega arith), lt-leb T 64 h) refl
 
-too-many-atoms : (M : ℕ) (text : List ℕ) → 16 < M → readOutcome M text 896 ≡ refused 2
+too-many-atoms : (M : ℕ) (text : List ℕ) → 16 < M → readOutcome M text 1024 ≡ refused 2
 unfolding readOutcome
 too-many-atoms M text h = rw (le-leb 1 M (omega arith), lt-leb M 16 h) refl
 
-too-long : (M : ℕ) (text : List ℕ) → 1024 < length text → readOutcome M text 896 ≡ require (between 1 16 M) 2 (refused 3)
+too-long : (M : ℕ) (text : List ℕ) → 1024 < length text → readOutcome M text 1024 ≡ require (between 1 16 M) 2 (refused 3)
 unfolding readOutcome
 too-long M text h = rw (lt-leb (length text) 1024 h) refl
 
@@ -39,7 +39,7 @@ cut-slots T M text = go (leb T 1000) refl
         too-many-slots (min 1000 T) M text (omega arith) ∙ sym (too-many-slots T M text (omega arith))
 
 -- the check of T, and then the rest
-pub listed-read : (T M : ℕ) (text : List ℕ) (o : Answer Written) → readOutcome M text 896 ≡ o → listed T M text ≡ require (between 1 64 T) 1 (readThen T M o)
+pub listed-read : (T M : ℕ) (text : List ℕ) (o : Answer Written) → readOutcome M text 1024 ≡ o → listed T M text ≡ require (between 1 64 T) 1 (readThen T M o)
 unfolding listed ruleOutcome
 listed-read T M text o e = ap (λ (x : Answer Written). readThen T M (require (between 1 64 T) 1 x)) e ∙ go (between 1 64 T)
   where
@@ -57,11 +57,11 @@ cut-atoms T M text = go (leb M 1000) refl
         listed-read T (min 1000 M) text (refused 2) (too-many-atoms (min 1000 M) text (omega arith))
         ∙ sym (listed-read T M text (refused 2) (too-many-atoms M text (omega arith)))
 
-cut-text : (M room : ℕ) (text : List ℕ) → 1024 < room → readOutcome M (take room text) 896 ≡ readOutcome M text 896
+cut-text : (M room : ℕ) (text : List ℕ) → 1024 < room → readOutcome M (take room text) 1024 ≡ readOutcome M text 1024
 cut-text M room text h = go (leb (length text) room) refl
   where
-    go : (b : Bool) → leb (length text) room ≡ b → readOutcome M (take room text) 896 ≡ readOutcome M text 896
-    go true e = ap (λ (x : List ℕ). readOutcome M x 896) (take-all room text (leb-true (length text) room e))
+    go : (b : Bool) → leb (length text) room ≡ b → readOutcome M (take room text) 1024 ≡ readOutcome M text 1024
+    go true e = ap (λ (x : List ℕ). readOutcome M x 1024) (take-all room text (leb-true (length text) room e))
     go false e =
         let l = leb-false (length text) room e in
         let n : length (take room text) ≡ room = length-take-le room text (omega arith) in
@@ -72,5 +72,5 @@ unfolding listing
 listing-cut T M room text h =
     ap printed
     (cut-slots T (min 1000 M) (take room text) ∙ cut-atoms T M (take room text)
-    ∙ listed-read T M (take room text) (readOutcome M text 896) (cut-text M room text h)
-    ∙ sym (listed-read T M text (readOutcome M text 896) refl))
+    ∙ listed-read T M (take room text) (readOutcome M text 1024) (cut-text M room text h)
+    ∙ sym (listed-read T M text (readOutcome M text 1024) refl))

@@ -12,6 +12,7 @@ use lib.Seq.{take-at, drop-at, take-all}
 use Rattle.lists.specs.Every.{Every}
 use Rattle.rules.specs.Rule.{size}
 use Rattle.rules.specs.Table.{Node, tableBytes, nodesOf}
+use Rattle.rules.specs.TableTest.{length-table}
 use Rattle.rules.specs.TableRules.{length-nodesFrom}
 use Rattle.rules.specs.Rows.{Row, rowBytes, rowsBytes, rowsOf, rowIn, rowsIn}
 use Rattle.rules.specs.RowRecords.{Recordable, rowLength, length-row, row-back, rows-back, rows-recordable}
@@ -78,7 +79,7 @@ unfolding ruleOutcome
 many-slots T M text h = rw (le-leb 1 T (omega arith), lt-leb T 64 h) refl
 
 -- T is allowed
-pub rule-outcome : (T M : ℕ) (text : List ℕ) → 1 ≤ T → T ≤ 64 → ruleOutcome T M text ≡ readOutcome M text 896
+pub rule-outcome : (T M : ℕ) (text : List ℕ) → 1 ≤ T → T ≤ 64 → ruleOutcome T M text ≡ readOutcome M text 1024
 unfolding ruleOutcome
 rule-outcome T M text l h = rw (le-leb 1 T l, le-leb T 64 h) refl
 
@@ -87,15 +88,11 @@ pub passed : (b : Bool) (k : ℕ) (o : Demands.Answer Written) (w : Written) →
 passed true k o w e = (refl, e)
 passed false k o w e = let z : _≡_ {A = ℕ} 0 1 = cc in absurd (omega arith)
 
-rule-answered : (T M : ℕ) (text : List ℕ) (w : Written) → ruleOutcome T M text ≡ answered w → readOutcome M text 896 ≡ answered w
+rule-answered : (T M : ℕ) (text : List ℕ) (w : Written) → ruleOutcome T M text ≡ answered w → readOutcome M text 1024 ≡ answered w
 unfolding ruleOutcome
-rule-answered T M text w e = passed (between 1 64 T) 1 (readOutcome M text 896) w e .1
+rule-answered T M text w e = passed (between 1 64 T) 1 (readOutcome M text 1024) w e .1
 
 -- ---- a table that was read
-
-length-table : (ns : List Node) → length (tableBytes ns) ≡ 7 * length ns
-length-table [] = refl
-length-table (n ∷ ns) = omega (arith, length-table ns)
 
 pub at-most : (n m : ℕ) → (m < n → ⊥) → n ≤ m
 at-most n m h = go (leb n m) refl
@@ -106,11 +103,11 @@ at-most n m h = go (leb n m) refl
 
 pub record TableRead (n : ℕ) (bytes : List ℕ) : Type 0 where
   pub few : n ≤ 128
-  pub size-is : length bytes ≡ 7 * n
+  pub size-is : length bytes ≡ 8 * n
 
 table-read : (T M : ℕ) (text : List ℕ) (n : ℕ) (bytes : List ℕ) → ruleOutcome T M text ≡ answered (wrote n bytes) → TableRead n bytes
 table-read T M text n bytes e =
-    let r = reader-exact M text 896 .answers (wrote n bytes) .0 (rule-answered T M text (wrote n bytes) e) in
+    let r = reader-exact M text 1024 .answers (wrote n bytes) .0 (rule-answered T M text (wrote n bytes) e) in
     let p = r .1 .0 in
     let w : wrote n bytes ≡ wrote (size p) (tableBytes (nodesOf p)) = r .1 .2 in
     let a : n ≡ size p = cc in
@@ -192,13 +189,13 @@ lent o n size z l w e f =
 
 -- a table read into a buffer, l after that
 pub record TableReady (T M : ℕ) (text : List ℕ) (n : ℕ) (l : List ℕ) : Type 0 where
-  pub table : Lent (ruleOutcome T M text) n (7 * n) l
+  pub table : Lent (ruleOutcome T M text) n (8 * n) l
   pub read : TableRead n (table .bytes)
 
 pub table-ready : (T M : ℕ) (text z l : List ℕ) (r : Answer) (n : ℕ) → told r ≡ result (ruleOutcome T M text) → l ≡ buffer (ruleOutcome T M text) z → r ≡ Value n → TableReady T M text n l
 table-ready T M text z l r n e f v =
     let w = told-value (ruleOutcome T M text) r n e v in
-    let t = lent (ruleOutcome T M text) n (7 * n) z l w f (table-read T M text n (w .bytes) (w .is) .size-is) in
+    let t = lent (ruleOutcome T M text) n (8 * n) z l w f (table-read T M text n (w .bytes) (w .is) .size-is) in
     record { table = t; read = table-read T M text n (t .bytes) (t .is) }
 
 -- rows written into 65,536 bytes, l after that
@@ -252,7 +249,7 @@ pub listing-refused : (T M : ℕ) (text : List ℕ) (r : Answer) (k : Refusal) �
 listing-refused T M text r k e v =
     listing-read T M text (refused (numberOf k)) (told-refused (ruleOutcome T M text) r k e v)
 
-pub listing-rows : (T M n : ℕ) (text l : List ℕ) → (t : TableReady T M text n l) → listing T M text ≡ printed (rowsThen T M n (rowsOutcome T M (take (7 * n) l) 65536))
+pub listing-rows : (T M n : ℕ) (text l : List ℕ) → (t : TableReady T M text n l) → listing T M text ≡ printed (rowsThen T M n (rowsOutcome T M (take (8 * n) l) 65536))
 listing-rows T M n text l t =
     listing-read T M text (answered (wrote n (t .table .bytes))) (t .table .is)
     ∙ ap (λ (x : List ℕ). printed (rowsThen T M n (rowsOutcome T M x 65536))) (sym (t .table .front))

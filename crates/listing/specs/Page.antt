@@ -29,9 +29,9 @@ abbrev pub readThen : (T M : ℕ) → Answer Written → Answer Listed
 readThen T M (refused k) = refused k
 readThen T M (answered (wrote N table)) = rowsThen T M N (rowsOutcome T M table 65536)
 
--- a rule read for T slots: the check of T, which is no check of the reader's, and then the reader's answer. Any table fits 896 bytes.
+-- a rule read for T slots: the check of T, which is no check of the reader's, and then the reader's answer. Any table fits 1024 bytes.
 unfoldable pub ruleOutcome : (T M : ℕ) (text : List ℕ) → Answer Written
-ruleOutcome T M text = require (between 1 64 T) 1 (readOutcome M text 896)
+ruleOutcome T M text = require (between 1 64 T) 1 (readOutcome M text 1024)
 
 -- "Of the refusals of reader and row writer, the lowest", which since request N4 is the first in the order: 1 is the row writer's, 2 both's,
 -- 3, 4, 5, 12 and 6 the reader's, 11 the row writer's.

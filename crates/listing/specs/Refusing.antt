@@ -40,7 +40,7 @@ abbrev pub ListExact : Type 0
 ListExact = (T M : ℕ) (text : List ℕ) → Exact (ListRefused T M text) (ListIs T M text) (listed T M text)
 
 -- the reader's 11 comes with its 6, which comes first
-text-only : (M : ℕ) (text : List ℕ) {k : ℕ} → (TextRefused M text 6 → place 6 < place k → ⊥) → ReadRefused M text 896 k → TextRefused M text k
+text-only : (M : ℕ) (text : List ℕ) {k : ℕ} → (TextRefused M text 6 → place 6 < place k → ⊥) → ReadRefused M text 1024 k → TextRefused M text k
 text-only M text f (ReadRefused.text-refused t) = t
 text-only M text f (ReadRefused.short {p} s h) = absurd (f (TextRefused.nodes s (omega arith)) (omega arith))
 
@@ -54,7 +54,7 @@ text-under M text (TextRefused.nodes s x) = omega arith
 
 module _ (T M : ℕ) (text : List ℕ) (allowed : SlotsAllowed T) where
   -- the reader refuses
-  read-refused : (k : ℕ) → Wins (ReadRefused M text 896) k → Exact (ListRefused T M text) (ListIs T M text) (refused k)
+  read-refused : (k : ℕ) → Wins (ReadRefused M text 1024) k → Exact (ListRefused T M text) (ListIs T M text) (refused k)
   read-refused k low =
       let t = text-only M text (λ x h. low .earlier 6 h (ReadRefused.text-refused x)) (low .applies) in
       refuse (ListRefused T M text) (ListIs T M text) k (λ j. from) (ListRefused.reader t)
@@ -66,7 +66,7 @@ module _ (T M : ℕ) (text : List ℕ) (allowed : SlotsAllowed T) where
           omega (arith, text-under M text (text-only M text (λ y h. low .earlier 6 h (ReadRefused.text-refused y)) (low .applies)))
 
   -- the reader writes the table of the rule p
-  module _ (p : Rule) (says : Says text p) (none : None (ReadRefused M text 896)) where
+  module _ (p : Rule) (says : Says text p) (none : None (ReadRefused M text 1024)) where
     few : size p ≤ 128
     few = at-most (size p) 128 (λ h. none 6 (ReadRefused.text-refused (TextRefused.nodes says h)))
 
@@ -139,10 +139,10 @@ module _ (T M : ℕ) (text : List ℕ) (allowed : SlotsAllowed T) where
         listed-of : List Row → Listed
         listed-of rows = record { variables = (M + size p) * T; rows = rows }
 
-  read-outcome : (o : Answer Written) → readOutcome M text 896 ≡ o → Exact (ListRefused T M text) (ListIs T M text) (readThen T M o)
-  read-outcome (refused k) e = read-refused k (reader-exact M text 896 .refuses k .0 e)
+  read-outcome : (o : Answer Written) → readOutcome M text 1024 ≡ o → Exact (ListRefused T M text) (ListIs T M text) (readThen T M o)
+  read-outcome (refused k) e = read-refused k (reader-exact M text 1024 .refuses k .0 e)
   read-outcome (answered (wrote n table)) e =
-      let r = reader-exact M text 896 .answers (wrote n table) .0 e in
+      let r = reader-exact M text 1024 .answers (wrote n table) .0 e in
       let p = r .1 .0 in
       let w : wrote n table ≡ wrote (size p) (tableBytes (nodesOf p)) = r .1 .2 in
       let a : n ≡ size p = cc in
@@ -153,9 +153,9 @@ module _ (T M : ℕ) (text : List ℕ) (allowed : SlotsAllowed T) where
 
 pub list-exact : ListExact
 list-exact T M text =
-    subst (Exact (ListRefused T M text) (ListIs T M text)) (sym (listed-read T M text (readOutcome M text 896) refl))
-    (rung (ListRefused T M text) (ListIs T M text) (between 1 64 T) 1 (readThen T M (readOutcome M text 896))
-    (λ j. from) (λ e. ListRefused.slots (between-false 1 64 T e)) (λ e. read-outcome T M text (between-true 1 64 T e) (readOutcome M text 896) refl))
+    subst (Exact (ListRefused T M text) (ListIs T M text)) (sym (listed-read T M text (readOutcome M text 1024) refl))
+    (rung (ListRefused T M text) (ListIs T M text) (between 1 64 T) 1 (readThen T M (readOutcome M text 1024))
+    (λ j. from) (λ e. ListRefused.slots (between-false 1 64 T e)) (λ e. read-outcome T M text (between-true 1 64 T e) (readOutcome M text 1024) refl))
   where
     positive : {j : ℕ} → TextRefused M text j → place 1 ≤ place j
     positive (TextRefused.atoms x) = omega arith

@@ -69,7 +69,7 @@ fn list_table(table: &[u8], n: usize, t: usize, m: usize, out: &mut [u8; 184000]
 
 // Reads a rule for `t` slots into `table`: the check of `t`, and then the reader.
 pub fn read_rule(text: &[u8], t: usize, m: usize, table: &mut [u8]) -> answers::Answer
-    requires { ⌜ length (now table) ≡ 896 ⌝ }
+    requires { ⌜ length (now table) ≡ 1024 ⌝ }
     ensures { λ r. ⌜ told r ≡ result (ruleOutcome t m (now (text .entry))) ⌝ }
     ensures { λ _. ⌜ now (table .exit) ≡ buffer (ruleOutcome t m (now (text .entry))) (now (table .entry)) ⌝ }
 {
@@ -86,11 +86,11 @@ pub fn read_rule(text: &[u8], t: usize, m: usize, table: &mut [u8]) -> answers::
 fn list(text: &[u8], t: usize, m: usize, out: &mut [u8; 184000]) -> usize
     ensures { λ r. ⌜ Put 0 (listing t m (now (text .entry))) (now (out .entry)) (now (out .exit)) r × (r ≤ 184000) ⌝ }
 {
-    let mut table = [0u8; 896];
+    let mut table = [0u8; 1024];
     match read_rule(text, t, m, &mut table) {
         answers::Answer::Refused(refusal) => put_refusal(out, refusal),
         answers::Answer::Value(n) => {
-            let end = 7 * n;
+            let end = 8 * n;
             list_table(&table[..end], n, t, m, out)
         }
     }

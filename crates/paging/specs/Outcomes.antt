@@ -71,7 +71,7 @@ paged-read T M text room o e = ap (pageThen T M room) e
 pub rule-refused : (T M : ℕ) (text : List ℕ) (room : ℕ) (r : Answer) (k : Refusal) → told r ≡ result (ruleOutcome T M text) → r ≡ Refused k → paged T M text room ≡ refused (numberOf k)
 rule-refused T M text room r k e v = paged-read T M text room (refused (numberOf k)) (told-refused (ruleOutcome T M text) r k e v)
 
-pub rule-paged : (T M n : ℕ) (text l : List ℕ) (room : ℕ) → TableReady T M text n l → paged T M text room ≡ pageOutcome T M (take (7 * n) l) room
+pub rule-paged : (T M n : ℕ) (text l : List ℕ) (room : ℕ) → TableReady T M text n l → paged T M text room ≡ pageOutcome T M (take (8 * n) l) room
 rule-paged T M n text l room t =
     paged-read T M text room (answered (wrote n (t .table .bytes))) (t .table .is) ∙ ap (λ (x : List ℕ). pageOutcome T M x room) (sym (t .table .front))
 

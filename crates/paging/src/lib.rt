@@ -22,11 +22,11 @@ fn page_rule(text: &[u8], t: usize, m: usize, out: &mut [u8]) -> usize
     requires { ⌜ 20 ≤ length (now out) ⌝ }
     ensures { λ r. ⌜ Put 0 (pagePrinted (paged t m (now (text .entry)) (length (now (out .entry))))) (now (out .entry)) (now (out .exit)) r × (r ≤ length (now (out .entry))) ⌝ }
 {
-    let mut table = [0u8; 896];
+    let mut table = [0u8; 1024];
     match listing::read_rule(text, t, m, &mut table) {
         answers::Answer::Refused(refusal) => listing::put_refusal(out, refusal),
         answers::Answer::Value(n) => {
-            let end = 7 * n;
+            let end = 8 * n;
             page_table(&table[..end], t, m, out)
         }
     }

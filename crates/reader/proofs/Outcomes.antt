@@ -65,9 +65,9 @@ module _ (m : ℕ) (s out : List ℕ) where
           unfolding reading
           no-rule e = refuses Grammar (outcome-of none (ap (whole s) (failed s (parsed (of implies) s 0) 0 scratch scratch₁ r told-is e)))
 
-          module _ (next nodes high-atom fault : ℕ) (part-is : r ≡ Part next nodes high-atom fault) where
-            first : Got s (parsed (of implies) s 0) 0 scratch scratch₁ next nodes high-atom fault
-            first = got s (parsed (of implies) s 0) 0 scratch scratch₁ r next nodes high-atom fault told-is part-is
+          module _ (next nodes high-atom fault tall : ℕ) (part-is : r ≡ Part next nodes high-atom fault tall) where
+            first : Got s (parsed (of implies) s 0) 0 scratch scratch₁ next nodes high-atom fault tall
+            first = got s (parsed (of implies) s 0) 0 scratch scratch₁ r next nodes high-atom fault tall told-is part-is
 
             pub more-text : next < length s → Kept m s out out (Refused Grammar)
             unfolding reading
@@ -102,41 +102,41 @@ module _ (m : ℕ) (s out : List ℕ) where
                       ∙ rw (below-top m p (omega arith), lt-ltb (top p) m (omega (arith, first .highest)), good-flaw p, no-flaw, lt-leb (size p) 128 (omega (arith, first .count))) refl)
 
                   module _ (few : nodes ≤ 128) where
-                    pub small-buffer : length out < 7 * nodes → Kept m s out out (Refused Room)
+                    pub small-buffer : length out < 8 * nodes → Kept m s out out (Refused Room)
                     small-buffer h =
                         let p = first .rule in
                         refuses Room (outcome-of (some p) reading-is
-                        ∙ rw (below-top m p (omega arith), lt-ltb (top p) m (omega (arith, first .highest)), good-flaw p, no-flaw, le-leb (size p) 128 (omega (arith, first .count)), lt-leb (7 * size p) (length out) (omega (arith, first .count))) refl)
+                        ∙ rw (below-top m p (omega arith), lt-ltb (top p) m (omega (arith, first .highest)), good-flaw p, no-flaw, le-leb (size p) 128 (omega (arith, first .count)), lt-leb (8 * size p) (length out) (omega (arith, first .count))) refl)
 
-                    module _ (room : 7 * nodes ≤ length out) (wide : length scratch ≡ 896) where
+                    module _ (room : 8 * nodes ≤ length out) (wide : length scratch ≡ 1024) where
                       outcome-is : readOutcome m s (length out) ≡ answered (wrote (size (first .rule)) (tableBytes (nodesOf (first .rule))))
                       outcome-is =
                           let p = first .rule in
                           outcome-of (some p) reading-is
-                          ∙ rw (below-top m p (omega arith), lt-ltb (top p) m (omega (arith, first .highest)), good-flaw p, no-flaw, le-leb (size p) 128 (omega (arith, first .count)), le-leb (7 * size p) (length out) (omega (arith, first .count))) refl
+                          ∙ rw (below-top m p (omega arith), lt-ltb (top p) m (omega (arith, first .highest)), good-flaw p, no-flaw, le-leb (size p) 128 (omega (arith, first .count)), le-leb (8 * size p) (length out) (omega (arith, first .count))) refl
 
                       -- the first records of the scratch
-                      scratch-is : take (7 * nodes) scratch₁ ≡ records 0 (first .rule)
+                      scratch-is : take (8 * nodes) scratch₁ ≡ records 0 (first .rule)
                       scratch-is =
                           let g = first in
                           let l = length-records 0 (g .rule) in
-                          ap (take (7 * nodes)) (g .wrote wide ∙ sets-eq (records 0 (g .rule)) scratch 0 (omega (arith, g .count)))
-                          ∙ take-at (records 0 (g .rule)) (drop (0 + length (records 0 (g .rule))) scratch) (7 * nodes) (omega (arith, g .count))
+                          ap (take (8 * nodes)) (g .wrote wide ∙ sets-eq (records 0 (g .rule)) scratch 0 (omega (arith, g .count)))
+                          ∙ take-at (records 0 (g .rule)) (drop (0 + length (records 0 (g .rule))) scratch) (8 * nodes) (omega (arith, g .count))
 
-                      table-is : take (7 * nodes) scratch₁ ≡ tableBytes (nodesOf (first .rule))
+                      table-is : take (8 * nodes) scratch₁ ≡ tableBytes (nodesOf (first .rule))
                       table-is =
                           let p = first .rule in
-                          scratch-is ∙ records-table 0 p (top-below m p (omega arith) (omega (arith, first .highest))) (omega (arith, first .faulty)) (omega (arith, first .count))
+                          scratch-is ∙ records-table p (top-below m p (omega arith) (omega (arith, first .highest))) (omega (arith, first .faulty)) (omega (arith, first .count))
 
-                      pub part-length : 7 * nodes ≡ length (take (7 * nodes) scratch₁)
+                      pub part-length : 8 * nodes ≡ length (take (8 * nodes) scratch₁)
                       part-length = omega (arith, ap length scratch-is, length-records 0 (first .rule), first .count)
 
-                      pub part-fits : 7 * nodes ≤ length scratch₁
-                      part-fits = omega (arith, ap length (first .wrote wide), length-sets scratch (7 * 0) (records 0 (first .rule)))
+                      pub part-fits : 8 * nodes ≤ length scratch₁
+                      part-fits = omega (arith, ap length (first .wrote wide), length-sets scratch (8 * 0) (records 0 (first .rule)))
 
-                      pub all-read : (out₁ : List ℕ) → out₁ ≡ take (length (take (7 * nodes) scratch₁)) (take (7 * nodes) scratch₁) ++ drop (length (take (7 * nodes) scratch₁)) out → Kept m s out out₁ (Value nodes)
+                      pub all-read : (out₁ : List ℕ) → out₁ ≡ take (length (take (8 * nodes) scratch₁)) (take (8 * nodes) scratch₁) ++ drop (length (take (8 * nodes) scratch₁)) out → Kept m s out out₁ (Value nodes)
                       all-read out₁ e =
-                          let t = take (7 * nodes) scratch₁ in
+                          let t = take (8 * nodes) scratch₁ in
                           let c : nodes ≡ size (first .rule) = omega (arith, first .count) in (
                             ap answered c ∙ sym (ap result outcome-is),
                             e ∙ ap (λ (l : List ℕ). l ++ drop (length t) out) (take-length t) ∙ ap (λ (l : List ℕ). l ++ drop (length l) out) table-is

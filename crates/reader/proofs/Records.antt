@@ -1,20 +1,20 @@
 -- The records that the levels write are the node table where numbers fit a byte, their highest atom number tells refusal 5, and the mark of a window that is not allowed refusal 12.
 use mathlib.Core.Path.{_≡_, refl, sym, ap, _∙_}
 use mathlib.Core.Bool.{Bool, true, false, cond, _&&_, and-false}
-use mathlib.Core.List.{List, [], _∷_, _++_, append-assoc}
+use mathlib.Core.List.{List, [], _∷_}
 use Prim.Native.Nat.{ℕ, _+_, _-_, _%_, min, max, _≤_, _<_}
 use native.Mathlib.Decide.{decLe}
 use native.Mathlib.Omega.{arith}
 use lib.Dec.{leb, ltb, eqb}
 use borrow.Author.Tests.{leb-true, leb-false, le-leb, lt-leb, eqb-true, eqb-false, eq-eqb, ne-eqb, ltb-true, ltb-false, lt-ltb, le-ltb}
 use Rattle.rules.specs.RuleSize.{size-positive}
-use Rattle.rules.specs.Rule.{Rule, size, AtomsBelow}
+use Rattle.rules.specs.Rule.{Rule, size, height, AtomsBelow, WindowsAllowed}
 use Rattle.rules.specs.Rule.Rule.{atom, unary, binary, windowed}
-use Rattle.rules.specs.Table
-use Rattle.rules.specs.Table.{Node, unaryKind, binaryKind, windowKind, nodeBytes, tableBytes, nodesFrom}
+use Rattle.rules.specs.Table.{unaryKind, binaryKind, windowKind, tableBytes, nodesOf}
+use Rattle.rules.specs.RuleRecords.{recordsFrom, rule-records}
 use Rattle.rules.specs.TableTest.{windowGood}
 use Rattle.rules.specs.Outcome.{atomsBelow, windowsGood}
-use Rattle.levels.specs.Records.{top, bad, flaw, entry, records}
+use Rattle.levels.specs.Records.{top, bad, flaw, height-less, entry, records}
 
 -- ---- a window that is not allowed
 
@@ -47,45 +47,55 @@ good-cut a b = cut-cases a b (leb a b) (leb b 63) refl refl
 
 -- ---- where numbers fit a byte, the records are the table's
 
-table-append : (a b : List Node) → tableBytes (a ++ b) ≡ tableBytes a ++ tableBytes b
-table-append [] b = refl
-table-append (n ∷ a) b = ap (λ (l : List ℕ). nodeBytes n ++ l) (table-append a b) ∙ sym (append-assoc (nodeBytes n) (tableBytes a) (tableBytes b))
-
-entry-fits : (k l r a b : ℕ) → l < 256 → r < 256 → a < 256 → b < 256 → entry k l r a b ≡ 0x4E ∷ 0x44 ∷ k ∷ l ∷ r ∷ a ∷ b ∷ []
-entry-fits k l r a b h i f g =
+entry-fits : (k l r a b h : ℕ) → l < 256 → r < 256 → a < 256 → b < 256 → h < 256 → entry k l r a b h ≡ 0x4E ∷ 0x44 ∷ k ∷ l ∷ r ∷ a ∷ b ∷ h ∷ []
+entry-fits k l r a b h i j f g e =
     let u : l % 256 ≡ l = omega arith in
     let v : r % 256 ≡ r = omega arith in
     let w : a % 256 ≡ a = omega arith in
     let x : b % 256 ≡ b = omega arith in
-    rw (u, v, w, x) refl
+    let y : h % 256 ≡ h = omega arith in
+    rw (u, v, w, x, y) refl
 
-pub records-table : (n : ℕ) (p : Rule) → AtomsBelow 256 p → flaw p ≡ 0 → n + size p ≤ 256 → records n p ≡ tableBytes (nodesFrom n p)
+records-from : (n : ℕ) (p : Rule) → AtomsBelow 256 p → flaw p ≡ 0 → n + size p ≤ 256 → records n p ≡ recordsFrom n p
 unfolding records
-records-table n (atom a) low good few =
+records-from n (atom a) low good few =
     let e : min 255 a ≡ a = omega arith in
-    entry-fits 1 (min 255 a) 0 0 0 (omega arith) (omega arith) (omega arith) (omega arith) ∙ ap (λ (x : ℕ). 0x4E ∷ 0x44 ∷ 1 ∷ x ∷ 0 ∷ 0 ∷ 0 ∷ []) e
-records-table n (unary u p) low good few =
-    let h = records-table n p low good (omega arith) in
+    entry-fits 1 (min 255 a) 0 0 0 0 (omega arith) (omega arith) (omega arith) (omega arith) (omega arith) ∙ ap (λ (x : ℕ). 0x4E ∷ 0x44 ∷ 1 ∷ x ∷ 0 ∷ 0 ∷ 0 ∷ 0 ∷ []) e
+records-from n (unary u p) low good few =
+    let h = records-from n p low good (omega arith) in
     let s = size-positive p in
-    let e = entry-fits (unaryKind u) (n + size p - 1) 0 0 0 (omega arith) (omega arith) (omega arith) (omega arith) in
-    rw (h, e) (sym (table-append (nodesFrom n p) (Node.unary u (n + size p - 1) ∷ [])))
-records-table n (binary o p q) low good few =
-    let h = records-table n p (low .0) (omega arith) (omega arith) in
-    let k = records-table (n + size p) q (low .1) (omega arith) (omega arith) in
+    let t = height-less p in
+    let e = entry-fits (unaryKind u) (n + size p - 1) 0 0 0 (height p + 1) (omega arith) (omega arith) (omega arith) (omega arith) (omega arith) in
+    rw (h, e) refl
+records-from n (binary o p q) low good few =
+    let h = records-from n p (low .0) (omega arith) (omega arith) in
+    let k = records-from (n + size p) q (low .1) (omega arith) (omega arith) in
     let s = size-positive p in
     let t = size-positive q in
-    let e = entry-fits (binaryKind o) (n + size p - 1) (n + size p + size q - 1) 0 0 (omega arith) (omega arith) (omega arith) (omega arith) in
-    let last = Node.binary o (n + size p - 1) (n + size p + size q - 1) in
-    rw (h, k, e) (sym (table-append (nodesFrom n p) (nodesFrom (n + size p) q ++ (last ∷ [])) ∙ ap (λ (l : List ℕ). tableBytes (nodesFrom n p) ++ l) (table-append (nodesFrom (n + size p) q) (last ∷ []))))
-records-table n (windowed w a b p) low good few =
-    let h = records-table n p low (omega arith) (omega arith) in
+    let y = height-less p in
+    let z = height-less q in
+    let e = entry-fits (binaryKind o) (n + size p - 1) (n + size p + size q - 1) 0 0 (max (height p) (height q) + 1) (omega arith) (omega arith) (omega arith) (omega arith) (omega arith) in
+    rw (h, k, e) refl
+records-from n (windowed w a b p) low good few =
+    let h = records-from n p low (omega arith) (omega arith) in
     let s = size-positive p in
+    let t = height-less p in
     let g = bad-none (min 255 a) (min 255 b) (omega arith) in
     let i : min 255 a ≡ a = omega (arith, g) in
     let j : min 255 b ≡ b = omega (arith, g) in
-    let e = entry-fits (windowKind w) (n + size p - 1) 0 (min 255 a) (min 255 b) (omega arith) (omega arith) (omega arith) (omega arith) in
-    let last = Node.windowed w a b (n + size p - 1) in
-    rw (h, e, i, j) (sym (table-append (nodesFrom n p) (last ∷ [])))
+    let e = entry-fits (windowKind w) (n + size p - 1) 0 (min 255 a) (min 255 b) (height p + 1) (omega arith) (omega arith) (omega arith) (omega arith) (omega arith) in
+    rw (h, e, i, j) refl
+
+allowed : (p : Rule) → flaw p ≡ 0 → WindowsAllowed p
+allowed (atom a) e = tt
+allowed (unary u p) e = allowed p e
+allowed (binary o p q) e = (allowed p (omega arith), allowed q (omega arith))
+allowed (windowed w a b p) e =
+    let g = bad-none (min 255 a) (min 255 b) (omega arith) in
+    (omega (arith, g), allowed p (omega arith))
+
+pub records-table : (p : Rule) → AtomsBelow 256 p → flaw p ≡ 0 → size p ≤ 256 → records 0 p ≡ tableBytes (nodesOf p)
+records-table p low good few = records-from 0 p low good (omega arith) ∙ sym (rule-records 256 p low (allowed p good))
 
 -- ---- the highest atom number tells whether all are below M
 

@@ -19,7 +19,7 @@ pub fn read(text: &[u8], m: usize, out: &mut [u8]) -> answers::Answer
     if 1024 < text.len() {
         return answers::Answer::Refused(answers::Refusal::LongText);
     }
-    let mut scratch = [0u8; 896];
+    let mut scratch = [0u8; 1024];
     match levels::whole(text, &mut scratch) {
         Step::Fail => answers::Answer::Refused(answers::Refusal::Grammar),
         Step::Part {
@@ -27,6 +27,7 @@ pub fn read(text: &[u8], m: usize, out: &mut [u8]) -> answers::Answer
             nodes,
             top,
             bad,
+            high: _,
         } => {
             if next < text.len() {
                 return answers::Answer::Refused(answers::Refusal::Grammar);
@@ -40,7 +41,7 @@ pub fn read(text: &[u8], m: usize, out: &mut [u8]) -> answers::Answer
             if 128 < nodes {
                 return answers::Answer::Refused(answers::Refusal::Nodes);
             }
-            let k = 7 * nodes;
+            let k = 8 * nodes;
             if out.len() < k {
                 return answers::Answer::Refused(answers::Refusal::Room);
             }

@@ -9,7 +9,7 @@ use lib.IntN.{ℤ, pos}
 use lib.Signed.{_≤ℤ_}
 use Rattle.lists.specs.Every.{Every}
 use Rattle.rules.specs.Quantities.{bitAt, SlotsAllowed}
-use Rattle.rules.specs.Rule.{Rule, size}
+use Rattle.rules.specs.Rule.{Rule, size, height}
 use Rattle.rules.specs.Grammar.{Says}
 use Rattle.rules.specs.Table.{Node, Good, tableBytes, nodesOf, ruleAt, root}
 use Rattle.rules.specs.Truth.{Holds, endless, TruthByte, TruthBytes}
@@ -40,6 +40,11 @@ ReaderExact read =
 -- "It accepts exactly the grammar, by one reading."
 abbrev pub OneReading : Type 0
 OneReading = (text : List ℕ) (p q : Rule) → Says text p → Says text q → p ≡ q
+
+-- Request N6, "Callers may then rely on it": in a good table the last byte of every record, also of one that the root does not use, is the height of the
+-- rule that its node stands for.
+abbrev pub HeightsRight : Type 0
+HeightsRight = (M : ℕ) (table : List ℕ) (ns : List Node) → Good M table ns → (n : ℕ) → n < length ns → getD table (8 * n + 7) 0 ≡ height (ruleAt ns n)
 
 -- "Its result is the root's truth at slot 1."
 abbrev pub EvaluatorExact : ((T M : ℕ) (table run : List ℕ) (room : ℕ) → Answer Written) → Type 0
@@ -112,7 +117,7 @@ Demand3 read rows evaluate =
     (M : ℕ) (text : List ℕ) → None (TextRefused M text) →
     (T D : ℕ) (run : List ℕ) → SlotsAllowed T → RunGood T M run → 1 ≤ D →
     (p : Rule) × Says text p ×
-    ((room₁ room₂ room₃ : ℕ) → 7 * size p ≤ room₁ → length (rowsBytes (rowsOf T M (nodesOf p))) ≤ room₂ → size p * T ≤ room₃ →
+    ((room₁ room₂ room₃ : ℕ) → 8 * size p ≤ room₁ → length (rowsBytes (rowsOf T M (nodesOf p))) ≤ room₂ → size p * T ≤ room₃ →
     (table written truth : List ℕ) × (count answer : ℕ) ×
     (read M text room₁ ≡ answered (wrote (size p) table)) ×
     (rows T M table room₂ ≡ answered (wrote count written)) ×

@@ -58,7 +58,7 @@ abbrev pub ruleChecked : (M room : ℕ) → Option Rule → Answer Written
 ruleChecked M room none = refused 4
 ruleChecked M room (some p) =
     require (atomsBelow M p) 5
-    (require (windowsGood p) 12 (require (leb (size p) 128) 6 (require (leb (7 * size p) room) 11 (answered (wrote (size p) (tableBytes (nodesOf p)))))))
+    (require (windowsGood p) 12 (require (leb (size p) 128) 6 (require (leb (8 * size p) room) 11 (answered (wrote (size p) (tableBytes (nodesOf p)))))))
 
 unfoldable pub readOutcome : (M : ℕ) (text : List ℕ) (room : ℕ) → Answer Written
 readOutcome M text room = require (between 1 16 M) 2 (require (leb (length text) 1024) 3 (ruleChecked M room (reading text)))

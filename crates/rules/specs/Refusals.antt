@@ -49,7 +49,7 @@ pub data TextRefused (M : ℕ) (text : List ℕ) : ℕ → Type 0 where
 -- read; `room` is the length of the lent buffer
 pub data ReadRefused (M : ℕ) (text : List ℕ) (room : ℕ) : ℕ → Type 0 where
   text-refused : {k : ℕ} → TextRefused M text k → ReadRefused M text room k
-  short : {p : Rule} → Says text p → room < 7 * size p → ReadRefused M text room 11
+  short : {p : Rule} → Says text p → room < 8 * size p → ReadRefused M text room 11
 
 -- all but read, on T, M and the table
 pub data TableRefused (T M : ℕ) (table : List ℕ) : ℕ → Type 0 where

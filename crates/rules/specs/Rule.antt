@@ -1,5 +1,5 @@
 -- Rules: formulas of linear temporal logic over the atoms a0, a1, .. (document 01 says "rule" for formula), with windows of request N4.
-use Prim.Native.Nat.{ℕ, _+_, _<_}
+use Prim.Native.Nat.{ℕ, _+_, _<_, max}
 use Rattle.rules.specs.Quantities.{WindowAllowed}
 
 -- "! Single, or F Single, or G Single"
@@ -26,6 +26,13 @@ size (atom a) = 1
 size (unary u p) = size p + 1
 size (binary o p q) = size p + size q + 1
 size (windowed w a b p) = size p + 1
+
+-- Request N6: "0 for an atom, otherwise 1 more than the highest child"
+abbrev pub height : Rule → ℕ
+height (atom a) = 0
+height (unary u p) = height p + 1
+height (binary o p q) = max (height p) (height q) + 1
+height (windowed w a b p) = height p + 1
 
 -- Every atom number is below M.
 abbrev pub AtomsBelow : ℕ → Rule → Type 0

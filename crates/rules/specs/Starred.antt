@@ -30,9 +30,9 @@ abbrev pub written : Answer Written → List ℕ
 written (refused k) = []
 written (answered (wrote n bytes)) = bytes
 
--- the table that the reader writes; 896 bytes are room enough for any
+-- the table that the reader writes; 1024 bytes are room enough for any
 abbrev pub table : ℕ → List ℕ → List ℕ
-table M text = written (readOutcome M text 896)
+table M text = written (readOutcome M text 1024)
 
 -- the last k elements
 abbrev pub last : ℕ → List ℕ → List ℕ

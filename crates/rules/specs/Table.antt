@@ -1,10 +1,10 @@
--- "Node table", with the windows of request N4: the nodes of a rule, their records, and which byte strings are good tables.
+-- "Node table", with windows (request N4) and heights (request N6): the nodes of a rule, their records, and which byte strings are good tables.
 use mathlib.Core.Path.{_≡_}
 use mathlib.Core.List.{List, [], _∷_, _++_}
 use Prim.Native.Nat.{ℕ, zero, suc, _+_, _-_, _≤_, _<_}
 use lib.ListN.{length, getD}
 use Rattle.rules.specs.Quantities.{nodeLimit, WindowAllowed}
-use Rattle.rules.specs.Rule.{Unary, Binary, Window, Rule, size}
+use Rattle.rules.specs.Rule.{Unary, Binary, Window, Rule, size, height}
 use Rattle.rules.specs.Rule.Unary.{not, eventually, always}
 use Rattle.rules.specs.Rule.Binary.{and, or, implies, until}
 use Rattle.rules.specs.Rule.Window.{within, throughout}
@@ -66,14 +66,6 @@ toOf (unary u c) = 0
 toOf (binary o l r) = 0
 toOf (windowed w a b c) = b
 
--- "Each record begins with its two-byte mark, here hexadecimal 4E 44. Then kind, left, right", and a and b: 7 bytes in all.
-abbrev pub nodeBytes : Node → List ℕ
-nodeBytes n = 0x4E ∷ 0x44 ∷ kindOf n ∷ leftOf n ∷ rightOf n ∷ fromOf n ∷ toOf n ∷ []
-
-abbrev pub tableBytes : List Node → List ℕ
-tableBytes [] = []
-tableBytes (n ∷ ns) = nodeBytes n ++ tableBytes ns
-
 -- "Nodes count from 0. The reader writes the left part, the right part, then the node": the nodes of a rule whose first node has the number k
 abbrev pub nodesFrom : ℕ → Rule → List Node
 nodesFrom k (Rule.atom a) = atom a ∷ []
@@ -87,22 +79,6 @@ nodesOf p = nodesFrom 0 p
 
 abbrev pub nodeAt : List Node → ℕ → Node
 nodeAt ns n = getD ns n (atom 0)
-
--- "each child number is below its own node's number, atoms are below M"; "not good when a is above b, b is above 63"
-abbrev pub NodeGood : ℕ → ℕ → Node → Type 0
-NodeGood M n (atom a) = a < M
-NodeGood M n (unary u c) = c < n
-NodeGood M n (binary o l r) = (l < n) × (r < n)
-NodeGood M n (windowed w a b c) = (c < n) × WindowAllowed a b
-
--- "A table is good when it is 1 to 128 whole records, marks and kinds are as above, each child number is below its own node's number,
--- atoms are below M and unused rights are 0", and "not good when .. another kind has a window": the bytes are the records of the nodes ns,
--- and those are good.
-pub record Good (M : ℕ) (bytes : List ℕ) (ns : List Node) : Type 0 where
-  pub records : bytes ≡ tableBytes ns
-  pub some : 1 ≤ length ns
-  pub few : length ns ≤ nodeLimit
-  pub nodes : (n : ℕ) → n < length ns → NodeGood M n (nodeAt ns n)
 
 -- The rule that a node stands for, from those of its children.
 abbrev pub grow : (ℕ → Rule) → Node → Rule
@@ -118,6 +94,39 @@ ruleTo ns (suc k) n = grow (ruleTo ns k) (nodeAt ns n)
 
 abbrev pub ruleAt : List Node → ℕ → Rule
 ruleAt ns n = ruleTo ns (suc n) n
+
+-- Request N6: "Write the height into every node record": node n has that of its rule.
+abbrev pub heightAt : List Node → ℕ → ℕ
+heightAt ns n = height (ruleAt ns n)
+
+-- "Each record begins with its two-byte mark, here hexadecimal 4E 44. Then kind, left, right", a and b (request N4), and the height "as one last byte"
+-- (request N6): 8 bytes in all.
+abbrev pub nodeBytes : (height : ℕ) → Node → List ℕ
+nodeBytes h n = 0x4E ∷ 0x44 ∷ kindOf n ∷ leftOf n ∷ rightOf n ∷ fromOf n ∷ toOf n ∷ h ∷ []
+
+-- the records of a part of the table ns, its first node being node n
+abbrev pub tableFrom : List Node → (n : ℕ) → List Node → List ℕ
+tableFrom ns n [] = []
+tableFrom ns n (nd ∷ l) = nodeBytes (heightAt ns n) nd ++ tableFrom ns (n + 1) l
+
+abbrev pub tableBytes : List Node → List ℕ
+tableBytes ns = tableFrom ns 0 ns
+
+-- "each child number is below its own node's number, atoms are below M"; "not good when a is above b, b is above 63"
+abbrev pub NodeGood : ℕ → ℕ → Node → Type 0
+NodeGood M n (atom a) = a < M
+NodeGood M n (unary u c) = c < n
+NodeGood M n (binary o l r) = (l < n) × (r < n)
+NodeGood M n (windowed w a b c) = (c < n) × WindowAllowed a b
+
+-- "A table is good when it is 1 to 128 whole records, marks and kinds are as above, each child number is below its own node's number,
+-- atoms are below M and unused rights are 0", "not good when .. another kind has a window" (request N4), and not "when a height is wrong" (request N6):
+-- the bytes are the records of the nodes ns, and those are good.
+pub record Good (M : ℕ) (bytes : List ℕ) (ns : List Node) : Type 0 where
+  pub records : bytes ≡ tableBytes ns
+  pub some : 1 ≤ length ns
+  pub few : length ns ≤ nodeLimit
+  pub nodes : (n : ℕ) → n < length ns → NodeGood M n (nodeAt ns n)
 
 -- "the last node is the root"
 abbrev pub root : List Node → ℕ

@@ -87,13 +87,13 @@ rule-good M p h i k = record {
 -- ---- the root stands for the rule
 
 -- ns has the nodes l from node k on
-abbrev Has : List Node → ℕ → List Node → Type 0
+abbrev pub Has : List Node → ℕ → List Node → Type 0
 Has ns k l = (i : ℕ) → i < length l → nodeAt ns (k + i) ≡ nodeAt l i
 
-has-left : (ns : List Node) (k : ℕ) (a b : List Node) → Has ns k (a ++ b) → Has ns k a
+pub has-left : (ns : List Node) (k : ℕ) (a b : List Node) → Has ns k (a ++ b) → Has ns k a
 has-left ns k a b h i u = h i (omega (arith, length-append a b)) ∙ List·getD-append a b (Node.atom 0) i u
 
-has-right : (ns : List Node) (k c : ℕ) (a b : List Node) → length a ≡ c → Has ns k (a ++ b) → Has ns (k + c) b
+pub has-right : (ns : List Node) (k c : ℕ) (a b : List Node) → length a ≡ c → Has ns k (a ++ b) → Has ns (k + c) b
 has-right ns k c a b e h i u =
     ap (nodeAt ns) (omega arith) ∙ h (length a + i) (omega (arith, length-append a b)) ∙ getD-append-add a b i (Node.atom 0)
 
@@ -101,7 +101,7 @@ module _ (M : ℕ) (ns : List Node) (good : NodesGood M ns) where
   last-is : (k : ℕ) (nd : Node) → Has ns k (nd ∷ []) → k < length ns → ruleAt ns k ≡ grow (ruleAt ns) nd
   last-is k nd h u = ruleAt-is M ns good k u ∙ ap (grow (ruleAt ns)) (ap (nodeAt ns) (omega arith) ∙ h 0 (omega arith))
 
-  stands : (p : Rule) (k : ℕ) → Has ns k (nodesFrom k p) → k + size p ≤ length ns → ruleAt ns (k + size p - 1) ≡ p
+  pub stands : (p : Rule) (k : ℕ) → Has ns k (nodesFrom k p) → k + size p ≤ length ns → ruleAt ns (k + size p - 1) ≡ p
   stands (atom a) k h u = ap (ruleAt ns) (omega arith) ∙ last-is k (Node.atom a) h (omega arith)
   stands (unary v p) k h u =
       let top = Node.unary v (k + size p - 1) in

@@ -3,8 +3,9 @@ use mathlib.Core.List.{List}
 use Prim.Native.Nat.{ℕ, _≤_}
 use Rattle.rules.specs.Table.{Node, Good}
 use Rattle.rules.specs.Rows.{slackRows, goalRow}
-use Rattle.rules.specs.Demands.{ReaderExact, OneReading, EvaluatorExact, RowsExact, JudgeExact, OnlyTheTruth, Demand3}
+use Rattle.rules.specs.Demands.{ReaderExact, OneReading, HeightsRight, EvaluatorExact, RowsExact, JudgeExact, OnlyTheTruth, Demand3}
 use Rattle.rules.specs.Outcome.{readOutcome, evaluateOutcome, rowsOutcome, judgeOutcome}
+use Rattle.rules.specs.TableTest
 use Rattle.rules.specs.Reading
 use Rattle.rules.specs.Exactness.Read
 use Rattle.rules.specs.Exactness.Evaluate
@@ -19,6 +20,9 @@ reader-exact = Read.read-exact
 
 pub one-reading : OneReading
 one-reading = Reading.one-reading
+
+pub heights-right : HeightsRight
+heights-right = TableTest.height-byte
 
 pub evaluator-exact : EvaluatorExact evaluateOutcome
 evaluator-exact = Evaluate.evaluate-exact

@@ -8,9 +8,9 @@ use Rattle.rules.specs.Judge.Verdict.{outside, not-binary, broken, passed}
 use Rattle.sepia.specs.declared.SepiaAnswer.{SepiaAnswer}
 use Rattle.sepia.specs.declared.SepiaVerdict.{SepiaVerdict}
 
--- rises with each change of the boundary: 1 as first offered, 2 with request N1, 3 with N2, 4 with N4
+-- rises with each change of the boundary: 1 as first offered, 2 with request N1, 3 with N2, 4 with N4, 5 with N6
 abbrev pub version : ℕ
-version = 4
+version = 5
 
 -- refusal 0: value is the result
 abbrev pub inC : Answer ℕ → SepiaAnswer

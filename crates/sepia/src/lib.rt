@@ -15,7 +15,7 @@ use judge::Verdict;
 pub extern "C" fn sepia_version() -> u32
     ensures { λ r. ⌜ r ≡ version ⌝ }
 {
-    4
+    5
 }
 
 // A refusal's number, or 0 and the result.

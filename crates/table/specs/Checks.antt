@@ -69,7 +69,7 @@ pub record Ready (T M : ℕ) (table : List ℕ) : Type 0 where
   pub table-good : good M table ≡ true
   pub some-nodes : 1 ≤ recordCount table
   pub few-nodes : recordCount table ≤ 128
-  pub whole : length table ≡ 7 * recordCount table
+  pub whole : length table ≡ 8 * recordCount table
   pub nodes : (n : ℕ) → n < recordCount table → NodeGood M n (nodeAt (nodesIn table) n)
 
 pub unless-passed : (b : Bool) (r : Refusal) (other : Checked) → unless b (Refused r) other ≡ Passed → (b ≡ true) × (other ≡ Passed)
@@ -79,12 +79,12 @@ unless-passed false r other e = let z : _≡_ {A = ℕ} 0 1 = cc in absurd (omeg
 pub good-nodes-at : (M : ℕ) (table : List ℕ) → good M table ≡ true → (n : ℕ) → n < recordCount table → NodeGood M n (nodeAt (nodesIn table) n)
 good-nodes-at M table e n h = good-sound M table (rw e tt) .nodes n (omega (arith, length-nodesIn M table))
 
-pub good-whole : (M : ℕ) (table : List ℕ) → good M table ≡ true → length table ≡ 7 * recordCount table
+pub good-whole : (M : ℕ) (table : List ℕ) → good M table ≡ true → length table ≡ 8 * recordCount table
 unfolding good
 good-whole M table e =
     let N = recordCount table in
-    let t = and-left (eqb (7 * N) (length table) && (leb 1 N && leb N 128)) (all (recordGood M table) N) (rw e tt) in
-    sym (eqb→eq (7 * N) (length table) (and-left (eqb (7 * N) (length table)) (leb 1 N && leb N 128) t))
+    let t = and-left (eqb (8 * N) (length table) && (leb 1 N && leb N 128)) (all (recordGood M table) N) (rw e tt) in
+    sym (eqb→eq (8 * N) (length table) (and-left (eqb (8 * N) (length table)) (leb 1 N && leb N 128) t))
 
 pub ready : (T M : ℕ) (table : List ℕ) → checkOf T M table ≡ Passed → Ready T M table
 unfolding checkOf

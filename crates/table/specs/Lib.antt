@@ -1,3 +1,4 @@
 pub mod Nodes
 pub mod Checks
+pub mod Heights
 pub mod Ends

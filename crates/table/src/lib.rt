@@ -1,14 +1,15 @@
 // The node table: reading a node, the table test, and the checks that all calls but read share.
 ghost use mathlib.Core.Path.{_≡_};
 ghost use mathlib.Core.Bool.{_&&_, cond};
-ghost use Prim.Native.Nat.{_+_, _*_, _/_, _<_};
+ghost use Prim.Native.Nat.{_+_, _*_, _/_, _<_, max};
 ghost use lib.Dec.{eqb};
 ghost use lib.ListN.{length, getD};
 ghost use Rattle.rules.specs.TableTest as TableTest;
-ghost use Rattle.rules.specs.TableTest.{nodeIn, nodeGood, someGood, recordGood, recordCount};
+ghost use Rattle.rules.specs.TableTest.{nodeIn, byteAt, nodeGood, someGood, nodeTest, heightTest, recordGood, recordCount};
 ghost use Rattle.rules.specs.Outcome.{between};
 ghost use Rattle.table.specs.Nodes.{kindIn, nodeBy, NodeRead};
 ghost use Rattle.table.specs.Ends.{isAtom, isBinary, hasWindow};
+ghost use Rattle.table.specs.Heights.{FirstLow, ChildrenKnown};
 ghost use Rattle.table.specs.Checks.{checkOf};
 
 // The mark of a node record.
@@ -83,7 +84,7 @@ pub fn kind_of(byte: u8) -> KindRead
 pub fn count(table: &[u8]) -> usize
     ensures { λ r. ⌜ r ≡ recordCount (now (table .entry)) ⌝ }
 {
-    table.len() / 7
+    table.len() / 8
 }
 
 // Node n, read from its record. An unknown kind, which no good table has, is read as atom 0.
@@ -91,7 +92,7 @@ pub fn node_at(table: &[u8], n: usize) -> Node
     requires { ⌜ n < recordCount (now table) ⌝ }
     ensures { λ r. ⌜ NodeRead (now (table .entry)) n r ⌝ }
 {
-    let at = 7 * n;
+    let at = 8 * n;
     let left = wide(table[at + 3]);
     let right = wide(table[at + 4]);
     let from = wide(table[at + 5]);
@@ -223,11 +224,12 @@ fn marked(table: &[u8], at: usize) -> bool
     word(table[at], table[at + 1]) == word(MARK[0], MARK[1])
 }
 
-fn record_good(table: &[u8], m: usize, n: usize) -> bool
+// Whether node n's record has its mark, and fields as such a node may have them.
+fn node_good(table: &[u8], m: usize, n: usize) -> bool
     requires { ⌜ n < recordCount (now table) ⌝ }
-    ensures { λ r. ⌜ r ≡ recordGood m (now (table .entry)) n ⌝ }
+    ensures { λ r. ⌜ r ≡ nodeTest m (now (table .entry)) n ⌝ }
 {
-    let at = 7 * n;
+    let at = 8 * n;
     both(
         marked(table, at),
         fields_good(
@@ -242,12 +244,54 @@ fn record_good(table: &[u8], m: usize, n: usize) -> bool
     )
 }
 
+// The larger of two numbers.
+pub fn larger(a: usize, b: usize) -> usize
+    ensures { λ r. ⌜ r ≡ max a b ⌝ }
+{
+    if a < b { b } else { a }
+}
+
+// The height in node n's record.
+fn height_at(table: &[u8], n: usize) -> usize
+    requires { ⌜ n < recordCount (now table) ⌝ }
+    ensures { λ r. ⌜ (r ≡ byteAt (now (table .entry)) n 7) × (r < 256) ⌝ }
+{
+    wide(table[8 * n + 7])
+}
+
+// Whether node n's record has the height that its children's records give. There is no branch: an atom, of kind 1, has
+// itself for its left child, and who has no right child has node 0 there, an atom, of height 0.
+fn height_good(table: &[u8], n: usize) -> bool
+    requires { ⌜ n < recordCount (now table) ⌝ }
+    requires { ⌜ ChildrenKnown (now table) n ⌝ }
+    ensures { λ r. ⌜ r ≡ heightTest (now (table .entry)) n ⌝ }
+{
+    let at = 8 * n;
+    let atom = table[at + 2] == 1;
+    let left = pick(atom, n, wide(table[at + 3]));
+    let right = wide(table[at + 4]);
+    let highest = larger(height_at(table, left), height_at(table, right));
+    height_at(table, n) == pick(atom, 0, highest + 1)
+}
+
+fn record_good(table: &[u8], m: usize, n: usize) -> bool
+    requires { ⌜ n < recordCount (now table) ⌝ }
+    requires { ⌜ FirstLow (now table) n ⌝ }
+    ensures { λ r. ⌜ r ≡ recordGood m (now (table .entry)) n ⌝ }
+{
+    if node_good(table, m, n) {
+        height_good(table, n)
+    } else {
+        false
+    }
+}
+
 // Whether a table of this many bytes is 1 to 128 whole records.
 fn size_good(len: usize) -> bool
-    ensures { λ r. ⌜ r ≡ (eqb (7 * (len / 7)) len && between 1 128 (len / 7)) ⌝ }
+    ensures { λ r. ⌜ r ≡ (eqb (8 * (len / 8)) len && between 1 128 (len / 8)) ⌝ }
 {
-    let n = len / 7;
-    both(7 * n == len, both(1 <= n, n <= 128))
+    let n = len / 8;
+    both(8 * n == len, both(1 <= n, n <= 128))
 }
 
 // Whether the bytes are a good table with m atoms.

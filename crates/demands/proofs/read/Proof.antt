@@ -1,7 +1,7 @@
--- `demands::read` meets its contract: demands 1 and 2, from the contract of `reader::read`.
+-- `demands::read` meets its contract: demands 1 and 2 and the heights, from the contract of `reader::read`.
 use Rattle.answers.specs.Told.{told}
 use Rattle.demands.specs.Refusing.{reader-refuses}
-use Rattle.demands.specs.Answering.{reader-answers}
+use Rattle.demands.specs.Answering.{reader-answers, reader-heights}
 use borrow.Author.Needs.{needs}
 use Rattle.demands.proofs.read.Statement.{statement}
 use Rattle.demands.proofs.read.Tie as tie
@@ -17,7 +17,10 @@ returns c =
     let a = c .before .before .before .before .before .before .args in
     let k = c .before .before .read in (
       reader-refuses (a .m) (a .text .now) (told (k .result)) (a .out .now) (k .last .1 .1 .0) (k .ensures .0) (k .ensures .1),
-      reader-answers (a .m) (a .text .now) (told (k .result)) (a .out .now) (k .last .1 .1 .0) (k .ensures .0) (k .ensures .1),
+      (
+        reader-answers (a .m) (a .text .now) (told (k .result)) (a .out .now) (k .last .1 .1 .0) (k .ensures .0) (k .ensures .1),
+        reader-heights (a .m) (a .text .now) (told (k .result)) (a .out .now) (k .last .1 .1 .0) (k .ensures .0) (k .ensures .1),
+      ),
     )
 
 pub read-spec : {M : Type 1} → statement M

@@ -106,19 +106,19 @@ and-sign-at-requires t c κs = search needs
 and-returns : (t : ℕ) → and-lts.Need-returns (and-env t) (and-at t) and′.Post
 and-returns t c =
     let k = c .before .before .before .before in
-    level-alone conjunction _ _ _ _ _ _ _ _ _ _ _ (k .before .before .before .until .ensures) (sym (k .before .before .unpack .ensures) ∙ k .next .given .1) (c .before .sign-at .ensures .0) (c .if1 .taken)
+    level-alone conjunction _ _ _ _ _ _ _ _ _ _ _ _ (k .before .before .before .until .ensures) (sym (k .before .before .unpack .ensures) ∙ k .next .given .1) (c .before .sign-at .ensures .0) (c .if1 .taken)
 
 and-and-requires : (t : ℕ) → and-lts.Need-and-requires (and-env t) (and-at t) and′.Post
 and-and-requires t c κs =
     let k = c .before .before .before .before .before in
     let pre = k .before .before .before .before .before .pre in
-    let h = level-next conjunction _ _ _ _ _ _ _ _ _ _ _ (k .before .before .before .until .ensures) (sym (k .before .before .unpack .ensures) ∙ k .next .given .1) (c .before .before .sign-at .ensures .0) (pre .1) (c .before .if1 .left) in
+    let h = level-next conjunction _ _ _ _ _ _ _ _ _ _ _ _ (k .before .before .before .until .ensures) (sym (k .before .before .unpack .ensures) ∙ k .next .given .1) (c .before .before .sign-at .ensures .0) (pre .1) (c .before .if1 .left) in
     (omega (arith, h .0, pre .0), h .1)
 
 and-join-requires : (t : ℕ) → and-lts.Need-join-requires (and-env t) (and-at t) and′.Post
 and-join-requires t c κs =
     let k = c .before .before .before .before .before .before .before in
-    level-room conjunction _ _ _ _ _ _ _ _ _ _ _ (k .before .before .before .until .ensures) (sym (k .before .before .unpack .ensures) ∙ k .next .given .1) (c .before .before .before .before .sign-at .ensures .0) (k .before .before .before .before .before .pre .1) (c .before .before .before .if1 .left) _ _ (c .before .and .ensures)
+    level-room conjunction _ _ _ _ _ _ _ _ _ _ _ _ (k .before .before .before .until .ensures) (sym (k .before .before .unpack .ensures) ∙ k .next .given .1) (c .before .before .before .before .sign-at .ensures .0) (k .before .before .before .before .before .pre .1) (c .before .before .before .if1 .left) _ _ (c .before .and .ensures)
 
 and-returns-2 : (t : ℕ) → and-lts.Need-returns-2 (and-env t) (and-at t) and′.Post
 and-returns-2 t c = level-fail conjunction _ _ _ _ _ _ (c .before .before .before .until .ensures) (sym (c .before .before .unpack .ensures) ∙ c .enum-told .given .1)
@@ -126,7 +126,7 @@ and-returns-2 t c = level-fail conjunction _ _ _ _ _ _ (c .before .before .befor
 and-returns-3 : (t : ℕ) → and-lts.Need-returns-3 (and-env t) (and-at t) and′.Post
 and-returns-3 t c =
     let k = c .before .before .before .before .before .before .before .before in
-    level-joined conjunction _ _ _ _ _ _ _ _ _ _ _ (k .before .before .before .until .ensures) (sym (k .before .before .unpack .ensures) ∙ k .next .given .1) (c .before .before .before .before .before .sign-at .ensures .0) (k .before .before .before .before .before .pre .1) (c .before .before .before .before .if1 .left) _ _ (c .before .before .and .ensures) _ _ (c .join .ensures .0) (c .join .ensures .1)
+    level-joined conjunction _ _ _ _ _ _ _ _ _ _ _ _ (k .before .before .before .until .ensures) (sym (k .before .before .unpack .ensures) ∙ k .next .given .1) (c .before .before .before .before .before .sign-at .ensures .0) (k .before .before .before .before .before .pre .1) (c .before .before .before .before .if1 .left) _ _ (c .before .before .and .ensures) _ _ (c .join .ensures .0) (c .join .ensures .1)
 
 -- what `or` has of those that it calls
 abbrev or-env : ℕ → or-lts.Claims
@@ -150,19 +150,19 @@ or-sign-at-requires t c κs = search needs
 or-returns : (t : ℕ) → or-lts.Need-returns (or-env t) (or-at t) or.Post
 or-returns t c =
     let k = c .before .before .before .before in
-    level-alone disjunction _ _ _ _ _ _ _ _ _ _ _ (k .before .before .before .and .ensures) (sym (k .before .before .unpack .ensures) ∙ k .next .given .1) (c .before .sign-at .ensures .0) (c .if1 .taken)
+    level-alone disjunction _ _ _ _ _ _ _ _ _ _ _ _ (k .before .before .before .and .ensures) (sym (k .before .before .unpack .ensures) ∙ k .next .given .1) (c .before .sign-at .ensures .0) (c .if1 .taken)
 
 or-or-requires : (t : ℕ) → or-lts.Need-or-requires (or-env t) (or-at t) or.Post
 or-or-requires t c κs =
     let k = c .before .before .before .before .before in
     let pre = k .before .before .before .before .before .pre in
-    let h = level-next disjunction _ _ _ _ _ _ _ _ _ _ _ (k .before .before .before .and .ensures) (sym (k .before .before .unpack .ensures) ∙ k .next .given .1) (c .before .before .sign-at .ensures .0) (pre .1) (c .before .if1 .left) in
+    let h = level-next disjunction _ _ _ _ _ _ _ _ _ _ _ _ (k .before .before .before .and .ensures) (sym (k .before .before .unpack .ensures) ∙ k .next .given .1) (c .before .before .sign-at .ensures .0) (pre .1) (c .before .if1 .left) in
     (omega (arith, h .0, pre .0), h .1)
 
 or-join-requires : (t : ℕ) → or-lts.Need-join-requires (or-env t) (or-at t) or.Post
 or-join-requires t c κs =
     let k = c .before .before .before .before .before .before .before in
-    level-room disjunction _ _ _ _ _ _ _ _ _ _ _ (k .before .before .before .and .ensures) (sym (k .before .before .unpack .ensures) ∙ k .next .given .1) (c .before .before .before .before .sign-at .ensures .0) (k .before .before .before .before .before .pre .1) (c .before .before .before .if1 .left) _ _ (c .before .or .ensures)
+    level-room disjunction _ _ _ _ _ _ _ _ _ _ _ _ (k .before .before .before .and .ensures) (sym (k .before .before .unpack .ensures) ∙ k .next .given .1) (c .before .before .before .before .sign-at .ensures .0) (k .before .before .before .before .before .pre .1) (c .before .before .before .if1 .left) _ _ (c .before .or .ensures)
 
 or-returns-2 : (t : ℕ) → or-lts.Need-returns-2 (or-env t) (or-at t) or.Post
 or-returns-2 t c = level-fail disjunction _ _ _ _ _ _ (c .before .before .before .and .ensures) (sym (c .before .before .unpack .ensures) ∙ c .enum-told .given .1)
@@ -170,7 +170,7 @@ or-returns-2 t c = level-fail disjunction _ _ _ _ _ _ (c .before .before .before
 or-returns-3 : (t : ℕ) → or-lts.Need-returns-3 (or-env t) (or-at t) or.Post
 or-returns-3 t c =
     let k = c .before .before .before .before .before .before .before .before in
-    level-joined disjunction _ _ _ _ _ _ _ _ _ _ _ (k .before .before .before .and .ensures) (sym (k .before .before .unpack .ensures) ∙ k .next .given .1) (c .before .before .before .before .before .sign-at .ensures .0) (k .before .before .before .before .before .pre .1) (c .before .before .before .before .if1 .left) _ _ (c .before .before .or .ensures) _ _ (c .join .ensures .0) (c .join .ensures .1)
+    level-joined disjunction _ _ _ _ _ _ _ _ _ _ _ _ (k .before .before .before .and .ensures) (sym (k .before .before .unpack .ensures) ∙ k .next .given .1) (c .before .before .before .before .before .sign-at .ensures .0) (k .before .before .before .before .before .pre .1) (c .before .before .before .before .if1 .left) _ _ (c .before .before .or .ensures) _ _ (c .join .ensures .0) (c .join .ensures .1)
 
 -- what `rule` has of those that it calls
 abbrev rule-env : ℕ → rule-lts.Claims
@@ -194,19 +194,19 @@ rule-sign-at-requires t c κs = search needs
 rule-returns : (t : ℕ) → rule-lts.Need-returns (rule-env t) (rule-at t) rule.Post
 rule-returns t c =
     let k = c .before .before .before .before in
-    level-alone implication _ _ _ _ _ _ _ _ _ _ _ (k .before .before .before .or .ensures) (sym (k .before .before .unpack .ensures) ∙ k .next .given .1) (c .before .sign-at .ensures .0) (c .if1 .taken)
+    level-alone implication _ _ _ _ _ _ _ _ _ _ _ _ (k .before .before .before .or .ensures) (sym (k .before .before .unpack .ensures) ∙ k .next .given .1) (c .before .sign-at .ensures .0) (c .if1 .taken)
 
 rule-rule-requires : (t : ℕ) → rule-lts.Need-rule-requires (rule-env t) (rule-at t) rule.Post
 rule-rule-requires t c κs =
     let k = c .before .before .before .before .before in
     let pre = k .before .before .before .before .before .pre in
-    let h = level-next implication _ _ _ _ _ _ _ _ _ _ _ (k .before .before .before .or .ensures) (sym (k .before .before .unpack .ensures) ∙ k .next .given .1) (c .before .before .sign-at .ensures .0) (pre .1) (c .before .if1 .left) in
+    let h = level-next implication _ _ _ _ _ _ _ _ _ _ _ _ (k .before .before .before .or .ensures) (sym (k .before .before .unpack .ensures) ∙ k .next .given .1) (c .before .before .sign-at .ensures .0) (pre .1) (c .before .if1 .left) in
     (omega (arith, h .0, pre .0), h .1)
 
 rule-join-requires : (t : ℕ) → rule-lts.Need-join-requires (rule-env t) (rule-at t) rule.Post
 rule-join-requires t c κs =
     let k = c .before .before .before .before .before .before .before in
-    level-room implication _ _ _ _ _ _ _ _ _ _ _ (k .before .before .before .or .ensures) (sym (k .before .before .unpack .ensures) ∙ k .next .given .1) (c .before .before .before .before .sign-at .ensures .0) (k .before .before .before .before .before .pre .1) (c .before .before .before .if1 .left) _ _ (c .before .rule .ensures)
+    level-room implication _ _ _ _ _ _ _ _ _ _ _ _ (k .before .before .before .or .ensures) (sym (k .before .before .unpack .ensures) ∙ k .next .given .1) (c .before .before .before .before .sign-at .ensures .0) (k .before .before .before .before .before .pre .1) (c .before .before .before .if1 .left) _ _ (c .before .rule .ensures)
 
 rule-returns-2 : (t : ℕ) → rule-lts.Need-returns-2 (rule-env t) (rule-at t) rule.Post
 rule-returns-2 t c = level-fail implication _ _ _ _ _ _ (c .before .before .before .or .ensures) (sym (c .before .before .unpack .ensures) ∙ c .enum-told .given .1)
@@ -214,7 +214,7 @@ rule-returns-2 t c = level-fail implication _ _ _ _ _ _ (c .before .before .befo
 rule-returns-3 : (t : ℕ) → rule-lts.Need-returns-3 (rule-env t) (rule-at t) rule.Post
 rule-returns-3 t c =
     let k = c .before .before .before .before .before .before .before .before in
-    level-joined implication _ _ _ _ _ _ _ _ _ _ _ (k .before .before .before .or .ensures) (sym (k .before .before .unpack .ensures) ∙ k .next .given .1) (c .before .before .before .before .before .sign-at .ensures .0) (k .before .before .before .before .before .pre .1) (c .before .before .before .before .if1 .left) _ _ (c .before .before .rule .ensures) _ _ (c .join .ensures .0) (c .join .ensures .1)
+    level-joined implication _ _ _ _ _ _ _ _ _ _ _ _ (k .before .before .before .or .ensures) (sym (k .before .before .unpack .ensures) ∙ k .next .given .1) (c .before .before .before .before .before .sign-at .ensures .0) (k .before .before .before .before .before .pre .1) (c .before .before .before .before .if1 .left) _ _ (c .before .before .rule .ensures) _ _ (c .join .ensures .0) (c .join .ensures .1)
 
 -- what `single` has of those that it calls
 abbrev single-env : ℕ → single-lts.Claims
@@ -358,19 +358,19 @@ until-sign-at-requires t c κs = search needs
 until-returns : (t : ℕ) → until-lts.Need-returns (until-env t) (until-at t) until.Post
 until-returns t c =
     let k = c .before .before .before .before in
-    level-alone untils _ _ _ _ _ _ _ _ _ _ _ (k .before .before .before .single .ensures) (sym (k .before .before .unpack .ensures) ∙ k .next .given .1) (c .before .sign-at .ensures .0) (c .if1 .taken)
+    level-alone untils _ _ _ _ _ _ _ _ _ _ _ _ (k .before .before .before .single .ensures) (sym (k .before .before .unpack .ensures) ∙ k .next .given .1) (c .before .sign-at .ensures .0) (c .if1 .taken)
 
 until-until-requires : (t : ℕ) → until-lts.Need-until-requires (until-env t) (until-at t) until.Post
 until-until-requires t c κs =
     let k = c .before .before .before .before .before in
     let pre = k .before .before .before .before .before .pre in
-    let h = level-next untils _ _ _ _ _ _ _ _ _ _ _ (k .before .before .before .single .ensures) (sym (k .before .before .unpack .ensures) ∙ k .next .given .1) (c .before .before .sign-at .ensures .0) (pre .1) (c .before .if1 .left) in
+    let h = level-next untils _ _ _ _ _ _ _ _ _ _ _ _ (k .before .before .before .single .ensures) (sym (k .before .before .unpack .ensures) ∙ k .next .given .1) (c .before .before .sign-at .ensures .0) (pre .1) (c .before .if1 .left) in
     (omega (arith, h .0, pre .0), h .1)
 
 until-join-requires : (t : ℕ) → until-lts.Need-join-requires (until-env t) (until-at t) until.Post
 until-join-requires t c κs =
     let k = c .before .before .before .before .before .before .before in
-    level-room untils _ _ _ _ _ _ _ _ _ _ _ (k .before .before .before .single .ensures) (sym (k .before .before .unpack .ensures) ∙ k .next .given .1) (c .before .before .before .before .sign-at .ensures .0) (k .before .before .before .before .before .pre .1) (c .before .before .before .if1 .left) _ _ (c .before .until .ensures)
+    level-room untils _ _ _ _ _ _ _ _ _ _ _ _ (k .before .before .before .single .ensures) (sym (k .before .before .unpack .ensures) ∙ k .next .given .1) (c .before .before .before .before .sign-at .ensures .0) (k .before .before .before .before .before .pre .1) (c .before .before .before .if1 .left) _ _ (c .before .until .ensures)
 
 until-returns-2 : (t : ℕ) → until-lts.Need-returns-2 (until-env t) (until-at t) until.Post
 until-returns-2 t c = level-fail untils _ _ _ _ _ _ (c .before .before .before .single .ensures) (sym (c .before .before .unpack .ensures) ∙ c .enum-told .given .1)
@@ -378,7 +378,7 @@ until-returns-2 t c = level-fail untils _ _ _ _ _ _ (c .before .before .before .
 until-returns-3 : (t : ℕ) → until-lts.Need-returns-3 (until-env t) (until-at t) until.Post
 until-returns-3 t c =
     let k = c .before .before .before .before .before .before .before .before in
-    level-joined untils _ _ _ _ _ _ _ _ _ _ _ (k .before .before .before .single .ensures) (sym (k .before .before .unpack .ensures) ∙ k .next .given .1) (c .before .before .before .before .before .sign-at .ensures .0) (k .before .before .before .before .before .pre .1) (c .before .before .before .before .if1 .left) _ _ (c .before .before .until .ensures) _ _ (c .join .ensures .0) (c .join .ensures .1)
+    level-joined untils _ _ _ _ _ _ _ _ _ _ _ _ (k .before .before .before .single .ensures) (sym (k .before .before .unpack .ensures) ∙ k .next .given .1) (c .before .before .before .before .before .sign-at .ensures .0) (k .before .before .before .before .before .pre .1) (c .before .before .before .before .if1 .left) _ _ (c .before .before .until .ensures) _ _ (c .join .ensures .0) (c .join .ensures .1)
 
 pub +and+or+rule+single+until-spec : {M : Type 1} → statement M
 +and+or+rule+single+until-spec = close μ-and μ-or μ-rule μ-single μ-until (λ t. and-lts.spec (and-env t)

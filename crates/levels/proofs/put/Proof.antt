@@ -18,8 +18,8 @@ sets-out l i (v ∷ vs) h = ap (λ (x : List ℕ). sets x (suc i) vs) (set-out l
 returns : tie.Need-returns
 returns c h =
     let a = c .before .args in
-    let past : length (a .out .now) ≤ 7 * a .n = omega (arith, c .if1 .taken, h) in
-    sym (sets-out (a .out .now) (7 * a .n) (entry (a .kind) (a .left) (a .right) (a .from) (a .to)) past)
+    let past : length (a .out .now) ≤ 8 * a .n = omega (arith, c .if1 .taken, h) in
+    sym (sets-out (a .out .now) (8 * a .n) (entry (a .kind) (a .left) (a .right) (a .from) (a .to) (a .high)) past)
 
 mul-i : tie.Need-mul-i
 mul-i c = search needs
@@ -81,6 +81,15 @@ add-out-6 c = search needs
 element-write-out-7 : tie.Need-element-write-out-7
 element-write-out-7 c = search needs
 
+cast-out-5 : tie.Need-cast-out-5
+cast-out-5 c = search needs
+
+add-out-7 : tie.Need-add-out-7
+add-out-7 c = search needs
+
+element-write-out-8 : tie.Need-element-write-out-8
+element-write-out-8 c = search needs
+
 returns-2 : tie.Need-returns-2
 returns-2 c h = simp towards-suc
 
@@ -109,4 +118,7 @@ put-spec =
     cast-out-4
     add-out-6
     element-write-out-7
+    cast-out-5
+    add-out-7
+    element-write-out-8
     returns-2)

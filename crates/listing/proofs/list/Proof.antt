@@ -31,7 +31,7 @@ mul-end c =
     let a = w .before .before .before .args in
     let v = n .n .given in
     let l = w .read-rule .last .1 .1 .1 .0 in
-    let k = table-ready (a .t) (a .m) (a .text .now) (replicate 896 0) l (w .read-rule .result) (v .0 .0) (w .read-rule .ensures .0) (w .read-rule .ensures .1) (v .1) in
+    let k = table-ready (a .t) (a .m) (a .text .now) (replicate 1024 0) l (w .read-rule .result) (v .0 .0) (w .read-rule .ensures .0) (w .read-rule .ensures .1) (v .1) in
     omega (arith, k .read .few)
 
 array-share-prefix-table : tie.Need-array-share-prefix-table
@@ -41,7 +41,7 @@ array-share-prefix-table c =
     let a = w .before .before .before .args in
     let v = n .n .given in
     let l = w .read-rule .last .1 .1 .1 .0 in
-    let k = table-ready (a .t) (a .m) (a .text .now) (replicate 896 0) l (w .read-rule .result) (v .0 .0) (w .read-rule .ensures .0) (w .read-rule .ensures .1) (v .1) in
+    let k = table-ready (a .t) (a .m) (a .text .now) (replicate 1024 0) l (w .read-rule .result) (v .0 .0) (w .read-rule .ensures .0) (w .read-rule .ensures .1) (v .1) in
     k .table .holds
 
 slice-aggregate-list-table : tie.Need-slice-aggregate-list-table
@@ -51,8 +51,8 @@ slice-aggregate-list-table c =
     let a = w .before .before .before .args in
     let v = n .n .given in
     let l = w .read-rule .last .1 .1 .1 .0 in
-    let k = table-ready (a .t) (a .m) (a .text .now) (replicate 896 0) l (w .read-rule .result) (v .0 .0) (w .read-rule .ensures .0) (w .read-rule .ensures .1) (v .1) in
-    sym (length-take-le (7 * v .0 .0) l (k .table .holds))
+    let k = table-ready (a .t) (a .m) (a .text .now) (replicate 1024 0) l (w .read-rule .result) (v .0 .0) (w .read-rule .ensures .0) (w .read-rule .ensures .1) (v .1) in
+    sym (length-take-le (8 * v .0 .0) l (k .table .holds))
 
 list-table-requires : tie.Need-list-table-requires
 list-table-requires c κs =
@@ -61,7 +61,7 @@ list-table-requires c κs =
     let a = w .before .before .before .args in
     let v = n .n .given in
     let l = w .read-rule .last .1 .1 .1 .0 in
-    let k = table-ready (a .t) (a .m) (a .text .now) (replicate 896 0) l (w .read-rule .result) (v .0 .0) (w .read-rule .ensures .0) (w .read-rule .ensures .1) (v .1) in
+    let k = table-ready (a .t) (a .m) (a .text .now) (replicate 1024 0) l (w .read-rule .result) (v .0 .0) (w .read-rule .ensures .0) (w .read-rule .ensures .1) (v .1) in
     k .read .few
 
 returns : tie.Need-returns
@@ -80,7 +80,7 @@ returns-2 c =
     let a = w .before .before .before .args in
     let v = n .n .given in
     let l = w .read-rule .last .1 .1 .1 .0 in
-    let k = table-ready (a .t) (a .m) (a .text .now) (replicate 896 0) l (w .read-rule .result) (v .0 .0) (w .read-rule .ensures .0) (w .read-rule .ensures .1) (v .1) in
+    let k = table-ready (a .t) (a .m) (a .text .now) (replicate 1024 0) l (w .read-rule .result) (v .0 .0) (w .read-rule .ensures .0) (w .read-rule .ensures .1) (v .1) in
     let p = c .list-table .ensures in
     (rw (listing-rows (a .t) (a .m) (v .0 .0) (a .text .now) l k) (p .0), p .1)
 

@@ -32,7 +32,7 @@ mul-end c =
     let a = w .before .before .before .before .args in
     let v = n .n .given in
     let l = w .read-rule .last .1 .1 .1 .0 in
-    let k = table-ready (a .t) (a .m) (a .text .now) (replicate 896 0) l (w .read-rule .result) (v .0 .0) (w .read-rule .ensures .0) (w .read-rule .ensures .1) (v .1) in
+    let k = table-ready (a .t) (a .m) (a .text .now) (replicate 1024 0) l (w .read-rule .result) (v .0 .0) (w .read-rule .ensures .0) (w .read-rule .ensures .1) (v .1) in
     omega (arith, k .read .few)
 
 array-share-prefix-table : tie.Need-array-share-prefix-table
@@ -42,7 +42,7 @@ array-share-prefix-table c =
     let a = w .before .before .before .before .args in
     let v = n .n .given in
     let l = w .read-rule .last .1 .1 .1 .0 in
-    let k = table-ready (a .t) (a .m) (a .text .now) (replicate 896 0) l (w .read-rule .result) (v .0 .0) (w .read-rule .ensures .0) (w .read-rule .ensures .1) (v .1) in
+    let k = table-ready (a .t) (a .m) (a .text .now) (replicate 1024 0) l (w .read-rule .result) (v .0 .0) (w .read-rule .ensures .0) (w .read-rule .ensures .1) (v .1) in
     k .table .holds
 
 slice-aggregate-page-table : tie.Need-slice-aggregate-page-table
@@ -52,8 +52,8 @@ slice-aggregate-page-table c =
     let a = w .before .before .before .before .args in
     let v = n .n .given in
     let l = w .read-rule .last .1 .1 .1 .0 in
-    let k = table-ready (a .t) (a .m) (a .text .now) (replicate 896 0) l (w .read-rule .result) (v .0 .0) (w .read-rule .ensures .0) (w .read-rule .ensures .1) (v .1) in
-    sym (length-take-le (7 * v .0 .0) l (k .table .holds))
+    let k = table-ready (a .t) (a .m) (a .text .now) (replicate 1024 0) l (w .read-rule .result) (v .0 .0) (w .read-rule .ensures .0) (w .read-rule .ensures .1) (v .1) in
+    sym (length-take-le (8 * v .0 .0) l (k .table .holds))
 
 page-table-requires : tie.Need-page-table-requires
 page-table-requires c κs = search needs
@@ -82,7 +82,7 @@ returns-2 c =
     let a = w .before .before .before .before .args in
     let v = n .n .given in
     let l = w .read-rule .last .1 .1 .1 .0 in
-    let k = table-ready (a .t) (a .m) (a .text .now) (replicate 896 0) l (w .read-rule .result) (v .0 .0) (w .read-rule .ensures .0) (w .read-rule .ensures .1) (v .1) in
+    let k = table-ready (a .t) (a .m) (a .text .now) (replicate 1024 0) l (w .read-rule .result) (v .0 .0) (w .read-rule .ensures .0) (w .read-rule .ensures .1) (v .1) in
     let p = c .before .before .page-table .ensures in
     (rw (rule-paged (a .t) (a .m) (v .0 .0) (a .text .now) l (length (a .out .now)) k) (p .0), p .1)
 

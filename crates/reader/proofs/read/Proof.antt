@@ -35,28 +35,28 @@ returns-4 c =
     let a = c .before .before .before .before .before .before .before .before .before .before .before .args in
     let x = c .before .before .before .before .whole in
     let y = c .before .before .next .given in
-    more-text (a .m) (a .text .now) (a .out .now) (c .before .before .before .before .before .before .before .before .if1 .left) (c .before .before .before .before .before .before .before .if2 .left) (c .before .before .before .before .before .before .if3 .left) _ (x .last .1 .0) (x .result) (x .ensures) (y .0 .0) (y .0 .1 .0) (y .0 .1 .1 .0) (y .0 .1 .1 .1 .0) (y .1) (c .if4 .taken)
+    more-text (a .m) (a .text .now) (a .out .now) (c .before .before .before .before .before .before .before .before .if1 .left) (c .before .before .before .before .before .before .before .if2 .left) (c .before .before .before .before .before .before .if3 .left) _ (x .last .1 .0) (x .result) (x .ensures) (y .0 .0) (y .0 .1 .0) (y .0 .1 .1 .0) (y .0 .1 .1 .1 .0) (y .0 .1 .1 .1 .1 .0) (y .1) (c .if4 .taken)
 
 returns-5 : tie.Need-returns-5
 returns-5 c =
     let a = c .before .before .before .before .before .before .before .before .before .before .before .before .args in
     let x = c .before .before .before .before .before .whole in
     let y = c .before .before .before .next .given in
-    atom-too-high (a .m) (a .text .now) (a .out .now) (c .before .before .before .before .before .before .before .before .before .if1 .left) (c .before .before .before .before .before .before .before .before .if2 .left) (c .before .before .before .before .before .before .before .if3 .left) _ (x .last .1 .0) (x .result) (x .ensures) (y .0 .0) (y .0 .1 .0) (y .0 .1 .1 .0) (y .0 .1 .1 .1 .0) (y .1) (c .before .if4 .left) (c .if5 .taken)
+    atom-too-high (a .m) (a .text .now) (a .out .now) (c .before .before .before .before .before .before .before .before .before .if1 .left) (c .before .before .before .before .before .before .before .before .if2 .left) (c .before .before .before .before .before .before .before .if3 .left) _ (x .last .1 .0) (x .result) (x .ensures) (y .0 .0) (y .0 .1 .0) (y .0 .1 .1 .0) (y .0 .1 .1 .1 .0) (y .0 .1 .1 .1 .1 .0) (y .1) (c .before .if4 .left) (c .if5 .taken)
 
 returns-6 : tie.Need-returns-6
 returns-6 c =
     let a = c .before .before .before .before .before .before .before .before .before .before .before .before .before .args in
     let x = c .before .before .before .before .before .before .whole in
     let y = c .before .before .before .before .next .given in
-    window-refused (a .m) (a .text .now) (a .out .now) (c .before .before .before .before .before .before .before .before .before .before .if1 .left) (c .before .before .before .before .before .before .before .before .before .if2 .left) (c .before .before .before .before .before .before .before .before .if3 .left) _ (x .last .1 .0) (x .result) (x .ensures) (y .0 .0) (y .0 .1 .0) (y .0 .1 .1 .0) (y .0 .1 .1 .1 .0) (y .1) (c .before .before .if4 .left) (c .before .if5 .left) (c .if6 .taken)
+    window-refused (a .m) (a .text .now) (a .out .now) (c .before .before .before .before .before .before .before .before .before .before .if1 .left) (c .before .before .before .before .before .before .before .before .before .if2 .left) (c .before .before .before .before .before .before .before .before .if3 .left) _ (x .last .1 .0) (x .result) (x .ensures) (y .0 .0) (y .0 .1 .0) (y .0 .1 .1 .0) (y .0 .1 .1 .1 .0) (y .0 .1 .1 .1 .1 .0) (y .1) (c .before .before .if4 .left) (c .before .if5 .left) (c .if6 .taken)
 
 returns-7 : tie.Need-returns-7
 returns-7 c =
     let a = c .before .before .before .before .before .before .before .before .before .before .before .before .before .before .args in
     let x = c .before .before .before .before .before .before .before .whole in
     let y = c .before .before .before .before .before .next .given in
-    many-nodes (a .m) (a .text .now) (a .out .now) (c .before .before .before .before .before .before .before .before .before .before .before .if1 .left) (c .before .before .before .before .before .before .before .before .before .before .if2 .left) (c .before .before .before .before .before .before .before .before .before .if3 .left) _ (x .last .1 .0) (x .result) (x .ensures) (y .0 .0) (y .0 .1 .0) (y .0 .1 .1 .0) (y .0 .1 .1 .1 .0) (y .1) (c .before .before .before .if4 .left) (c .before .before .if5 .left) (c .before .if6 .left) (c .if7 .taken)
+    many-nodes (a .m) (a .text .now) (a .out .now) (c .before .before .before .before .before .before .before .before .before .before .before .if1 .left) (c .before .before .before .before .before .before .before .before .before .before .if2 .left) (c .before .before .before .before .before .before .before .before .before .if3 .left) _ (x .last .1 .0) (x .result) (x .ensures) (y .0 .0) (y .0 .1 .0) (y .0 .1 .1 .0) (y .0 .1 .1 .1 .0) (y .0 .1 .1 .1 .1 .0) (y .1) (c .before .before .before .if4 .left) (c .before .before .if5 .left) (c .before .if6 .left) (c .if7 .taken)
 
 mul-k : tie.Need-mul-k
 mul-k c = search needs
@@ -66,28 +66,28 @@ returns-8 c =
     let a = c .before .before .before .before .before .before .before .before .before .before .before .before .before .before .before .args in
     let x = c .before .before .before .before .before .before .before .before .whole in
     let y = c .before .before .before .before .before .before .next .given in
-    small-buffer (a .m) (a .text .now) (a .out .now) (c .before .before .before .before .before .before .before .before .before .before .before .before .if1 .left) (c .before .before .before .before .before .before .before .before .before .before .before .if2 .left) (c .before .before .before .before .before .before .before .before .before .before .if3 .left) _ (x .last .1 .0) (x .result) (x .ensures) (y .0 .0) (y .0 .1 .0) (y .0 .1 .1 .0) (y .0 .1 .1 .1 .0) (y .1) (c .before .before .before .before .if4 .left) (c .before .before .before .if5 .left) (c .before .before .if6 .left) (c .before .if7 .left) (c .if8 .taken)
+    small-buffer (a .m) (a .text .now) (a .out .now) (c .before .before .before .before .before .before .before .before .before .before .before .before .if1 .left) (c .before .before .before .before .before .before .before .before .before .before .before .if2 .left) (c .before .before .before .before .before .before .before .before .before .before .if3 .left) _ (x .last .1 .0) (x .result) (x .ensures) (y .0 .0) (y .0 .1 .0) (y .0 .1 .1 .0) (y .0 .1 .1 .1 .0) (y .0 .1 .1 .1 .1 .0) (y .1) (c .before .before .before .before .if4 .left) (c .before .before .before .if5 .left) (c .before .before .if6 .left) (c .before .if7 .left) (c .if8 .taken)
 
 array-share-prefix-scratch : tie.Need-array-share-prefix-scratch
 array-share-prefix-scratch c =
     let a = c .before .before .before .before .before .before .before .before .before .before .before .before .before .before .before .args in
     let x = c .before .before .before .before .before .before .before .before .whole in
     let y = c .before .before .before .before .before .before .next .given in
-    part-fits (a .m) (a .text .now) (a .out .now) (c .before .before .before .before .before .before .before .before .before .before .before .before .if1 .left) (c .before .before .before .before .before .before .before .before .before .before .before .if2 .left) (c .before .before .before .before .before .before .before .before .before .before .if3 .left) _ (x .last .1 .0) (x .result) (x .ensures) (y .0 .0) (y .0 .1 .0) (y .0 .1 .1 .0) (y .0 .1 .1 .1 .0) (y .1) (c .before .before .before .before .if4 .left) (c .before .before .before .if5 .left) (c .before .before .if6 .left) (c .before .if7 .left) (c .if8 .left) refl
+    part-fits (a .m) (a .text .now) (a .out .now) (c .before .before .before .before .before .before .before .before .before .before .before .before .if1 .left) (c .before .before .before .before .before .before .before .before .before .before .before .if2 .left) (c .before .before .before .before .before .before .before .before .before .before .if3 .left) _ (x .last .1 .0) (x .result) (x .ensures) (y .0 .0) (y .0 .1 .0) (y .0 .1 .1 .0) (y .0 .1 .1 .1 .0) (y .0 .1 .1 .1 .1 .0) (y .1) (c .before .before .before .before .if4 .left) (c .before .before .before .if5 .left) (c .before .before .if6 .left) (c .before .if7 .left) (c .if8 .left) refl
 
 slice-aggregate-copy : tie.Need-slice-aggregate-copy
 slice-aggregate-copy c =
     let a = c .before .before .before .before .before .before .before .before .before .before .before .before .before .before .before .before .args in
     let x = c .before .before .before .before .before .before .before .before .before .whole in
     let y = c .before .before .before .before .before .before .before .next .given in
-    part-length (a .m) (a .text .now) (a .out .now) (c .before .before .before .before .before .before .before .before .before .before .before .before .before .if1 .left) (c .before .before .before .before .before .before .before .before .before .before .before .before .if2 .left) (c .before .before .before .before .before .before .before .before .before .before .before .if3 .left) _ (x .last .1 .0) (x .result) (x .ensures) (y .0 .0) (y .0 .1 .0) (y .0 .1 .1 .0) (y .0 .1 .1 .1 .0) (y .1) (c .before .before .before .before .before .if4 .left) (c .before .before .before .before .if5 .left) (c .before .before .before .if6 .left) (c .before .before .if7 .left) (c .before .if8 .left) refl
+    part-length (a .m) (a .text .now) (a .out .now) (c .before .before .before .before .before .before .before .before .before .before .before .before .before .if1 .left) (c .before .before .before .before .before .before .before .before .before .before .before .before .if2 .left) (c .before .before .before .before .before .before .before .before .before .before .before .if3 .left) _ (x .last .1 .0) (x .result) (x .ensures) (y .0 .0) (y .0 .1 .0) (y .0 .1 .1 .0) (y .0 .1 .1 .1 .0) (y .0 .1 .1 .1 .1 .0) (y .1) (c .before .before .before .before .before .if4 .left) (c .before .before .before .before .if5 .left) (c .before .before .before .if6 .left) (c .before .before .if7 .left) (c .before .if8 .left) refl
 
 copy-requires : tie.Need-copy-requires
 copy-requires c κs =
     let a = c .before .before .before .before .before .before .before .before .before .before .before .before .before .before .before .before .before .args in
     let x = c .before .before .before .before .before .before .before .before .before .before .whole in
     let y = c .before .before .before .before .before .before .before .before .next .given in
-    omega (arith, part-length (a .m) (a .text .now) (a .out .now) (c .before .before .before .before .before .before .before .before .before .before .before .before .before .before .if1 .left) (c .before .before .before .before .before .before .before .before .before .before .before .before .before .if2 .left) (c .before .before .before .before .before .before .before .before .before .before .before .before .if3 .left) _ (x .last .1 .0) (x .result) (x .ensures) (y .0 .0) (y .0 .1 .0) (y .0 .1 .1 .0) (y .0 .1 .1 .1 .0) (y .1) (c .before .before .before .before .before .before .if4 .left) (c .before .before .before .before .before .if5 .left) (c .before .before .before .before .if6 .left) (c .before .before .before .if7 .left) (c .before .before .if8 .left) refl)
+    omega (arith, part-length (a .m) (a .text .now) (a .out .now) (c .before .before .before .before .before .before .before .before .before .before .before .before .before .before .if1 .left) (c .before .before .before .before .before .before .before .before .before .before .before .before .before .if2 .left) (c .before .before .before .before .before .before .before .before .before .before .before .before .if3 .left) _ (x .last .1 .0) (x .result) (x .ensures) (y .0 .0) (y .0 .1 .0) (y .0 .1 .1 .0) (y .0 .1 .1 .1 .0) (y .0 .1 .1 .1 .1 .0) (y .1) (c .before .before .before .before .before .before .if4 .left) (c .before .before .before .before .before .if5 .left) (c .before .before .before .before .if6 .left) (c .before .before .before .if7 .left) (c .before .before .if8 .left) refl)
 
 returns-9 : tie.Need-returns-9
 returns-9 c =
@@ -103,7 +103,7 @@ returns-10 c =
     let a = c .before .before .before .before .before .before .before .before .before .before .before .before .before .before .before .before .before .before .before .before .args in
     let x = c .before .before .before .before .before .before .before .before .before .before .before .before .before .whole in
     let y = c .before .before .before .before .before .before .before .before .before .before .before .next .given in
-    all-read (a .m) (a .text .now) (a .out .now) (c .before .before .before .before .before .before .before .before .before .before .before .before .before .before .before .before .before .if1 .left) (c .before .before .before .before .before .before .before .before .before .before .before .before .before .before .before .before .if2 .left) (c .before .before .before .before .before .before .before .before .before .before .before .before .before .before .before .if3 .left) _ (x .last .1 .0) (x .result) (x .ensures) (y .0 .0) (y .0 .1 .0) (y .0 .1 .1 .0) (y .0 .1 .1 .1 .0) (y .1) (c .before .before .before .before .before .before .before .before .before .if4 .left) (c .before .before .before .before .before .before .before .before .if5 .left) (c .before .before .before .before .before .before .before .if6 .left) (c .before .before .before .before .before .before .if7 .left) (c .before .before .before .before .before .if8 .left) refl (c .before .before .copy .last .1 .0) (c .before .before .copy .ensures .1)
+    all-read (a .m) (a .text .now) (a .out .now) (c .before .before .before .before .before .before .before .before .before .before .before .before .before .before .before .before .before .if1 .left) (c .before .before .before .before .before .before .before .before .before .before .before .before .before .before .before .before .if2 .left) (c .before .before .before .before .before .before .before .before .before .before .before .before .before .before .before .if3 .left) _ (x .last .1 .0) (x .result) (x .ensures) (y .0 .0) (y .0 .1 .0) (y .0 .1 .1 .0) (y .0 .1 .1 .1 .0) (y .0 .1 .1 .1 .1 .0) (y .1) (c .before .before .before .before .before .before .before .before .before .if4 .left) (c .before .before .before .before .before .before .before .before .if5 .left) (c .before .before .before .before .before .before .before .if6 .left) (c .before .before .before .before .before .before .if7 .left) (c .before .before .before .before .before .if8 .left) refl (c .before .before .copy .last .1 .0) (c .before .before .copy .ensures .1)
 
 pub read-spec : {M : Type 1} → statement M
 read-spec =

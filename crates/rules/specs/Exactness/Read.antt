@@ -31,7 +31,7 @@ module _ (M : ℕ) (text : List ℕ) (room : ℕ) where
     five : place 5 < k → (p : Rule) → Says text p → AtomsBelow M p
     twelve : place 12 < k → (p : Rule) → Says text p → WindowsAllowed p
     six : place 6 < k → (p : Rule) → Says text p → size p ≤ 128
-    eleven : place 11 < k → (p : Rule) → Says text p → 7 * size p ≤ room
+    eleven : place 11 < k → (p : Rule) → Says text p → 8 * size p ≤ room
 
   read-from : (k : ℕ) → Known k → {j : ℕ} → ReadRefused M text room j → k ≤ place j
   read-from k i (ReadRefused.text-refused (TextRefused.atoms x)) = at-least (place 2) k (λ h. x (i .two h))
@@ -75,10 +75,10 @@ module _ (M : ℕ) (text : List ℕ) (room : ℕ) where
         (λ j. read-from (place 6) (record { two = λ h. m; three = λ h. l; four = λ h. (p, s); five = λ h. a; twelve = λ h. w; six = λ h. absurd (omega arith); eleven = λ h. absurd (omega arith) }))
         (λ f. ReadRefused.text-refused (TextRefused.nodes s (leb-false (size p) 128 f)))
         (λ t. let n = of-one p s (λ q. size q ≤ 128) (leb-true (size p) 128 t) in
-        rung (ReadRefused M text room) ReadIs (leb (7 * size p) room) 11 _
+        rung (ReadRefused M text room) ReadIs (leb (8 * size p) room) 11 _
         (λ j. read-from (place 11) (record { two = λ h. m; three = λ h. l; four = λ h. (p, s); five = λ h. a; twelve = λ h. w; six = λ h. n; eleven = λ h. absurd (omega arith) }))
-        (λ f. ReadRefused.short s (leb-false (7 * size p) room f))
-        (λ t. let r = of-one p s (λ q. 7 * size q ≤ room) (leb-true (7 * size p) room t) in
+        (λ f. ReadRefused.short s (leb-false (8 * size p) room f))
+        (λ t. let r = of-one p s (λ q. 8 * size q ≤ room) (leb-true (8 * size p) room t) in
         exact-answered (ReadRefused M text room) ReadIs (wrote (size p) (tableBytes (nodesOf p)))
         (λ j x. omega (arith, read-under x, read-from 12 (record { two = λ h. m; three = λ h. l; four = λ h. (p, s); five = λ h. a; twelve = λ h. w; six = λ h. n; eleven = λ h. r }) x))
         (p, s, refl)

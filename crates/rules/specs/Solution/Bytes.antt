@@ -115,7 +115,7 @@ module _ (T M D : ℕ) (run : List ℕ) (slots : SlotsAllowed T) (runs : RunGood
   table-ok k (TableRefused.not-good x) = x ns good-table
 
   module _ (room : ℕ) where
-    read-ok : 7 * size p ≤ room → None (ReadRefused M text room)
+    read-ok : 8 * size p ≤ room → None (ReadRefused M text room)
     read-ok h k (ReadRefused.text-refused x) = ok k x
     read-ok h k (ReadRefused.short {p = r} s x) = omega (arith, ap size (one-reading text p r (q .says) s))
 
@@ -128,7 +128,7 @@ module _ (T M D : ℕ) (run : List ℕ) (slots : SlotsAllowed T) (runs : RunGood
     evaluate-ok h k (EvaluateRefused.run-bad x) = x runs
     evaluate-ok h k (EvaluateRefused.short {ns = ms} g x) = omega (arith, ap (λ (l : List Node). length l * T) (same-nodes ms g), ap (λ (n : ℕ). n * T) length-ns)
 
-    read-is : 7 * size p ≤ room → readOutcome M text room ≡ answered (wrote (size p) (tableBytes ns))
+    read-is : 8 * size p ≤ room → readOutcome M text room ≡ answered (wrote (size p) (tableBytes ns))
     read-is h = read-exact M text room .answers (wrote (size p) (tableBytes ns)) .1 (read-ok h, (p, q .says, refl))
 
     rows-are : length (rowsBytes (rowsOf T M ns)) ≤ room → rowsOutcome T M (tableBytes ns) room ≡ answered (wrote (length (rowsOf T M ns)) (rowsBytes (rowsOf T M ns)))

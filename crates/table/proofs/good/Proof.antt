@@ -5,8 +5,8 @@ use Prim.Native.Nat.{_≤_, _<_, _-_}
 use native.Mathlib.Omega.{arith}
 use borrow.Author.Needs.{needs}
 use Rattle.lists.specs.Flags.{off, on}
-use Rattle.lists.specs.All.{all, all-none, all-more, all-fails}
-use Rattle.rules.specs.TableTest.{recordGood, recordCount, good}
+use Rattle.lists.specs.All.{all, all-iff, all-none, all-more, all-fails}
+use Rattle.rules.specs.TableTest.{recordGood, recordCount, good, first-height}
 use Rattle.table.proofs.good.Statement.{statement}
 use Rattle.table.proofs.good.Tie as tie
 
@@ -30,7 +30,10 @@ loop-holds : tie.Need-loop-holds Inv-loop μ-loop
 loop-holds c = (omega arith, all-none _)
 
 record-good-requires : tie.Need-record-good-requires Inv-loop μ-loop
-record-good-requires c κs = search needs
+record-good-requires c κs =
+    let a = c .before .before .before .before .before .before .args in
+    let k = c .before .loop .inv .1 in
+    (omega arith, λ h. first-height (a .m) (a .table .now) (all-iff (recordGood (a .m) (a .table .now)) (c .before .loop .n) .0 (rw k tt) 0 (omega arith)))
 
 returns-2 : tie.Need-returns-2 Inv-loop μ-loop
 unfolding good

@@ -1,76 +1,27 @@
 -- `table::record_good` meets its contract. Assumes nothing.
-use mathlib.Core.Path.{refl, _∙_}
-use Prim.Native.Nat.{_*_}
-use native.Mathlib.Nat.{add-zero}
-use Rattle.rules.specs.TableTest.{recordGood}
+use mathlib.Core.Path.{sym, _∙_}
 use borrow.Author.Needs.{needs}
+use Rattle.rules.specs.TableTest.{recordGood}
+use Rattle.table.specs.Heights.{children-known}
 use Rattle.table.proofs.record_good.Statement.{statement}
 use Rattle.table.proofs.record_good.Tie as tie
 
-mul-at : tie.Need-mul-at
-mul-at c = search needs
+node-good-requires : tie.Need-node-good-requires
+node-good-requires c κs = search needs
 
-marked-requires : tie.Need-marked-requires
-marked-requires c κs = search needs
-
-add-fields-good : tie.Need-add-fields-good
-add-fields-good c = search needs
-
-shared-slice-read-fields-good : tie.Need-shared-slice-read-fields-good
-shared-slice-read-fields-good c = search needs
-
-add-fields-good-2 : tie.Need-add-fields-good-2
-add-fields-good-2 c = search needs
-
-shared-slice-read-fields-good-2 : tie.Need-shared-slice-read-fields-good-2
-shared-slice-read-fields-good-2 c = search needs
-
-add-fields-good-3 : tie.Need-add-fields-good-3
-add-fields-good-3 c = search needs
-
-shared-slice-read-fields-good-3 : tie.Need-shared-slice-read-fields-good-3
-shared-slice-read-fields-good-3 c = search needs
-
-add-fields-good-4 : tie.Need-add-fields-good-4
-add-fields-good-4 c = search needs
-
-shared-slice-read-fields-good-4 : tie.Need-shared-slice-read-fields-good-4
-shared-slice-read-fields-good-4 c = search needs
-
-add-fields-good-5 : tie.Need-add-fields-good-5
-add-fields-good-5 c = search needs
-
-shared-slice-read-fields-good-5 : tie.Need-shared-slice-read-fields-good-5
-shared-slice-read-fields-good-5 c = search needs
-
-fields-good-requires : tie.Need-fields-good-requires
-fields-good-requires c κs = search needs
-
-both-requires : tie.Need-both-requires
-both-requires c κs = search needs
+height-good-requires : tie.Need-height-good-requires
+height-good-requires c κs =
+    let a = c .before .before .before .args in
+    let h = c .before .before .before .pre in
+    (h .0, children-known (a .m) (a .table .now) (a .n) (sym (c .before .node-good .ensures) ∙ c .if1 .taken) (h .1))
 
 returns : tie.Need-returns
 unfolding recordGood
-returns c =
-    let a = c .before .before .before .before .before .before .before .before .before .args in
-    c .both .ensures ∙ rw (c .before .before .before .before .before .before .before .marked .ensures, c .before .fields-good .ensures, add-zero (7 * a .n)) refl
+returns c = c .height-good .ensures ∙ rw (sym (c .before .before .node-good .ensures) ∙ c .before .if1 .taken)
+
+returns-2 : tie.Need-returns-2
+unfolding recordGood
+returns-2 c = rw (sym (c .before .node-good .ensures) ∙ c .if1 .left)
 
 pub record-good-spec : {M : Type 1} → statement M
-record-good-spec =
-    tie.close
-    (tie.spec
-    mul-at
-    marked-requires
-    add-fields-good
-    shared-slice-read-fields-good
-    add-fields-good-2
-    shared-slice-read-fields-good-2
-    add-fields-good-3
-    shared-slice-read-fields-good-3
-    add-fields-good-4
-    shared-slice-read-fields-good-4
-    add-fields-good-5
-    shared-slice-read-fields-good-5
-    fields-good-requires
-    both-requires
-    returns)
+record-good-spec = tie.close (tie.spec node-good-requires height-good-requires returns returns-2)
