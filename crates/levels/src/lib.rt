@@ -58,19 +58,20 @@ fn outside(from: usize, to: usize) -> usize
     0
 }
 
-// Writes node `n`'s record, where it is one of the first 128: the records of a rule with more are not wanted.
-fn put(
-    out: &mut [u8; 1024],
-    n: usize,
+// What stands behind the mark of a node's record.
+struct Entry {
     kind: u8,
     left: usize,
     right: usize,
     from: usize,
     to: usize,
     high: usize,
-)
+}
+
+// Writes node `n`'s record, where it is one of the first 128: the records of a rule with more are not wanted.
+fn put(out: &mut [u8; 1024], n: usize, e: Entry)
     requires { ⌜ 8 * n + 8 ≤ 8192 ⌝ }
-    ensures { λ _. ⌜ Wrote (now (out .entry)) (8 * n) (entry kind left right from to high) (now (out .exit)) ⌝ }
+    ensures { λ _. ⌜ Wrote (now (out .entry)) (8 * n) (entry (e .kind) (e .left) (e .right) (e .from) (e .to) (e .high)) (now (out .exit)) ⌝ }
 {
     if 128 <= n {
         return;
@@ -79,12 +80,28 @@ fn put(
     let mark = table::MARK;
     out[i] = mark[0];
     out[i + 1] = mark[1];
-    out[i + 2] = kind;
-    out[i + 3] = (left % 256) as u8;
-    out[i + 4] = (right % 256) as u8;
-    out[i + 5] = (from % 256) as u8;
-    out[i + 6] = (to % 256) as u8;
-    out[i + 7] = (high % 256) as u8;
+    out[i + 2] = e.kind;
+    out[i + 3] = (e.left % 256) as u8;
+    out[i + 4] = (e.right % 256) as u8;
+    out[i + 5] = (e.from % 256) as u8;
+    out[i + 6] = (e.to % 256) as u8;
+    out[i + 7] = (e.high % 256) as u8;
+}
+
+// Writes the record of an atom as node `n`'s.
+fn put_atom(out: &mut [u8; 1024], n: usize, number: usize)
+    requires { ⌜ 8 * n + 8 ≤ 8192 ⌝ }
+    ensures { λ _. ⌜ Wrote (now (out .entry)) (8 * n) (entry 1 number 0 0 0 0) (now (out .exit)) ⌝ }
+{
+    let atom = Entry {
+        kind: 1,
+        left: number,
+        right: 0,
+        from: 0,
+        to: 0,
+        high: 0,
+    };
+    put(out, n, atom);
 }
 
 // The node over the left part, whose last node is `nodes` - 1, and the right part.
@@ -110,7 +127,18 @@ fn join(
             high: h,
         } => {
             let over = table::larger(high, h) + 1;
-            put(out, m, kind, nodes - 1, m - 1, 0, 0, over);
+            put(
+                out,
+                m,
+                Entry {
+                    kind,
+                    left: nodes - 1,
+                    right: m - 1,
+                    from: 0,
+                    to: 0,
+                    high: over,
+                },
+            );
             pack(
                 next,
                 m + 1,
@@ -137,7 +165,18 @@ fn cap(out: &mut [u8; 1024], kind: u8, from: usize, to: usize, inner: usize) -> 
             high,
         } => {
             let over = high + 1;
-            put(out, m, kind, m - 1, 0, from, to, over);
+            put(
+                out,
+                m,
+                Entry {
+                    kind,
+                    left: m - 1,
+                    right: 0,
+                    from,
+                    to,
+                    high: over,
+                },
+            );
             pack(
                 next,
                 m + 1,
@@ -306,7 +345,7 @@ fn single(text: &&[u8], at: usize, n: usize, out: &mut [u8; 1024]) -> usize
 {
     match lexer::token_at(*text, at) {
         lexer::Token::Atom { number, next } => {
-            put(out, n, 1, number, 0, 0, 0, 0);
+            put_atom(out, n, number);
             let end = lexer::skip(*text, next);
             pack(end, n + 1, number, 0, 0)
         }

@@ -34,7 +34,7 @@ use Rattle.levels.proofs.join.Reads as join-reads
 use Rattle.levels.proofs.opening.Reads as opening-reads
 use Rattle.levels.proofs.prefix_kind.Reads as prefix-kind-reads
 use Rattle.levels.proofs.pack.Reads as pack-reads
-use Rattle.levels.proofs.put.Reads as put-reads
+use Rattle.levels.proofs.put_atom.Reads as put-atom-reads
 use Rattle.levels.proofs.unpack.Reads as unpack-reads
 use Rattle.levels.proofs.+and+or+rule+single+until.{statement}
 use Rattle.levels.proofs.+and+or+rule+single+until.Tie.{close}
@@ -218,7 +218,7 @@ rule-returns-3 t c =
 
 -- what `single` has of those that it calls
 abbrev single-env : ℕ → single-lts.Claims
-single-env t = (token-at-reads.Asked, token-at-reads.Learnt, put-reads.Asked, put-reads.Learnt, skip-reads.Asked, skip-reads.Learnt, pack-reads.Asked, pack-reads.Learnt, rule-below t, rule.Post, close-reads.Asked, close-reads.Learnt, prefix-kind-reads.Asked, prefix-kind-reads.Learnt, opening-reads.Asked, opening-reads.Learnt, single-below t, single.Post, cap-reads.Asked, cap-reads.Learnt, span-at-reads.Asked, span-at-reads.Learnt)
+single-env t = (token-at-reads.Asked, token-at-reads.Learnt, put-atom-reads.Asked, put-atom-reads.Learnt, skip-reads.Asked, skip-reads.Learnt, pack-reads.Asked, pack-reads.Learnt, rule-below t, rule.Post, close-reads.Asked, close-reads.Learnt, prefix-kind-reads.Asked, prefix-kind-reads.Learnt, opening-reads.Asked, opening-reads.Learnt, single-below t, single.Post, cap-reads.Asked, cap-reads.Learnt, span-at-reads.Asked, span-at-reads.Learnt)
 
 single-token-at-requires : (t : ℕ) → single-lts.Need-token-at-requires (single-env t) (single-at t) single.Post
 single-token-at-requires t c κs = search needs
@@ -226,8 +226,8 @@ single-token-at-requires t c κs = search needs
 single-enum-known-number : (t : ℕ) → single-lts.Need-enum-known-number (single-env t) (single-at t) single.Post
 single-enum-known-number t c = search needs
 
-single-put-requires : (t : ℕ) → single-lts.Need-put-requires (single-env t) (single-at t) single.Post
-single-put-requires t c κs = atom-room _ _ _ _ _ _ (c .before .before .before .before .token-at .ensures) (c .before .before .number .given .1) (c .before .before .before .before .before .before .pre .1)
+single-put-atom-requires : (t : ℕ) → single-lts.Need-put-atom-requires (single-env t) (single-at t) single.Post
+single-put-atom-requires t c κs = atom-room _ _ _ _ _ _ (c .before .before .before .before .token-at .ensures) (c .before .before .number .given .1) (c .before .before .before .before .before .before .pre .1)
 
 single-skip-requires : (t : ℕ) → single-lts.Need-skip-requires (single-env t) (single-at t) single.Post
 single-skip-requires t c κs = search needs
@@ -318,7 +318,7 @@ single-returns-4 : (t : ℕ) → single-lts.Need-returns-4 (single-env t) (singl
 single-returns-4 t c =
     let s = c .before .before .before .before .before .before .before .before .before .before .args in
     let a = c .before .before .before .before .before .before .number .given in
-    single-atom (s .text .now .now) (s .at) (s .n) (c .before .before .before .before .before .before .before .before .token-at .result) (a .0 .0) (a .0 .1 .0) (c .before .before .before .before .before .before .before .before .token-at .ensures) (a .1) (s .out .now) (c .before .before .before .put .last .0) _ (c .before .skip .result) (c .before .skip .ensures) (c .pack .ensures) (c .before .before .before .put .ensures)
+    single-atom (s .text .now .now) (s .at) (s .n) (c .before .before .before .before .before .before .before .before .token-at .result) (a .0 .0) (a .0 .1 .0) (c .before .before .before .before .before .before .before .before .token-at .ensures) (a .1) (s .out .now) (c .before .before .before .put-atom .last .0) _ (c .before .skip .result) (c .before .skip .ensures) (c .pack .ensures) (c .before .before .before .put-atom .ensures)
 
 single-returns-5 : (t : ℕ) → single-lts.Need-returns-5 (single-env t) (single-at t) single.Post
 single-returns-5 t c =
@@ -425,7 +425,7 @@ pub +and+or+rule+single+until-spec : {M : Type 1} → statement M
     single.Post
     (single-token-at-requires t)
     (single-enum-known-number t)
-    (single-put-requires t)
+    (single-put-atom-requires t)
     (single-skip-requires t)
     (single-add-pack t)
     (single-pack-requires t)

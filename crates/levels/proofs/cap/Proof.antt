@@ -19,8 +19,8 @@ enum-known-next c = search needs
 add-over : tie.Need-add-over
 add-over c = omega (arith, room-of _ _ _ _ _ _ (sym (c .before .before .before .unpack .ensures) ∙ c .before .next .given .1) (c .before .before .before .before .pre))
 
-sub-put : tie.Need-sub-put
-sub-put c = room-of _ _ _ _ _ _ (sym (c .before .before .before .before .unpack .ensures) ∙ c .before .before .next .given .1) (c .before .before .before .before .before .pre) .0
+sub-pack : tie.Need-sub-pack
+sub-pack c = room-of _ _ _ _ _ _ (sym (c .before .before .before .before .unpack .ensures) ∙ c .before .before .next .given .1) (c .before .before .before .before .before .pre) .0
 
 put-requires : tie.Need-put-requires
 put-requires c κs = room-of _ _ _ _ _ _ (sym (c .before .before .before .before .unpack .ensures) ∙ c .before .before .next .given .1) (c .before .before .before .before .before .pre) .1 .0
@@ -59,7 +59,7 @@ cap-spec =
     enum-told
     enum-known-next
     add-over
-    sub-put
+    sub-pack
     put-requires
     add-pack
     outside-requires

@@ -21,11 +21,11 @@ larger-requires c κs = search needs
 add-over : tie.Need-add-over
 add-over c = omega (arith, c .larger .ensures, c .before .before .before .before .before .pre .1 .1 .1 .0, room-of _ _ _ _ _ _ (sym (c .before .before .before .before .unpack .ensures) ∙ c .before .before .next .given .1) (c .before .before .before .before .before .pre .1 .1 .1 .1))
 
-sub-put : tie.Need-sub-put
-sub-put c = search needs
+sub-pack : tie.Need-sub-pack
+sub-pack c = search needs
 
-sub-put-2 : tie.Need-sub-put-2
-sub-put-2 c = room-of _ _ _ _ _ _ (sym (c .before .before .before .before .before .unpack .ensures) ∙ c .before .before .before .next .given .1) (c .before .before .before .before .before .before .pre .1 .1 .1 .1) .0
+sub-pack-2 : tie.Need-sub-pack-2
+sub-pack-2 c = room-of _ _ _ _ _ _ (sym (c .before .before .before .before .before .unpack .ensures) ∙ c .before .before .before .next .given .1) (c .before .before .before .before .before .before .pre .1 .1 .1 .1) .0
 
 put-requires : tie.Need-put-requires
 put-requires c κs = room-of _ _ _ _ _ _ (sym (c .before .before .before .before .before .unpack .ensures) ∙ c .before .before .before .next .given .1) (c .before .before .before .before .before .before .pre .1 .1 .1 .1) .1 .0
@@ -64,8 +64,8 @@ join-spec =
     enum-known-next
     larger-requires
     add-over
-    sub-put
-    sub-put-2
+    sub-pack
+    sub-pack-2
     put-requires
     add-pack
     larger-requires-2
