@@ -1,16 +1,57 @@
-/* Reads a rule and draws it, writes its rows and its MPS page, evaluates a run and judges the figures that the run makes. Build and run: examples/run-c */
+/* Reads a rule and draws it, writes its rows and its MPS page, evaluates a run and judges the figures that the run makes, and goes through
+ * logged runs for the first slot at which the rule holds. Build and run: examples/run-c */
 #include <stdio.h>
 #include <string.h>
 #include "sepia.h"
 
 enum { T = 8, M = 2, NODES = 128, NODE_BYTES = 8, KIND = 2, HEIGHT = 7, ONE = 1000000 };
 
+/* enough for every table at this T */
+static uint8_t table[NODE_BYTES * NODES], rows[1 << 17], page[1 << 20];
+static uint64_t truth[NODES];
+static int32_t figures[(M + NODES) * T];
+
+/* the rule as a tree, the root first, each node as far to the right as its height is below the root's */
+static void draw(size_t nodes) {
+    const uint8_t *root = table + NODE_BYTES * (nodes - 1);
+    for (size_t n = nodes; n-- > 0;) {
+        const uint8_t *node = table + NODE_BYTES * n;
+        printf("%*skind %d, height %d\n", 2 * (root[HEIGHT] - node[HEIGHT]), "", node[KIND], node[HEIGHT]);
+    }
+}
+
+/* one figure for each variable: the atoms of the run, then each node's truth, bit s of its word for slot s + 1 */
+static void fill_figures(size_t nodes, const uint16_t *run) {
+    for (size_t a = 0; a < M; a++)
+        for (size_t s = 0; s < T; s++) figures[a * T + s] = (run[s] >> a & 1) * ONE;
+    for (size_t n = 0; n < nodes; n++)
+        for (size_t s = 0; s < T; s++) figures[(M + n) * T + s] = (int32_t)(truth[n] >> s & 1) * ONE;
+}
+
+static void judge(size_t nodes, int32_t e) {
+    sepia_verdict verdict = sepia_judge(table, NODE_BYTES * nodes, T, M, figures, (M + nodes) * T, e);
+    printf("verdict %u, value %u, shortfall %lld\n", verdict.verdict, verdict.value, (long long)verdict.shortfall);
+}
+
+/* what a shift lead asks of a log: the first slot at which the rule holds, which is in the root's word, the last */
+static void review(size_t nodes, const uint16_t *run) {
+    sepia_answer answer = sepia_evaluate(table, NODE_BYTES * nodes, T, M, run, T, truth, NODES);
+    uint32_t slot = answer.refusal ? 0 : sepia_first_slot(truth[nodes - 1]);
+    if (answer.refusal)
+        printf("refused %u\n", answer.refusal);
+    else if (slot)
+        printf("holds first at slot %u\n", slot);
+    else
+        printf("holds at no slot\n");
+}
+
 int main(void) {
     const char *rule = "G(a0 > F[0,5] a1)"; /* read-back within five slots */
-    const uint16_t run[T] = {1, 0, 0, 0, 0, 2, 0, 0}; /* a0 at slot 1, a1 at slot 6 */
-    /* enough for every table at this T */
-    static uint8_t table[NODE_BYTES * NODES], rows[1 << 17], truth[NODES * T], page[1 << 20];
-    static int32_t figures[(M + NODES) * T];
+    const uint16_t runs[][T] = {
+        {1, 0, 0, 0, 0, 2, 0, 0}, /* a0 at slot 1, a1 at slot 6: in time */
+        {1, 0, 0, 0, 0, 0, 2, 0}, /* a1 one slot late */
+        {0, 1, 0, 0, 0, 2, 0, 1}, /* a0 once more at the end, and no a1 after it */
+    };
 
     if (sepia_version() != SEPIA_VERSION) {
         printf("the library has another version than the header\n");
@@ -23,32 +64,16 @@ int main(void) {
     }
     size_t nodes = read.value, bytes = NODE_BYTES * nodes;
     printf("nodes %zu\n", nodes);
+    draw(nodes);
+    printf("rows %u\n", sepia_rows(table, bytes, T, M, rows, sizeof rows).value);
+    printf("page %u bytes\n", sepia_mps(table, bytes, T, M, page, sizeof page).value);
+    printf("holds at slot 1: %u\n", sepia_evaluate(table, bytes, T, M, runs[0], T, truth, NODES).value);
 
-    /* the rule as a tree, the root first, each node as far to the right as its height is below the root's */
-    for (size_t n = nodes; n-- > 0;) {
-        const uint8_t *node = table + NODE_BYTES * n;
-        printf("%*skind %d, height %d\n", 2 * (table[bytes - 1] - node[HEIGHT]), "", node[KIND], node[HEIGHT]);
-    }
+    fill_figures(nodes, runs[0]);
+    judge(nodes, 0);
+    figures[(M + nodes - 1) * T] = 500000; /* a figure left at one half */
+    judge(nodes, 1000);
 
-    sepia_answer written = sepia_rows(table, bytes, T, M, rows, sizeof rows);
-    printf("rows %u\n", written.value);
-
-    sepia_answer paged = sepia_mps(table, bytes, T, M, page, sizeof page);
-    printf("page %u bytes\n", paged.value);
-
-    sepia_answer holds = sepia_evaluate(table, bytes, T, M, run, T, truth, sizeof truth);
-    printf("holds at slot 1: %u\n", holds.value);
-
-    /* one figure for each variable: the atoms of the run, then each node's truth */
-    for (size_t a = 0; a < M; a++)
-        for (size_t s = 0; s < T; s++) figures[a * T + s] = (run[s] >> a & 1) * ONE;
-    for (size_t i = 0; i < nodes * T; i++) figures[M * T + i] = truth[i] * ONE;
-
-    sepia_verdict verdict = sepia_judge(table, bytes, T, M, figures, (M + nodes) * T, 0);
-    printf("verdict %u, value %u, shortfall %lld\n", verdict.verdict, verdict.value, (long long)verdict.shortfall);
-
-    figures[M * T + (nodes - 1) * T] = 500000; /* a figure left at one half */
-    verdict = sepia_judge(table, bytes, T, M, figures, (M + nodes) * T, 1000);
-    printf("verdict %u, value %u, shortfall %lld\n", verdict.verdict, verdict.value, (long long)verdict.shortfall);
+    for (size_t i = 0; i < sizeof runs / sizeof runs[0]; i++) review(nodes, runs[i]);
     return 0;
 }

@@ -1,6 +1,6 @@
 /* Bastersepia: timing rules as solver rows. Link with libsepia.a (rt staticlib sepia).
  *
- * Every call copes with every input. On a refusal no byte of a lent buffer changes; on success bytes past the output keep their content.
+ * Every call copes with every input. On a refusal nothing in a lent buffer changes; on success what stands past the output stays as it was.
  * Where several refusals apply, the first in this order is given: 1, 2, 3, 4, 5, 12, 6, 7, 8, 9, 10, 11. Pointers must be valid for the
  * lengths given with them, and a buffer that is written must overlap nothing else that is passed.
  */
@@ -19,8 +19,10 @@ extern "C" {
  *   2  a broken verdict carries its shortfall
  *   3  sepia_mps
  *   4  rules with windows: node records of 7 bytes, row records without padding, refusal 12, the order of refusals; sepia_version
- *   5  node records of 8 bytes, with the node's height; refusal 7 also when a height is wrong */
-#define SEPIA_VERSION 5
+ *   5  node records of 8 bytes, with the node's height; refusal 7 also when a height is wrong
+ *   6  sepia_evaluate writes a word for each node in place of a byte for each node and slot, and its refusal 11 counts words;
+ *      sepia_first_slot */
+#define SEPIA_VERSION 6
 
 /* The version of the library; to be compared with SEPIA_VERSION. */
 uint32_t sepia_version(void);
@@ -38,7 +40,7 @@ enum {
     SEPIA_RUN = 8,         /* evaluate: the run is not T numbers, or a bit at M or above is set */
     SEPIA_FIGURES = 9,     /* judge: the figures are not (M + N)*T */
     SEPIA_TOLERANCE = 10,  /* judge: the tolerance is not 0 to 1,000 */
-    SEPIA_ROOM = 11,       /* read, evaluate, rows, mps: the output buffer is shorter than the output */
+    SEPIA_ROOM = 11,       /* read, evaluate, rows, mps: the output buffer is shorter than the output; evaluate counts words, the others bytes */
     SEPIA_WINDOW = 12      /* read: a window F[a,b] or G[a,b] with a above b or b above 63; comes after 5 and before 6 */
 };
 
@@ -73,9 +75,15 @@ typedef struct {
 sepia_answer sepia_read(const uint8_t *text, size_t text_len, size_t m, uint8_t *out, size_t out_len);
 
 /* Evaluates a table over a run of t numbers, bit a of each the truth of atom a; after slot t the run repeats slot t for good.
- * Writes one byte, 0 or 1, for node n and slot s at place n*t + s - 1. The result is the root's truth at slot 1. */
+ * Writes one word for each node, in node order: bit s - 1 (value 2 to the power s - 1) is the node's truth at slot s, and the bits above
+ * bit t - 1 are 0. The root's word is the last. out_words counts words; a table takes as many as it has nodes, at most 128.
+ * The result is the root's truth at slot 1. */
 sepia_answer sepia_evaluate(const uint8_t *table, size_t table_len, size_t t, size_t m, const uint16_t *run, size_t run_len,
-                            uint8_t *out, size_t out_len);
+                            uint64_t *out, size_t out_words);
+
+/* The first slot with a set bit in a word, 1 to 64, or 0 when there is none: of a node's word, the first slot at which the node holds.
+ * Takes any word and refuses none. */
+uint32_t sepia_first_slot(uint64_t word);
 
 /* Writes a table's rows. The result is the row count.
  * A row ends after its last term: 5 bytes and 3 for each term, at most 65 terms. A table has at most 272,353 rows, 3,763,976 bytes. */

@@ -6,10 +6,12 @@
 
 What is expected is written down below, comes from SPIN (tests/spin.txt) or is worked out here from the paper's words
 (tests/paper.py); nothing of it comes from the program. Tables, truths, rows, refusals and verdicts that are written down
-must also be what the paper's words give. A new call has a function here that writes its case and what must be printed.
+must also be what the paper's words give; of a truth, its bytes and its words (request N5) must say the same for every node
+and slot. A new call has a function here that writes its case and what must be printed.
 """
 
 import itertools
+import random
 
 import paper
 from data_file import TOP, write_or_check
@@ -18,6 +20,7 @@ HEAD = """\
 Cases made by tests/known_lines.py. A line is a call, numbers, and after a colon bytes; % and two digits stand for a byte.
   read ROOM M:TEXT
   evaluate ROOM T M RUN..:TABLE
+  first WORD (the first slot of a word)
   write ROOM T M:TABLE
   mps ROOM T M:TABLE
   judge T M E FIGURES..:TABLE
@@ -28,10 +31,14 @@ Cases made by tests/known_lines.py. A line is a call, numbers, and after a colon
 ROOM is the length of the buffer lent. It is filled with bytes fe and followed by 8 more of them, its guard.
 After a line stand the answer and what the buffer then holds: what was written, of mps and list as text, otherwise in
 hexadecimal, above 1,000 bytes its length and FNV-1a sum of 64 bits; then ~ and how many bytes fe follow, guard included.
+For evaluate all this is counted in words of 64 bits, filled with fefefefefefefefe. They stand in hexadecimal without leading
+zeros, bit 0 for slot 1, and a line more has the first slot of each that was written.
 Above each group stands where the expected values come from."""
 
 FILL = b"\xfe"
+FILL_WORD = 0xFEFEFEFEFEFEFEFE
 GUARD = 8
+MOST_WORDS = 512
 LISTING = 184000
 LONG = 1000
 NAMES = {"n": "value", "v": "value", "r": "refused", "o": "outside", "b": "not binary", "k": "broken", "p": "passed"}
@@ -76,6 +83,17 @@ def lent(room, written, text=False, guard=GUARD):
     assert len(written) <= room and not written.endswith(FILL)
     part = summed(written) if len(written) > LONG else written.decode() if text else written.hex()
     return f"{part}~{room - len(written) + guard}"
+
+
+def said_slot(slot):
+    return "none" if slot is None else str(slot)
+
+
+def lent_words(room, words):
+    """What the whole buffer of words holds after a call that wrote these, and the first slots of these."""
+    assert len(words) <= room <= MOST_WORDS - GUARD and words[-1:] != [FILL_WORD]
+    held = " ".join(["words", *(f"{word:x}" for word in words)]) + f"~{room - len(words) + GUARD}"
+    return [held, " ".join(["first slots", *(said_slot(paper.first_slot(word)) for word in words)])] if words else [held]
 
 
 def nodes_of(postfix):
@@ -131,25 +149,34 @@ def read(m, room, expected, text, heights=None):
         case("read", [room, m], text, f"value {len(nodes)}", lent(room, paper.table(nodes)))
 
 
-def truths(records, m, run):
-    """The truth of each node at each slot, of the paper's words."""
-    atoms = [[number >> atom & 1 for number in run] for atom in range(m)]
-    return [[int(bit) for bit in truth] for truth in paper.truth(paper.nodes_in(records), atoms)]
+def as_text(truths):
+    """A row of 0 and 1 for each node, slot 1 first."""
+    return " ".join("".join(str(int(holds)) for holds in of_node) for of_node in truths)
 
 
 def evaluate(t, m, room, answer, run, truth, nodes):
-    """The truth is a word of 0 and 1 for each node, in node order."""
-    truth = bytes(int(bit) for bit in truth.replace(" ", ""))
-    refusal = paper.refusal(t, m, nodes)
-    if refusal is None and (len(run) != t or any(number >> m for number in run)):
-        refusal = 8
-    if refusal is None and room < len(nodes) // RECORD * t:
-        refusal = 11
-    if refusal is not None:
-        assert answer == f"r{refusal}" and not truth
+    """The truth is a row of 0 and 1 for each node, in node order, slot 1 first. It is what the bytes of the scope paper said,
+    and the words must say the same."""
+    old = bytes(int(bit) for bit in truth.replace(" ", ""))
+    found = paper.evaluation(t, m, nodes, run, room)
+    if isinstance(found, int):
+        assert answer == f"r{found}" and not old
+        found = []
     else:
-        assert answer == f"v{truth[-t]}" and truth == bytes(sum(truths(nodes, m, run), []))
-    case("evaluate", [room, t, m, *run], nodes, said(answer), lent(room, truth))
+        assert old == paper.truth_bytes(paper.run_truth(paper.nodes_in(nodes), m, run)) and paper.same_truth(old, found, t)
+        assert answer == f"v{old[-t]}" == f"v{found[-1] % 2}"
+    case("evaluate", [room, t, m, *run], nodes, said(answer), *lent_words(room, found))
+
+
+def evaluate_of_paper(t, m, run, nodes, more=0):
+    """The truth of the paper's words, in a buffer of one word for each node, and more."""
+    truths = paper.run_truth(paper.nodes_in(nodes), m, run)
+    evaluate(t, m, len(truths) + more, f"v{int(truths[-1][0])}", run, as_text(truths), nodes)
+
+
+def first_slot(word, slot):
+    assert slot == paper.first_slot(word)
+    case("first", [word], None, f"slot {said_slot(slot)}")
 
 
 def row(text):
@@ -470,14 +497,14 @@ def reading_heights():
 
 def evaluating():
     say("The paper, known rules and runs: T 3, M 2. The root's line is the paper's, the parts' are by hand")
-    evaluate(3, 2, 9, "v1", [1, 1, 2], "110 001 111", UNTIL)
-    evaluate(3, 2, 9, "v0", [1, 1, 1], "111 000 000", UNTIL)
-    evaluate(3, 2, 9, "v0", [1, 0, 2], "100 001 001", UNTIL)
-    evaluate(3, 2, 6, "v1", [0, 2, 0], "010 110", F_A1)
-    evaluate(3, 2, 6, "v0", [0, 1, 1], "011 011", G_A0)
-    evaluate(3, 2, 9, "v1", [0, 1, 3], "011 001 101", IMPLIES)
-    evaluate(3, 2, 9, "v0", [1, 1, 0], "110 110 000", GF_A0)
-    evaluate(3, 2, 9, "v1", [0, 0, 1], "001 001 111", FG_A0)
+    evaluate(3, 2, 3, "v1", [1, 1, 2], "110 001 111", UNTIL)
+    evaluate(3, 2, 3, "v0", [1, 1, 1], "111 000 000", UNTIL)
+    evaluate(3, 2, 3, "v0", [1, 0, 2], "100 001 001", UNTIL)
+    evaluate(3, 2, 2, "v1", [0, 2, 0], "010 110", F_A1)
+    evaluate(3, 2, 2, "v0", [0, 1, 1], "011 011", G_A0)
+    evaluate(3, 2, 3, "v1", [0, 1, 3], "011 001 101", IMPLIES)
+    evaluate(3, 2, 3, "v0", [1, 1, 0], "110 110 000", GF_A0)
+    evaluate(3, 2, 3, "v1", [0, 0, 1], "001 001 111", FG_A0)
     say("By hand: the same rules with T 1")
     evaluate(1, 2, 3, "v1", [2], "0 1 1", UNTIL)
     evaluate(1, 2, 3, "v0", [1], "1 0 0", UNTIL)
@@ -493,22 +520,22 @@ def evaluating():
     evaluate(1, 2, 3, "v0", [2], "0 0 0", FG_A0)
     evaluate(1, 1, 1, "v1", [1], "1", ATOM)
     say("By hand: the same rules with T 64")
-    evaluate(64, 2, 192, "v1", [1] * 63 + [2], "1" * 63 + "0" + "0" * 63 + "1" + "1" * 64, UNTIL)
-    evaluate(64, 2, 192, "v0", [1] * 64, "1" * 64 + "0" * 64 + "0" * 64, UNTIL)
-    evaluate(64, 2, 192, "v0", [1] + [0] * 62 + [2], "1" + "0" * 63 + "0" * 63 + "1" + "0" * 63 + "1", UNTIL)
-    evaluate(64, 2, 128, "v1", [0] * 31 + [2] + [0] * 32, "0" * 31 + "1" + "0" * 32 + "1" * 32 + "0" * 32, F_A1)
-    evaluate(64, 2, 128, "v1", [0] * 63 + [2], "0" * 63 + "1" + "1" * 64, F_A1)
-    evaluate(64, 2, 128, "v0", [0] + [1] * 63, ("0" + "1" * 63) * 2, G_A0)
-    evaluate(64, 2, 192, "v1", [0, 1, 3, 2] * 16, "0110" * 16 + "0011" * 16 + "1011" * 16, IMPLIES)
-    evaluate(64, 2, 192, "v0", [1] * 63 + [0], "1" * 63 + "0" + "1" * 63 + "0" + "0" * 64, GF_A0)
-    evaluate(64, 2, 192, "v1", [0] * 63 + [1], "0" * 63 + "1" + "0" * 63 + "1" + "1" * 64, FG_A0)
+    evaluate(64, 2, 3, "v1", [1] * 63 + [2], "1" * 63 + "0" + "0" * 63 + "1" + "1" * 64, UNTIL)
+    evaluate(64, 2, 3, "v0", [1] * 64, "1" * 64 + "0" * 64 + "0" * 64, UNTIL)
+    evaluate(64, 2, 3, "v0", [1] + [0] * 62 + [2], "1" + "0" * 63 + "0" * 63 + "1" + "0" * 63 + "1", UNTIL)
+    evaluate(64, 2, 2, "v1", [0] * 31 + [2] + [0] * 32, "0" * 31 + "1" + "0" * 32 + "1" * 32 + "0" * 32, F_A1)
+    evaluate(64, 2, 2, "v1", [0] * 63 + [2], "0" * 63 + "1" + "1" * 64, F_A1)
+    evaluate(64, 2, 2, "v0", [0] + [1] * 63, ("0" + "1" * 63) * 2, G_A0)
+    evaluate(64, 2, 3, "v1", [0, 1, 3, 2] * 16, "0110" * 16 + "0011" * 16 + "1011" * 16, IMPLIES)
+    evaluate(64, 2, 3, "v0", [1] * 63 + [0], "1" * 63 + "0" + "1" * 63 + "0" + "0" * 64, GF_A0)
+    evaluate(64, 2, 3, "v1", [0] * 63 + [1], "0" * 63 + "1" + "0" * 63 + "1" + "1" * 64, FG_A0)
     evaluate(1, 1, 128, "v0", [1], "10" * 64, NOTS)
     say("By hand: M 16 has no bit too high; shared and unused parts, left equal to right; a longer buffer")
-    evaluate(2, 16, 2, "v1", [65535, 32768], "11", table((1, 15, 0)))
-    evaluate(2, 1, 4, "v0", [0, 1], "01 01", table((1, 0, 0), (8, 0, 0)))
-    evaluate(2, 1, 4, "v1", [0, 1], "01 11", table((1, 0, 0), (5, 0, 0)))
+    evaluate(2, 16, 1, "v1", [65535, 32768], "11", table((1, 15, 0)))
+    evaluate(2, 1, 2, "v0", [0, 1], "01 01", table((1, 0, 0), (8, 0, 0)))
+    evaluate(2, 1, 2, "v1", [0, 1], "01 11", table((1, 0, 0), (5, 0, 0)))
     evaluate(2, 1, 9, "v1", [0, 1], "01 10 10 11", table((1, 0, 0), (2, 0, 0), (3, 1, 1), (4, 0, 1)))
-    evaluate(2, 1, 6, "v0", [0, 1], "01 11 01", table((1, 0, 0), (6, 0, 0), (1, 0, 0)))
+    evaluate(2, 1, 3, "v0", [0, 1], "01 11 01", table((1, 0, 0), (6, 0, 0), (1, 0, 0)))
     say("The paper, refusals: T 65; M 0; no records; T 2, run of 1")
     evaluate(65, 2, 200, "r1", [1] * 65, "", UNTIL)
     evaluate(2, 0, 200, "r2", [0, 0], "", ATOM)
@@ -526,8 +553,8 @@ def evaluating():
     evaluate(2, 2, 200, "r8", [3, 32768], "", UNTIL)
     evaluate(2, 15, 200, "r8", [0, 32768], "", UNTIL)
     evaluate(1, 1, 200, "r8", [2], "", ATOM)
-    evaluate(2, 2, 5, "r11", [0, 0], "", UNTIL)
-    evaluate(2, 2, 6, "v0", [0, 0], "00 00 00", UNTIL)
+    evaluate(2, 2, 2, "r11", [0, 0], "", UNTIL)
+    evaluate(2, 2, 3, "v0", [0, 0], "00 00 00", UNTIL)
     evaluate(2, 2, 0, "r11", [0, 0], "", UNTIL)
     say("By hand: tables that are not good")
     for nodes in (
@@ -559,47 +586,47 @@ def evaluating_windows():
         for a, b in (0, 0), (0, 63), (1, 1), (63, 63):
             evaluate(1, 1, 2, "v1", [1], "1 1", window(kind, a, b))
             evaluate(1, 1, 2, "v0", [0], "0 0", window(kind, a, b))
-    evaluate(2, 1, 4, "v1", [0, 1], "01 11", window("F", 0, 1))
-    evaluate(2, 1, 4, "v1", [1, 0], "10 10", window("F", 0, 1))
-    evaluate(2, 1, 4, "v0", [0, 1], "01 01", window("G", 0, 1))
-    evaluate(2, 1, 4, "v0", [1, 0], "10 00", window("G", 0, 1))
-    evaluate(2, 1, 4, "v1", [0, 1], "01 11", window("F", 1, 1))
-    evaluate(2, 1, 4, "v0", [1, 0], "10 00", window("F", 1, 63))
-    evaluate(2, 1, 4, "v1", [0, 1], "01 11", window("G", 1, 63))
+    evaluate(2, 1, 2, "v1", [0, 1], "01 11", window("F", 0, 1))
+    evaluate(2, 1, 2, "v1", [1, 0], "10 10", window("F", 0, 1))
+    evaluate(2, 1, 2, "v0", [0, 1], "01 01", window("G", 0, 1))
+    evaluate(2, 1, 2, "v0", [1, 0], "10 00", window("G", 0, 1))
+    evaluate(2, 1, 2, "v1", [0, 1], "01 11", window("F", 1, 1))
+    evaluate(2, 1, 2, "v0", [1, 0], "10 00", window("F", 1, 63))
+    evaluate(2, 1, 2, "v1", [0, 1], "01 11", window("G", 1, 63))
     for run, truth in ([1, 0, 0], "100 000"), ([0, 1, 0], "010 100"), ([0, 0, 1], "001 111"):
-        evaluate(3, 1, 6, f"v{truth[4]}", run, truth, window("F", 1, 2))
+        evaluate(3, 1, 2, f"v{truth[4]}", run, truth, window("F", 1, 2))
     for run, truth in ([0, 1, 1], "011 111"), ([1, 1, 0], "110 000"), ([1, 0, 1], "101 011"):
-        evaluate(3, 1, 6, f"v{truth[4]}", run, truth, window("G", 1, 2))
+        evaluate(3, 1, 2, f"v{truth[4]}", run, truth, window("G", 1, 2))
     for kind in "FG":
-        evaluate(3, 1, 6, "v0", [0, 1, 0], "010 010", window(kind, 0, 0))
-        evaluate(3, 1, 6, "v1", [0, 0, 1], "001 111", window(kind, 2, 2))
-        evaluate(3, 1, 6, "v0", [1, 1, 0], "110 000", window(kind, 3, 5))
-        evaluate(3, 1, 7, "v1", [0, 0, 1], "001 111", window(kind, 62, 63))
+        evaluate(3, 1, 2, "v0", [0, 1, 0], "010 010", window(kind, 0, 0))
+        evaluate(3, 1, 2, "v1", [0, 0, 1], "001 111", window(kind, 2, 2))
+        evaluate(3, 1, 2, "v0", [1, 1, 0], "110 000", window(kind, 3, 5))
+        evaluate(3, 1, 3, "v1", [0, 0, 1], "001 111", window(kind, 62, 63))
     say("By hand: windows with T 5, some within others")
-    evaluate(5, 1, 10, "v1", [0, 1, 1, 0, 1], "01101 10011", window("G", 1, 2))
-    evaluate(5, 1, 10, "v0", [1, 0, 0, 1, 0], "10010 01100", window("F", 1, 2))
-    evaluate(5, 1, 10, "v1", [1, 0, 0, 1, 0], "10010 11110", window("F", 0, 2))
-    evaluate(5, 1, 10, "v1", [1, 1, 1, 0, 1], "11101 10001", window("G", 0, 2))
-    evaluate(5, 1, 10, "v1", [0, 0, 0, 1, 0], "00010 11000", window("F", 2, 3))
-    evaluate(5, 1, 15, "v1", [0, 1, 1, 0, 1], "01101 01001 10011", table((1, 0, 0), (10, 0, 0, 0, 1), (9, 1, 0, 1, 1)))
-    evaluate(5, 1, 15, "v0", [1, 0, 0, 1, 0], "10010 10110 00000", table((1, 0, 0), (9, 0, 0, 0, 1), (7, 1, 0)))
-    evaluate(3, 2, 12, "v1", [0, 1, 2], "010 110 001 111", table((1, 0, 0), (9, 0, 0, 0, 1), (1, 1, 0), (8, 1, 2)))
-    evaluate(3, 1, 9, "v1", [1, 0, 0], "100 000 100", table((1, 0, 0), (9, 0, 0, 1, 2), (1, 0, 0)))
+    evaluate(5, 1, 2, "v1", [0, 1, 1, 0, 1], "01101 10011", window("G", 1, 2))
+    evaluate(5, 1, 2, "v0", [1, 0, 0, 1, 0], "10010 01100", window("F", 1, 2))
+    evaluate(5, 1, 2, "v1", [1, 0, 0, 1, 0], "10010 11110", window("F", 0, 2))
+    evaluate(5, 1, 2, "v1", [1, 1, 1, 0, 1], "11101 10001", window("G", 0, 2))
+    evaluate(5, 1, 2, "v1", [0, 0, 0, 1, 0], "00010 11000", window("F", 2, 3))
+    evaluate(5, 1, 3, "v1", [0, 1, 1, 0, 1], "01101 01001 10011", table((1, 0, 0), (10, 0, 0, 0, 1), (9, 1, 0, 1, 1)))
+    evaluate(5, 1, 3, "v0", [1, 0, 0, 1, 0], "10010 10110 00000", table((1, 0, 0), (9, 0, 0, 0, 1), (7, 1, 0)))
+    evaluate(3, 2, 4, "v1", [0, 1, 2], "010 110 001 111", table((1, 0, 0), (9, 0, 0, 0, 1), (1, 1, 0), (8, 1, 2)))
+    evaluate(3, 1, 3, "v1", [1, 0, 0], "100 000 100", table((1, 0, 0), (9, 0, 0, 1, 2), (1, 0, 0)))
     say("By hand: windows with T 64")
     first, last, both = "1" + "0" * 63, "0" * 63 + "1", "0" + "1" * 63
-    evaluate(64, 1, 128, "v1", [0] * 63 + [1], last + "1" * 64, window("F", 0, 63))
-    evaluate(64, 1, 128, "v1", [1] + [0] * 63, first + first, window("F", 0, 63))
-    evaluate(64, 1, 128, "v0", [1] * 63 + [0], "1" * 63 + "0" + "0" * 64, window("G", 0, 63))
-    evaluate(64, 1, 128, "v0", [0] + [1] * 63, both + both, window("G", 0, 63))
-    evaluate(64, 1, 128, "v0", [0] * 63 + [1], last + "0" + "1" * 63, window("F", 0, 62))
-    evaluate(64, 1, 128, "v1", [0] * 63 + [1], last + "1" * 64, window("F", 63, 63))
-    evaluate(64, 1, 128, "v0", [0] * 62 + [1, 0], "0" * 62 + "10" + "0" * 64, window("G", 63, 63))
-    evaluate(64, 1, 128, "v1", [0] * 62 + [1, 0], "0" * 62 + "10" + first, window("F", 62, 62))
-    evaluate(64, 1, 128, "v1", [0] * 31 + [1] + [0] * 32, "0" * 31 + "1" + "0" * 32 + "1" * 32 + "0" * 32, window("F", 0, 31))
-    evaluate(64, 1, 128, "v0", [0] * 32 + [1] + [0] * 31, "0" * 32 + "1" + "0" * 31 + "0" + "1" * 32 + "0" * 31, window("F", 0, 31))
-    evaluate(64, 1, 128, "v0", [1] * 9 + [0] + [1] * 54, "1" * 9 + "0" + "1" * 54 + "0" * 5 + "1" * 59, window("G", 5, 9))
+    evaluate(64, 1, 2, "v1", [0] * 63 + [1], last + "1" * 64, window("F", 0, 63))
+    evaluate(64, 1, 2, "v1", [1] + [0] * 63, first + first, window("F", 0, 63))
+    evaluate(64, 1, 2, "v0", [1] * 63 + [0], "1" * 63 + "0" + "0" * 64, window("G", 0, 63))
+    evaluate(64, 1, 2, "v0", [0] + [1] * 63, both + both, window("G", 0, 63))
+    evaluate(64, 1, 2, "v0", [0] * 63 + [1], last + "0" + "1" * 63, window("F", 0, 62))
+    evaluate(64, 1, 2, "v1", [0] * 63 + [1], last + "1" * 64, window("F", 63, 63))
+    evaluate(64, 1, 2, "v0", [0] * 62 + [1, 0], "0" * 62 + "10" + "0" * 64, window("G", 63, 63))
+    evaluate(64, 1, 2, "v1", [0] * 62 + [1, 0], "0" * 62 + "10" + first, window("F", 62, 62))
+    evaluate(64, 1, 2, "v1", [0] * 31 + [1] + [0] * 32, "0" * 31 + "1" + "0" * 32 + "1" * 32 + "0" * 32, window("F", 0, 31))
+    evaluate(64, 1, 2, "v0", [0] * 32 + [1] + [0] * 31, "0" * 32 + "1" + "0" * 31 + "0" + "1" * 32 + "0" * 31, window("F", 0, 31))
+    evaluate(64, 1, 2, "v0", [1] * 9 + [0] + [1] * 54, "1" * 9 + "0" + "1" * 54 + "0" * 5 + "1" * 59, window("G", 5, 9))
     say("By hand: the buffer, and a window's record in a table that is not good")
-    evaluate(3, 1, 5, "r11", [0, 0, 1], "", window("F", 1, 2))
+    evaluate(3, 1, 1, "r11", [0, 0, 1], "", window("F", 1, 2))
     evaluate(3, 1, 0, "r11", [0, 0, 1], "", window("G", 1, 2))
     for nodes in (
         table((9, 0, 0, 0, 1)), table((10, 0, 0, 0, 1)), table((1, 0, 0, 0, 1)), table((1, 0, 0, 1, 1)), table((1, 0, 0, 1, 0)),
@@ -616,6 +643,67 @@ def evaluating_windows():
         evaluate(1, 1, 200, "r7", [0], "", nodes)
     evaluate(1, 1, 0, "r7", [], "", window("F", 1, 0))
     evaluate(1, 1, 0, "r8", [], "", window("F", 1, 1))
+
+
+def first_slots():
+    say("By hand from the request (N5): the first slot with a set bit, or none")
+    for word, slot in (
+        (0, None), (1, 1), (2, 2), (3, 1), (4, 3), (6, 2), (2**63, 64), (2**64 - 1, 1), (2**64 - 2, 2), (2**63 + 1, 1),
+        (3 * 2**62, 63), (2**63 + 2, 2), (2**63 + 2**62 + 2**61, 62), (2**32, 33), (2**32 - 1, 1), (2**31, 32), (2**64 - 2**32, 33),
+        (2**64 - 2**31, 32), (2**63 + 2**31, 32), (2**63 + 2**32, 33), (2**16, 17), (2**8, 9), (2**48 - 2**16, 17), (2**63 - 1, 1),
+        (0x5555555555555555, 1), (0xAAAAAAAAAAAAAAAA, 2), (0xFEDCBA9876543210, 5), (0x0123456789ABCDEF, 1),
+        (0xFF00FF00FF00FF00, 9), (0xFFFF0000FFFF0000, 17), (0xFFFFFFFF00000000, 33), (FILL_WORD, 2), (0x8000000000000100, 9),
+    ):
+        first_slot(word, slot)
+    say("By hand: each slot alone, with all after it, and with slot 64")
+    for slot in range(1, 65):
+        for word in 2 ** (slot - 1), 2**64 - 2 ** (slot - 1), 2 ** (slot - 1) | 2**63:
+            first_slot(word, slot)
+    say("Of the request's words: other words, some of few bits and some of high bits alone")
+    rng = random.Random(5)
+    for few in range(1, 65):
+        word = rng.getrandbits(64) >> rng.randrange(few) << rng.randrange(few) & 2**64 - 1
+        first_slot(word, paper.first_slot(word))
+
+
+# All ten kinds, with windows of one slot, of all slots and beyond every horizon, M 16.
+TEN_RULES = (
+    "a0 a15 U", "a15 a0 &", "a0 a15 |", "a15 a0 >", "a15 !", "a0 F", "a15 G", "a15 F[0,0]", "a0 G[0,0]", "a15 F[0,63]", "a0 G[0,63]",
+    "a0 F[63,63]", "a15 G[63,63]", "a0 F[1,62]", "a15 G[62,63]", "a15 ! F[31,32]", "a0 F[0,1] a15 G[1,5] U !", "a15 a0 U ! F[5,9] a0 >",
+)
+TEN_KINDS = paper.table(nodes_of(" ".join(TEN_RULES) + " &" * (len(TEN_RULES) - 1)))
+
+
+def runs_of(t):
+    """Runs over a0 and a15: nothing, all, slot 1 or slot T alone, turns, and of chance."""
+    rng, high = random.Random(t), 2**15
+    yield from ([0] * t, [high + 1] * t, [high] + [0] * (t - 1), [0] * (t - 1) + [1], [1] * (t - 1) + [high])
+    yield [(1, high)[slot % 2] for slot in range(t)]
+    yield [rng.choice((0, 0, 1, 1, high, high + 1)) for _ in range(t)]
+    yield [rng.getrandbits(16) for _ in range(t)]
+
+
+def evaluating_words():
+    say("By hand from the request (N5): bit t - 1 for slot t, zeros above: the last slot alone, and all slots, for each T, M 16")
+    for t in range(1, 65):
+        evaluate(t, 16, 2, f"v{int(t > 1)}", [0] * (t - 1) + [32768], "0" * (t - 1) + "1" + "1" * (t - 1) + "0", table((1, 15, 0), (2, 0, 0)))
+        evaluate(t, 16, 2, "v1", [0] * t, "0" * t + "1" * t, table((1, 15, 0), (2, 0, 0)))
+    say("By hand: each slot alone with T 64: of `a15`, `Fa15` and `F[0,63]a15`")
+    for slot in range(64):
+        alone, until = "0" * slot + "1" + "0" * (63 - slot), "1" * (slot + 1) + "0" * (63 - slot)
+        run = [32768 * int(bit) for bit in alone]
+        evaluate(64, 16, 3, "v1", run, alone + until * 2, table((1, 15, 0), (6, 0, 0), (9, 0, 0, 0, 63)))
+    say("By hand: 11 counts words, one for each node, whatever T")
+    for count, t in *itertools.product((1, 2, 3, 8, 9), (1, 2, 8, 64)), (64, 3), (127, 64), (128, 1), (128, 64):
+        nots = NOTS[: RECORD * count]
+        for room in sorted({0, count // 8, count - 1}):
+            evaluate(t, 1, room, "r11", [1] * t, "", nots)
+        for more in 0, 1:
+            evaluate_of_paper(t, 1, [1] * t, nots, more)
+    say("Of the paper's words: all ten kinds, windows of one slot, of all and beyond T, M 16; the root is `&` of them all")
+    for t in 1, 2, 32, 33, 63, 64:
+        for run in runs_of(t):
+            evaluate_of_paper(t, 16, run, TEN_KINDS)
 
 
 # What rowlist prints for `2 2` and `a0Ua1`, word for word.
@@ -956,7 +1044,7 @@ def solution(run, truth):
 def on_runs(t, records, cases):
     """The truth of each node over runs of three atoms, and the judge's verdict on the figures that it makes."""
     for run, answer, truth, verdict in cases:
-        evaluate(t, 3, len(truth.replace(" ", "")), answer, run, truth, records)
+        evaluate(t, 3, len(records) // RECORD, answer, run, truth, records)
         judge(t, 3, 0, solution(run, truth), verdict, records)
 
 
@@ -1041,8 +1129,7 @@ def of_heights():
     for heights, records in HEIGHTS:
         assert heights_in(records) == [int(height) for height in heights.split()]
         tested(True, 3, records)
-        truth = truths(records, 3, [5, 2])
-        evaluate(2, 3, 2 * len(truth), f"v{truth[-1][0]}", [5, 2], "".join(str(bit) for bits in truth for bit in bits), records)
+        evaluate_of_paper(2, 3, [5, 2], records)
     calls = itertools.cycle("ewmj")
     for records in LONGEST:
         assert heights_in(records) == list(range(128))
@@ -1079,7 +1166,7 @@ def of_heights():
         rows(t, m, 999, answer, [], low)
         mps(t, m, 9999, answer, "", low)
         judge(t, m, 0, [0] * min((m + 3) * t, 320), answer, low)
-    for run, room in ([], 200), ([4, 0], 200), ([0, 0], 5), ([0, 0], 0), ([0, 0, 0], 0):
+    for run, room in ([], 200), ([4, 0], 200), ([0, 0], 2), ([0, 0], 0), ([0, 0, 0], 0):
         evaluate(2, 2, room, "r7", run, "", low)
     for room in 0, 13, 115, 116:
         rows(2, 2, room, "r7", [], low)
@@ -1259,10 +1346,9 @@ def of_spin():
         t, m, run, bits, text = line.split(" ", 4)
         t, m, run, nodes = int(t), int(m), [int(number) for number in run.split(",")], paper.parse(text)
         case("read", [1024, m], text.encode(), f"value {len(nodes)}", lent(1024, paper.table(nodes)))
-        *parts, root = truths(paper.table(nodes), m, run)
-        root = [own if bit == "-" else int(bit) for own, bit in zip(root, bits)]
-        words = " ".join("".join(map(str, truth)) for truth in [*parts, root])
-        evaluate(t, m, len(nodes) * t, f"v{root[0]}", run, words, paper.table(nodes))
+        *parts, root = paper.run_truth(nodes, m, run)
+        root = [int(own if bit == "-" else bit) for own, bit in zip(root, bits)]
+        evaluate(t, m, len(nodes), f"v{root[0]}", run, as_text([*parts, root]), paper.table(nodes))
 
 
 def largest():
@@ -1272,8 +1358,8 @@ def largest():
     texts = [paper.row_text(row) for row in paper.rows(nodes, 64, 16)]
     rows(64, 16, 426162, "n32196", texts, paper.table(nodes))
     rows(64, 16, 426161, "r11", [], paper.table(nodes))
-    evaluate(64, 16, 8192, "v1", run, "".join(map(str, run)) * 128, paper.table(nodes))
-    evaluate(64, 16, 8191, "r11", run, "", paper.table(nodes))
+    evaluate(64, 16, 128, "v1", run, "".join(map(str, run)) * 128, paper.table(nodes))
+    evaluate(64, 16, 127, "r11", run, "", paper.table(nodes))
     page = page_of(nodes, 64, 16)
     mps(64, 16, len(page), f"n{len(page)}", page, paper.table(nodes))
     mps(64, 16, len(page) - 1, "r11", "", paper.table(nodes))
@@ -1285,7 +1371,7 @@ def largest():
         rows(64, 16, 3763976, "n272353", texts, paper.table(nodes))
         rows(64, 16, 3763975, "r11", [], paper.table(nodes))
     run = [0] * 63 + [32768]
-    evaluate(64, 16, 8192, "v0", run, ("0" * 63 + "1") * 128, paper.table(nodes))
+    evaluate(64, 16, 128, "v0", run, ("0" * 63 + "1") * 128, paper.table(nodes))
     page = page_of(nodes[:22], 64, 16)
     mps(64, 16, len(page), f"n{len(page)}", page, paper.table(nodes[:22]))
     mps(64, 16, len(page) - 1, "r11", "", paper.table(nodes[:22]))
@@ -1320,6 +1406,8 @@ def main():
     reading_heights()
     evaluating()
     evaluating_windows()
+    evaluating_words()
+    first_slots()
     writing_rows()
     writing_window_rows()
     writing_pages()

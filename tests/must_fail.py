@@ -48,6 +48,13 @@ NAMED = {
         "the lower child's height taken",
         "the height of an unused node not tested",
     ),
+    "N5": (
+        "a bit above T set",
+        "slot 1 repeated",
+        "first slot counted from 0",
+        "zero word gives 64",
+        "F that forgets the last slot",
+    ),
 }
 DEMANDS = ("demand 1", "demand 2", "demand 3")
 MOST = 300  # characters of what the prover says

@@ -106,6 +106,34 @@ def truth(nodes, atoms):
     return truths
 
 
+def run_truth(nodes, m, run):
+    """The truth over a run of numbers, where bit a of a slot's number is that of atom a."""
+    return truth(nodes, [[number >> atom & 1 == 1 for number in run] for atom in range(m)])
+
+
+def truth_bytes(truths):
+    """The scope paper's bytes, which the words replaced: 0 or 1 for node n and slot t at place n * T + t - 1."""
+    return bytes(int(holds) for of_node in truths for holds in of_node)
+
+
+def words(truths):
+    """Request N5: one number of 64 bits for each node, bit t - 1 for slot t, zeros above."""
+    return [sum(2 ** (t - 1) for t, holds in enumerate(of_node, 1) if holds) for of_node in truths]
+
+
+def first_slot(word):
+    """The lowest slot t with bit t - 1 set, or None."""
+    return min((t for t in range(1, 65) if word & 2 ** (t - 1)), default=None)
+
+
+def same_truth(old, new, t):
+    """Whether bytes and words say the same for every node and slot, and the words are 0 above."""
+    slots = [(node, slot) for node in range(len(new)) for slot in range(1, 65)]
+    bit = lambda node, slot: new[node] // 2 ** (slot - 1) % 2
+    byte = lambda node, slot: old[node * t + slot - 1] if slot <= t else 0
+    return len(old) == len(new) * t and max(new) < 2**64 and all(bit(*at) == byte(*at) for at in slots)
+
+
 def heights(nodes):
     """0 for an atom, otherwise 1 more than the highest child; a child that is not below its node, as no good table has it,
     is passed over."""
@@ -156,6 +184,17 @@ def refusal(t, m, data):
     if not 1 <= m <= 16:
         return 2
     return None if good(data, m) else 7
+
+
+def evaluation(t, m, data, run, room):
+    """The evaluator's refusal, the first that applies, or the words; room is counted in words."""
+    found = refusal(t, m, data)
+    if found is not None:
+        return found
+    if len(run) != t or any(number >= 2**m for number in run):
+        return 8
+    nodes = nodes_in(data)
+    return 11 if room < len(nodes) else words(run_truth(nodes, m, run))
 
 
 # The rows at a slot as the scope paper has them; LAST are those at slot T.

@@ -1,7 +1,7 @@
 //! Holds the proved library's answers and buffers to the reference on random inputs.
 
 use std::collections::BTreeMap;
-use std::fmt::Debug;
+use std::fmt::{Debug, LowerHex};
 
 use crate::inputs;
 use crate::random::Random;
@@ -9,43 +9,69 @@ use crate::reference::{self, Verdict, HEIGHT, NODE_BYTES};
 use crate::sepia;
 use crate::shape;
 
-/// Bytes before and behind each output buffer that no call may change.
+/// Cells before and behind each output buffer that no call may change.
 const GUARD: usize = 16;
 
-/// Two output buffers with the same content, one for each side.
+/// What an output buffer holds: bytes or words.
+trait Cell: Copy + PartialEq + LowerHex {
+    /// The lowest bits of a word.
+    fn of(word: u64) -> Self;
+}
+
+impl Cell for u8 {
+    fn of(word: u64) -> Self {
+        word as u8
+    }
+}
+
+impl Cell for u64 {
+    fn of(word: u64) -> Self {
+        word
+    }
+}
+
+/// Two output buffers with the same content, one for each side, and that content.
 #[derive(Default)]
-struct Outputs {
-    reference: Vec<u8>,
-    sepia: Vec<u8>,
+struct Outputs<C> {
+    before: Vec<C>,
+    reference: Vec<C>,
+    sepia: Vec<C>,
     room: usize,
 }
 
-impl Outputs {
+impl<C: Cell> Outputs<C> {
     fn fill(&mut self, random: &mut Random, room: usize) {
         self.room = room;
-        let (first, step) = (random.next() as u8, random.next() as u8 | 1);
-        self.reference.clear();
-        self.reference.extend((0..room + 2 * GUARD).map(|place| first.wrapping_add(step.wrapping_mul(place as u8))));
-        self.sepia.clear();
-        self.sepia.extend_from_slice(&self.reference);
+        let (first, step) = (random.next(), random.next() | 1);
+        self.before.clear();
+        let cell = |place: usize| C::of(first.wrapping_add(step.wrapping_mul(place as u64)));
+        self.before.extend((0..room + 2 * GUARD).map(cell));
+        self.reference.clone_from(&self.before);
+        self.sepia.clone_from(&self.before);
     }
 
-    fn of_reference(&mut self) -> &mut [u8] {
+    fn of_reference(&mut self) -> &mut [C] {
         &mut self.reference[GUARD..GUARD + self.room]
     }
 
-    fn of_sepia(&mut self) -> &mut [u8] {
+    fn of_sepia(&mut self) -> &mut [C] {
         &mut self.sepia[GUARD..GUARD + self.room]
     }
 
     fn difference(&self) -> Option<String> {
         let place = self.reference.iter().zip(&self.sepia).position(|(a, b)| a != b)?;
         Some(format!(
-            "output byte {}: reference {:02x}, sepia {:02x}",
+            "output cell {}: reference {:02x}, sepia {:02x}",
             place as isize - GUARD as isize,
             self.reference[place],
             self.sepia[place]
         ))
+    }
+
+    /// Whether the library has changed nothing but the first `written` cells.
+    fn kept_past(&self, written: usize) -> bool {
+        let (start, end) = (GUARD, GUARD + written);
+        self.sepia[..start] == self.before[..start] && self.sepia[end..] == self.before[end..]
     }
 }
 
@@ -91,24 +117,32 @@ fn hex(bytes: &[u8]) -> String {
 }
 
 /// Tells how the two sides differ, if they do.
-fn compare<A: PartialEq + Debug>(
-    reference: &A,
-    sepia: &A,
-    outputs: Option<&Outputs>,
-    inputs_kept: bool,
-) -> Option<String> {
+fn compare<A: PartialEq + Debug>(reference: &A, sepia: &A, inputs_kept: bool) -> Option<String> {
     if reference != sepia {
         Some(format!("answer: reference {reference:?}, sepia {sepia:?}"))
     } else if !inputs_kept {
         Some("sepia changed an input".to_string())
     } else {
-        outputs.and_then(Outputs::difference)
+        None
     }
+}
+
+/// The same for a call with an output: also how the buffers differ, or that a refused call wrote.
+fn compare_outputs<C: Cell>(
+    reference: Result<usize, u32>,
+    sepia: Result<usize, u32>,
+    outputs: &Outputs<C>,
+    inputs_kept: bool,
+) -> Option<String> {
+    compare(&reference, &sepia, inputs_kept).or_else(|| outputs.difference()).or_else(|| {
+        let written = sepia.is_err() && !outputs.kept_past(0);
+        written.then(|| "sepia refused, and changed the output".to_string())
+    })
 }
 
 fn read(cases: u64, random: &mut Random, counts: &mut Counts) -> Result<(), String> {
     let mut text = Vec::new();
-    let mut outputs = Outputs::default();
+    let mut outputs = Outputs::<u8>::default();
     for case in 0..cases {
         let m = inputs::atom_count(random);
         inputs::text(random, m, &mut text);
@@ -118,7 +152,7 @@ fn read(cases: u64, random: &mut Random, counts: &mut Counts) -> Result<(), Stri
         let kept = text.clone();
         let expected = reference::read(&text, m, outputs.of_reference());
         let answer = sepia::read(&text, m, outputs.of_sepia());
-        if let Some(difference) = compare(&expected, &answer, Some(&outputs), kept == text) {
+        if let Some(difference) = compare_outputs(expected, answer, &outputs, kept == text) {
             return Err(format!(
                 "case {case}: {difference}\n  text {} ({:?})\n  M {m} room {room}",
                 hex(&text),
@@ -141,17 +175,19 @@ fn read(cases: u64, random: &mut Random, counts: &mut Counts) -> Result<(), Stri
 
 fn evaluate(cases: u64, random: &mut Random, counts: &mut Counts) -> Result<(), String> {
     let (mut table, mut run) = (Vec::new(), Vec::new());
-    let mut outputs = Outputs::default();
+    let mut outputs = Outputs::<u64>::default();
     for case in 0..cases {
         let (t, m) = (inputs::horizon(random), inputs::atom_count(random));
         inputs::table(random, m, &mut table);
         inputs::run(random, t, m, &mut run);
-        let room = inputs::room(random, inputs::truth_bytes(&table, t));
+        let room = inputs::room(random, shape::len(&table));
         outputs.fill(random, room);
         let kept = (table.clone(), run.clone());
         let expected = reference::evaluate(&table, t, m, &run, outputs.of_reference());
         let answer = sepia::evaluate(&table, t, m, &run, outputs.of_sepia());
-        if let Some(difference) = compare(&expected, &answer, Some(&outputs), kept.0 == table && kept.1 == run) {
+        let difference = compare_outputs(expected, answer, &outputs, kept.0 == table && kept.1 == run)
+            .or_else(|| compare_bytes(answer, &table, t, m, &run, &mut outputs));
+        if let Some(difference) = difference {
             return Err(format!(
                 "case {case}: {difference}\n  table {}\n  T {t} M {m} room {room}\n  run {run:?}",
                 hex(&table)
@@ -162,13 +198,73 @@ fn evaluate(cases: u64, random: &mut Random, counts: &mut Counts) -> Result<(), 
             Err(number) => refusal(number),
         });
         note_table(counts, &expected, &table, t, m);
+        if expected.is_ok() {
+            let root = outputs.of_sepia()[shape::len(&table) - 1];
+            counts.note(root & 1 == 0 && root != 0, "a root that holds first at a later slot");
+            counts.note(root == 0, "a root that holds at no slot");
+            counts.note(root >> 63 == 1, "a root that holds at slot 64");
+        }
+    }
+    Ok(())
+}
+
+/// How the library's words differ from the bytes of before, if they do: the same answer, where the bytes have room for
+/// as many nodes as the words; the truth of every node at every slot; zeros above; nothing behind the words; and the
+/// root's first slot.
+fn compare_bytes(
+    answer: Result<usize, u32>,
+    table: &[u8],
+    t: usize,
+    m: usize,
+    run: &[u16],
+    outputs: &mut Outputs<u64>,
+) -> Option<String> {
+    let mut bytes = vec![0; outputs.room * t.min(reference::MAX_SLOTS)];
+    let expected = reference::evaluate_bytes(table, t, m, run, &mut bytes);
+    if expected != answer {
+        return Some(format!("answer: bytes {expected:?}, sepia {answer:?}"));
+    }
+    answer.ok()?;
+    let nodes = shape::len(table);
+    if !outputs.kept_past(nodes) {
+        return Some("sepia wrote past the words".to_string());
+    }
+    let words = &outputs.of_sepia()[..nodes];
+    for (node, (word, truth)) in words.iter().zip(bytes.chunks_exact(t)).enumerate() {
+        let slot = (0..64).find(|&slot| word >> slot & 1 != u64::from(truth.get(slot).copied().unwrap_or(0)));
+        if let Some(slot) = slot {
+            return Some(format!("node {node}, slot {}: bytes {truth:?}, sepia {word:x}", slot + 1));
+        }
+    }
+    let first = bytes[(nodes - 1) * t..][..t].iter().position(|&truth| truth == 1).map(|place| place + 1);
+    let slot = sepia::first_slot(words[nodes - 1]);
+    (first != slot).then(|| format!("the root's first slot: bytes {first:?}, sepia {slot:?}"))
+}
+
+/// Words without a plan, after none set, all set and each bit alone.
+fn first_slot(cases: u64, random: &mut Random, counts: &mut Counts) -> Result<(), String> {
+    let fixed = [0, u64::MAX].into_iter().chain((0..64).map(|bit| 1 << bit));
+    let all = fixed.chain(std::iter::from_fn(|| Some(inputs::word(random))));
+    for (case, word) in all.take(cases as usize).enumerate() {
+        let (expected, answer) = (reference::first_slot(word), sepia::first_slot(word));
+        if let Some(difference) = compare(&expected, &answer, true) {
+            return Err(format!("case {case}: {difference}\n  word {word:016x}"));
+        }
+        counts.add(match expected {
+            None => "no slot".to_string(),
+            Some(1) => "slot 1".to_string(),
+            Some(64) => "slot 64".to_string(),
+            Some(_) => "slots 2 to 63".to_string(),
+        });
+        counts.note(word.count_ones() == 1, "a single bit");
+        counts.note(word.count_ones() >= 32, "32 bits or more");
     }
     Ok(())
 }
 
 fn rows(cases: u64, random: &mut Random, counts: &mut Counts) -> Result<(), String> {
     let mut table = Vec::new();
-    let mut outputs = Outputs::default();
+    let mut outputs = Outputs::<u8>::default();
     for case in 0..cases {
         let (t, m) = (inputs::horizon(random), inputs::atom_count(random));
         inputs::table(random, m, &mut table);
@@ -177,7 +273,7 @@ fn rows(cases: u64, random: &mut Random, counts: &mut Counts) -> Result<(), Stri
         let kept = table.clone();
         let expected = reference::rows(&table, t, m, outputs.of_reference());
         let answer = sepia::rows(&table, t, m, outputs.of_sepia());
-        if let Some(difference) = compare(&expected, &answer, Some(&outputs), kept == table) {
+        if let Some(difference) = compare_outputs(expected, answer, &outputs, kept == table) {
             return Err(format!("case {case}: {difference}\n  table {}\n  T {t} M {m} room {room}", hex(&table)));
         }
         counts.add(match expected {
@@ -253,7 +349,7 @@ fn has_cancelled(table: &[u8]) -> bool {
 
 fn mps(cases: u64, random: &mut Random, counts: &mut Counts) -> Result<(), String> {
     let mut table = Vec::new();
-    let mut outputs = Outputs::default();
+    let mut outputs = Outputs::<u8>::default();
     for case in 0..cases {
         let (t, m) = (inputs::horizon(random), inputs::atom_count(random));
         inputs::table(random, m, &mut table);
@@ -263,7 +359,7 @@ fn mps(cases: u64, random: &mut Random, counts: &mut Counts) -> Result<(), Strin
         let kept = table.clone();
         let expected = reference::mps_page(&table, t, m, outputs.of_reference());
         let answer = sepia::mps_page(&table, t, m, outputs.of_sepia());
-        if let Some(difference) = compare(&expected, &answer, Some(&outputs), kept == table) {
+        if let Some(difference) = compare_outputs(expected, answer, &outputs, kept == table) {
             return Err(format!("case {case}: {difference}\n  table {}\n  T {t} M {m} room {room}", hex(&table)));
         }
         counts.add(match expected {
@@ -294,7 +390,7 @@ fn judge(cases: u64, random: &mut Random, counts: &mut Counts) -> Result<(), Str
         let kept = (table.clone(), figures.clone());
         let expected = reference::judge(&table, t, m, &figures, e);
         let answer = sepia::judge(&table, t, m, &figures, e);
-        if let Some(difference) = compare(&expected, &answer, None, kept.0 == table && kept.1 == figures) {
+        if let Some(difference) = compare(&expected, &answer, kept.0 == table && kept.1 == figures) {
             return Err(format!(
                 "case {case}: {difference}\n  table {}\n  T {t} M {m} e {e}\n  figures {figures:?}",
                 hex(&table)
@@ -319,8 +415,14 @@ fn judge(cases: u64, random: &mut Random, counts: &mut Counts) -> Result<(), Str
 /// Runs `cases` inputs through each call; true when all agree.
 pub fn run(cases: u64, seed: u64) -> bool {
     type Call = fn(u64, &mut Random, &mut Counts) -> Result<(), String>;
-    let calls: [(&'static str, Call); 5] =
-        [("read", read), ("evaluate", evaluate), ("rows", rows), ("judge", judge), ("mps", mps)];
+    let calls: [(&'static str, Call); 6] = [
+        ("read", read),
+        ("evaluate", evaluate),
+        ("rows", rows),
+        ("judge", judge),
+        ("mps", mps),
+        ("first slot", first_slot),
+    ];
     println!("seed {seed}");
     for (number, (name, call)) in calls.into_iter().enumerate() {
         // Each call has inputs of its own, whatever the number of cases.

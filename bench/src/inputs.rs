@@ -57,7 +57,7 @@ pub fn tolerance(random: &mut Random) -> i32 {
     }
 }
 
-/// The length of an output buffer where `needed` bytes are needed.
+/// The length of an output buffer where `needed` bytes or words are needed.
 pub fn room(random: &mut Random, needed: usize) -> usize {
     match random.below(20) {
         0..=8 => needed,
@@ -552,7 +552,7 @@ pub fn table(random: &mut Random, m: usize, table: &mut Vec<u8>) {
     }
 }
 
-/// The bytes that the truth of a table takes, where it is good.
+/// The bytes that the truth of a table takes, one for each node and slot, where it is good.
 pub fn truth_bytes(table: &[u8], t: usize) -> usize {
     table.len() / NODE_BYTES * t.min(reference::MAX_SLOTS)
 }
@@ -608,7 +608,7 @@ pub fn figures(random: &mut Random, table: &[u8], t: usize, m: usize, e: i32, fi
     let mut truth = vec![0; truth_bytes(table, slots)];
     for _ in 0..3 {
         good_run(random, slots, atoms, &mut run);
-        if reference::evaluate(table, slots, atoms, &run, &mut truth) != Ok(0) {
+        if reference::evaluate_bytes(table, slots, atoms, &run, &mut truth) != Ok(0) {
             break;
         }
     }
@@ -665,6 +665,19 @@ pub fn figures(random: &mut Random, table: &[u8], t: usize, m: usize, e: i32, fi
     }
 }
 
+/// A word with many bits set or few, perhaps with none below some slot.
+pub fn word(random: &mut Random) -> u64 {
+    // Each of the steps halves the chance of a set bit, or of an unset one.
+    let thin = (0..random.below(8)).fold(u64::MAX, |word, _| word & random.next());
+    let word = if random.percent(30) { !thin } else { thin };
+    match random.below(10) {
+        0..=4 => word,
+        5..=7 => word << random.below(64),
+        8 => word >> random.below(64),
+        _ => 1 << random.below(64),
+    }
+}
+
 // ------------------------------------------------------------------------------------- for the timings
 
 /// A text of exactly `nodes` nodes, mostly untils, filled with spaces up to the longest length.
@@ -705,7 +718,7 @@ pub fn true_run(table: &[u8], t: usize, m: usize) -> Vec<u16> {
     let mut truth = vec![0; truth_bytes(table, t)];
     loop {
         good_run(&mut random, t, m, &mut run);
-        if reference::evaluate(table, t, m, &run, &mut truth) == Ok(1) {
+        if reference::evaluate_bytes(table, t, m, &run, &mut truth) == Ok(1) {
             return run;
         }
     }
@@ -715,7 +728,7 @@ pub fn true_run(table: &[u8], t: usize, m: usize) -> Vec<u16> {
 pub fn solution(table: &[u8], t: usize, m: usize, run: &[u16]) -> Vec<i32> {
     let one = reference::ONE as i32;
     let mut truth = vec![0; truth_bytes(table, t)];
-    let answer = reference::evaluate(table, t, m, run, &mut truth);
+    let answer = reference::evaluate_bytes(table, t, m, run, &mut truth);
     assert_eq!(answer, Ok(1), "the rule does not hold over the run");
     let atoms = (0..m).flat_map(|atom| run.iter().map(move |numbers| i32::from(numbers >> atom & 1) * one));
     atoms.chain(truth.iter().map(|&truth| i32::from(truth) * one)).collect()

@@ -375,9 +375,131 @@ fn checked_table(table: &[u8], t: usize, m: usize) -> Result<Table<'_>, u32> {
 
 // ------------------------------------------------------------------------------------------- evaluate
 
-/// Writes the truth of node n at slot s, 0 or 1, to place n·T + s − 1 of `out`; the result is the root's
-/// truth at slot 1.
-pub fn evaluate(table: &[u8], t: usize, m: usize, run: &[u16], out: &mut [u8]) -> Result<usize, u32> {
+/// Writes a word for each node to `out`, in node order, bit s − 1 of it the node's truth at slot s; the result is the
+/// root's truth at slot 1.
+pub fn evaluate(table: &[u8], t: usize, m: usize, run: &[u16], out: &mut [u64]) -> Result<usize, u32> {
+    let table = checked_table(table, t, m)?;
+    require(run_good(run, t, m), 8)?;
+    require(out.len() >= table.len(), 11)?;
+    let atoms = columns(run, m);
+    let all = u64::MAX >> (MAX_SLOTS - t);
+    let mut root = 0;
+    for (number, node) in table.nodes().enumerate() {
+        let (p, q) = (|| out[node.left], || out[node.right]);
+        root = match node.kind {
+            ATOM => atoms[node.left],
+            NOT => p() ^ all,
+            AND => p() & q(),
+            OR => p() | q(),
+            IMPLIES => p() ^ all | q(),
+            EVENTUALLY => up_to_last(p()),
+            ALWAYS => up_to_last(p() ^ all) ^ all,
+            UNTIL => until(p(), q()),
+            WITHIN => within(p(), &node, t),
+            _ => within(p() ^ all, &node, t) ^ all,
+        };
+        out[number] = root;
+    }
+    Ok((root & 1) as usize)
+}
+
+fn run_good(run: &[u16], t: usize, m: usize) -> bool {
+    run.len() == t && u32::from(run.iter().fold(0, |all, numbers| all | numbers)) >> m == 0
+}
+
+/// The words of all atoms.
+fn columns(run: &[u16], m: usize) -> [u64; MAX_ATOMS] {
+    match m {
+        0..=4 => turned::<4>(run),
+        5..=8 => turned::<8>(run),
+        _ => turned::<16>(run),
+    }
+}
+
+/// The words of `SIDE` atoms: squares of `SIDE` slots and atoms stand beside each other in as many rows, and each is
+/// turned over by exchanging ever smaller squares within it.
+#[inline(always)]
+fn turned<const SIDE: usize>(run: &[u16]) -> [u64; MAX_ATOMS] {
+    let mut rows = [0; MAX_ATOMS];
+    let (squares, rest) = run.as_chunks::<SIDE>();
+    let mut place = 0;
+    for slots in squares {
+        lay(&mut rows, slots, place);
+        place += SIDE;
+    }
+    lay(&mut rows, rest, place);
+    let rows_used = &mut rows[..SIDE];
+    if SIDE == 16 {
+        exchange::<8>(rows_used, 0x00FF_00FF_00FF_00FF);
+    }
+    if SIDE >= 8 {
+        exchange::<4>(rows_used, 0x0F0F_0F0F_0F0F_0F0F);
+    }
+    exchange::<2>(rows_used, 0x3333_3333_3333_3333);
+    exchange::<1>(rows_used, 0x5555_5555_5555_5555);
+    rows
+}
+
+/// Puts a slot's numbers into each row, from bit `place` on.
+#[inline(always)]
+fn lay(rows: &mut [u64], slots: &[u16], place: usize) {
+    for (row, &numbers) in rows.iter_mut().zip(slots) {
+        *row |= u64::from(numbers) << place;
+    }
+}
+
+/// Exchanges the upper right squares, of `SIDE` rows and bits, with the lower left ones; `mask` has the lower bits.
+#[inline(always)]
+fn exchange<const SIDE: usize>(rows: &mut [u64], mask: u64) {
+    for square in rows.chunks_exact_mut(2 * SIDE) {
+        let (upper, lower) = square.split_at_mut(SIDE);
+        for (upper, lower) in upper.iter_mut().zip(lower) {
+            let different = (*upper >> SIDE ^ *lower) & mask;
+            *upper ^= different << SIDE;
+            *lower ^= different;
+        }
+    }
+}
+
+/// All slots up to the last one at which p holds.
+fn up_to_last(p: u64) -> u64 {
+    u64::MAX.checked_shr(p.leading_zeros()).unwrap_or(0)
+}
+
+fn until(p: u64, q: u64) -> u64 {
+    // Where q is met within the next k slots, p holding until then, and where p holds throughout them.
+    let (mut met, mut held) = (q, p);
+    for k in [1, 2, 4, 8, 16, 32] {
+        met |= held & met >> k;
+        held &= held >> k;
+    }
+    met
+}
+
+/// F[a,b]. With slot T as the sign, shifts repeat it for the slots after it.
+fn within(p: u64, node: &Node, t: usize) -> u64 {
+    let spare = MAX_SLOTS - t;
+    let mut met = (p << spare) as i64 >> node.a;
+    let width = node.b - node.a + 1;
+    let mut k = 1;
+    while 2 * k <= width {
+        met |= met >> k;
+        k *= 2;
+    }
+    met |= met >> (width - k);
+    met as u64 >> spare
+}
+
+/// The first slot with a set bit.
+pub fn first_slot(word: u64) -> Option<usize> {
+    (1..=MAX_SLOTS).find(|slot| word >> (slot - 1) & 1 == 1)
+}
+
+// --------------------------------------------------------------------------------------- evaluate bytes
+
+/// The same with a byte for each node and slot, in the scope paper's words: writes the truth of node n at slot s, 0 or
+/// 1, to place n·T + s − 1 of `out`.
+pub fn evaluate_bytes(table: &[u8], t: usize, m: usize, run: &[u16], out: &mut [u8]) -> Result<usize, u32> {
     let table = checked_table(table, t, m)?;
     require(run.len() == t && run.iter().all(|&number| u32::from(number) >> m == 0), 8)?;
     let written = table.len() * t;

@@ -27,9 +27,10 @@ extern "C" {
         m: usize,
         run: *const u16,
         run_len: usize,
-        out: *mut u8,
-        out_len: usize,
+        out: *mut u64,
+        out_words: usize,
     ) -> RawAnswer;
+    fn sepia_first_slot(word: u64) -> u32;
     fn sepia_rows(table: *const u8, table_len: usize, t: usize, m: usize, out: *mut u8, out_len: usize) -> RawAnswer;
     fn sepia_mps(table: *const u8, table_len: usize, t: usize, m: usize, out: *mut u8, out_len: usize) -> RawAnswer;
     fn sepia_judge(
@@ -55,11 +56,19 @@ pub fn read(text: &[u8], m: usize, out: &mut [u8]) -> Result<usize, u32> {
     answer(unsafe { sepia_read(text.as_ptr(), text.len(), m, out.as_mut_ptr(), out.len()) })
 }
 
-pub fn evaluate(table: &[u8], t: usize, m: usize, run: &[u16], out: &mut [u8]) -> Result<usize, u32> {
+pub fn evaluate(table: &[u8], t: usize, m: usize, run: &[u16], out: &mut [u64]) -> Result<usize, u32> {
     // SAFETY: as in `read`.
     answer(unsafe {
         sepia_evaluate(table.as_ptr(), table.len(), t, m, run.as_ptr(), run.len(), out.as_mut_ptr(), out.len())
     })
+}
+
+pub fn first_slot(word: u64) -> Option<usize> {
+    // SAFETY: nothing is lent.
+    match unsafe { sepia_first_slot(word) } {
+        0 => None,
+        slot => Some(slot as usize),
+    }
 }
 
 pub fn rows(table: &[u8], t: usize, m: usize, out: &mut [u8]) -> Result<usize, u32> {

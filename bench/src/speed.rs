@@ -7,6 +7,7 @@ use crate::clock::processor_time;
 use crate::inputs;
 use crate::reference;
 use crate::sepia;
+use crate::shape;
 
 const ROUNDS: usize = 7;
 /// Timings of each side in a round, taken in turn.
@@ -111,6 +112,105 @@ fn print_pair(call: &str, input: &str, rounds: &[[f64; 2]]) {
     );
 }
 
+/// A rule with all that the calls take.
+struct Case {
+    name: String,
+    label: String,
+    text: Vec<u8>,
+    table: Vec<u8>,
+    t: usize,
+    m: usize,
+    run: Vec<u16>,
+    figures: Vec<i32>,
+}
+
+fn case(Input { name, text, t, m }: Input) -> Case {
+    let mut table = vec![0; reference::MAX_NODES * reference::NODE_BYTES];
+    let nodes = reference::read(&text, m, &mut table).expect("a rule");
+    table.truncate(nodes * reference::NODE_BYTES);
+    let run = inputs::true_run(&table, t, m);
+    let figures = inputs::solution(&table, t, m, &run);
+    let label = format!("{name}: {nodes} nodes, {} bytes, T {t}, M {m}", text.len());
+    Case { name, label, text, table, t, m, run, figures }
+}
+
+/// Prints a line, and gives that of the reader by levels.
+fn time_read(Case { label, text, table, m, .. }: &Case) -> String {
+    let (mut one, mut two, mut three) = (vec![0; table.len()], vec![0; table.len()], vec![0; table.len()]);
+    let rounds = measure([
+        &mut || finish(reference::read(black_box(text), *m, black_box(&mut one))),
+        &mut || finish(sepia::read(black_box(text), *m, black_box(&mut two))),
+        &mut || finish(reference::read_by_levels(black_box(text), *m, black_box(&mut three))),
+    ]);
+    assert_eq!(one, two);
+    assert_eq!(one, three);
+    print_pair("read", label, &first_two(&rounds));
+    format!("| {label} | {} | {} |", nanoseconds(&rounds, 2), ratio(&rounds, 1, 2))
+}
+
+/// Prints a line, and gives that of the bytes.
+fn time_evaluate(Case { label, table, t, m, run, .. }: &Case) -> String {
+    let (t, m, nodes) = (*t, *m, shape::len(table));
+    let (mut one, mut two, mut bytes) = (vec![0; nodes], vec![0; nodes], vec![0; nodes * t]);
+    let rounds = measure([
+        &mut || finish(reference::evaluate(black_box(table), t, m, black_box(run), black_box(&mut one))),
+        &mut || finish(sepia::evaluate(black_box(table), t, m, black_box(run), black_box(&mut two))),
+        &mut || finish(reference::evaluate_bytes(black_box(table), t, m, black_box(run), black_box(&mut bytes))),
+    ]);
+    assert_eq!(one, two);
+    print_pair("evaluate", label, &first_two(&rounds));
+    format!("| {label} | {} | {} | {} |", nanoseconds(&rounds, 2), ratio(&rounds, 2, 1), ratio(&rounds, 2, 0))
+}
+
+/// Prints a line, and gives that of the copy.
+fn time_rows(Case { name, label, table, t, m, .. }: &Case) -> String {
+    let (t, m) = (*t, *m);
+    let bytes = reference::row_bytes(table, t, m).expect("rows");
+    let (mut one, mut two, mut three) = (vec![0; bytes], vec![0; bytes], vec![0; bytes]);
+    let count = reference::rows(table, t, m, &mut one).expect("rows");
+    let source = one.clone();
+    let rounds = measure([
+        &mut || finish(reference::rows(black_box(table), t, m, black_box(&mut one))),
+        &mut || finish(sepia::rows(black_box(table), t, m, black_box(&mut two))),
+        &mut || black_box(&mut three).copy_from_slice(black_box(&source)),
+    ]);
+    assert_eq!(one, two);
+    print_pair("rows", &format!("{label}, {count} rows"), &first_two(&rounds));
+    format!(
+        "| {name}: {count} rows, {bytes} bytes | {} | {} | {} |",
+        nanoseconds(&rounds, 2),
+        ratio(&rounds, 1, 2),
+        ratio(&rounds, 0, 2)
+    )
+}
+
+fn time_page(Case { label, table, t, m, .. }: &Case) {
+    let (t, m) = (*t, *m);
+    let bytes = reference::whole_page(table, t, m).expect("a page").len();
+    let (mut one, mut two) = (vec![0; bytes], vec![0; bytes]);
+    let mut rust = || finish(reference::mps_page(black_box(table), t, m, black_box(&mut one)));
+    let mut rattle = || finish(sepia::mps_page(black_box(table), t, m, black_box(&mut two)));
+    let rounds = measure([&mut rust, &mut rattle]);
+    assert_eq!(one, two);
+    print_pair("mps", &format!("{label}, {bytes} bytes of page"), &rounds);
+}
+
+fn time_judge(Case { label, table, t, m, figures, .. }: &Case) {
+    let (t, m) = (*t, *m);
+    let expected = reference::judge(table, t, m, figures, 0);
+    assert!(matches!(expected, Ok(reference::Verdict::Passed(_))));
+    assert_eq!(expected, sepia::judge(table, t, m, figures, 0));
+    let mut rust = || finish(reference::judge(black_box(table), t, m, black_box(figures), 0));
+    let mut rattle = || finish(sepia::judge(black_box(table), t, m, black_box(figures), 0));
+    let rounds = measure([&mut rust, &mut rattle]);
+    print_pair("judge", label, &rounds);
+}
+
+fn print_table(title: &str, heads: &str, lines: &[String]) {
+    println!("\n{title}\n\n{heads}");
+    lines.iter().for_each(|line| println!("{line}"));
+}
+
 pub fn run() {
     println!(
         "Nanoseconds of processor time a call: medians of {ROUNDS} rounds of {REPETITIONS} timings, the sides in turn."
@@ -119,80 +219,27 @@ pub fn run() {
     println!();
     println!("| call | input | Rust | Rattle | ratio | rounds |");
     println!("|---|---|---:|---:|---:|---|");
-    let mut levels = Vec::new();
-    let mut copies = Vec::new();
-    for Input { name, text, t, m } in all_inputs() {
-        let mut table = vec![0; reference::MAX_NODES * reference::NODE_BYTES];
-        let nodes = reference::read(&text, m, &mut table).expect("a rule");
-        table.truncate(nodes * reference::NODE_BYTES);
-        let run = inputs::true_run(&table, t, m);
-        let figures = inputs::solution(&table, t, m, &run);
-        let label = format!("{name}: {nodes} nodes, {} bytes, T {t}, M {m}", text.len());
-        let (mut one, mut two, mut three) = (vec![0; table.len()], vec![0; table.len()], vec![0; table.len()]);
-        let rounds = measure([
-            &mut || finish(reference::read(black_box(&text), m, black_box(&mut one))),
-            &mut || finish(sepia::read(black_box(&text), m, black_box(&mut two))),
-            &mut || finish(reference::read_by_levels(black_box(&text), m, black_box(&mut three))),
-        ]);
-        assert_eq!(one, two);
-        assert_eq!(one, three);
-        print_pair("read", &label, &first_two(&rounds));
-        levels.push(format!("| {label} | {} | {} |", nanoseconds(&rounds, 2), ratio(&rounds, 1, 2)));
-
-        let (mut one, mut two) = (vec![0; nodes * t], vec![0; nodes * t]);
-        let rounds = measure([
-            &mut || finish(reference::evaluate(black_box(&table), t, m, black_box(&run), black_box(&mut one))),
-            &mut || finish(sepia::evaluate(black_box(&table), t, m, black_box(&run), black_box(&mut two))),
-        ]);
-        assert_eq!(one, two);
-        print_pair("evaluate", &label, &rounds);
-
-        let bytes = reference::row_bytes(&table, t, m).expect("rows");
-        let (mut one, mut two, mut three) = (vec![0; bytes], vec![0; bytes], vec![0; bytes]);
-        let count = reference::rows(&table, t, m, &mut one).expect("rows");
-        let source = one.clone();
-        let rounds = measure([
-            &mut || finish(reference::rows(black_box(&table), t, m, black_box(&mut one))),
-            &mut || finish(sepia::rows(black_box(&table), t, m, black_box(&mut two))),
-            &mut || black_box(&mut three).copy_from_slice(black_box(&source)),
-        ]);
-        assert_eq!(one, two);
-        print_pair("rows", &format!("{label}, {count} rows"), &first_two(&rounds));
-        copies.push(format!(
-            "| {name}: {count} rows, {bytes} bytes | {} | {} | {} |",
-            nanoseconds(&rounds, 2),
-            ratio(&rounds, 1, 2),
-            ratio(&rounds, 0, 2)
-        ));
-
-        let bytes = reference::whole_page(&table, t, m).expect("a page").len();
-        let (mut one, mut two) = (vec![0; bytes], vec![0; bytes]);
-        let rounds =
-            measure([&mut || finish(reference::mps_page(black_box(&table), t, m, black_box(&mut one))), &mut || {
-                finish(sepia::mps_page(black_box(&table), t, m, black_box(&mut two)))
-            }]);
-        assert_eq!(one, two);
-        print_pair("mps", &format!("{label}, {bytes} bytes of page"), &rounds);
-
-        let expected = reference::judge(&table, t, m, &figures, 0);
-        assert_eq!(expected, Ok(reference::Verdict::Passed(count)));
-        assert_eq!(expected, sepia::judge(&table, t, m, &figures, 0));
-        let rounds =
-            measure([&mut || finish(reference::judge(black_box(&table), t, m, black_box(&figures), 0)), &mut || {
-                finish(sepia::judge(black_box(&table), t, m, black_box(&figures), 0))
-            }]);
-        print_pair("judge", &label, &rounds);
+    let (mut levels, mut bytes, mut copies) = (Vec::new(), Vec::new(), Vec::new());
+    for case in all_inputs().map(case) {
+        levels.push(time_read(&case));
+        bytes.push(time_evaluate(&case));
+        copies.push(time_rows(&case));
+        time_page(&case);
+        time_judge(&case);
     }
-    println!();
-    println!("The reader beside one in Rust that has a function for each level of the grammar too:");
-    println!();
-    println!("| input | Rust by levels | Rattle over it | rounds |");
-    println!("|---|---:|---:|---|");
-    levels.iter().for_each(|line| println!("{line}"));
-    println!();
-    println!("The row writer beside a copy of its output (memcpy):");
-    println!();
-    println!("| input | copy | Rattle over copy | rounds | Rust over copy | rounds |");
-    println!("|---|---:|---:|---|---:|---|");
-    copies.iter().for_each(|line| println!("{line}"));
+    print_table(
+        "The reader beside one in Rust that has a function for each level of the grammar too:",
+        "| input | Rust by levels | Rattle over it | rounds |\n|---|---:|---:|---|",
+        &levels,
+    );
+    print_table(
+        "The evaluator, which writes words, beside one in Rust that writes a byte for each node and slot:",
+        "| input | Rust by bytes | over Rattle | rounds | over Rust by words | rounds |\n|---|---:|---:|---|---:|---|",
+        &bytes,
+    );
+    print_table(
+        "The row writer beside a copy of its output (memcpy):",
+        "| input | copy | Rattle over copy | rounds | Rust over copy | rounds |\n|---|---:|---:|---|---:|---|",
+        &copies,
+    );
 }

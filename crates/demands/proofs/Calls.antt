@@ -64,7 +64,7 @@ rows-long t m table room n bytes p same e =
     ap length g ∙ ap (λ (ns : List Node). length (rowsBytes (rowsOf t m ns))) (table-same (i .0) (nodesOf p) (sym (i .1 .records) ∙ same))
 
 evaluated-long : (t m : ℕ) (table run : List ℕ) (room v : ℕ) (bytes : List ℕ) → evaluateOutcome t m table run room ≡ answered (wrote v bytes) →
-    (ns : List Node) × Good m table ns × (length bytes ≡ length ns * t)
+    (ns : List Node) × Good m table ns × (length bytes ≡ length ns)
 evaluated-long t m table run room v bytes e =
     let i = evaluator-exact t m table run room .answers (wrote v bytes) .0 e .1 in
     let g : bytes ≡ i .2 = cc (i .6) in
@@ -101,11 +101,11 @@ module _ (t m : ℕ) (text run table rows truth table′ : List ℕ) (left : tab
     rows-are : rowsOutcome t m (take (8 * size p) table′) (length rows) ≡ answered (wrote count second)
     evaluate-is : evaluateOutcome t m (take (8 * size p) table′) run (length truth) ≡ answered (wrote v third)
     second-long : length second ≡ length (rowsBytes (rowsOf t m (nodesOf p)))
-    third-long : length third ≡ size p * t
+    third-long : length third ≡ size p
     at : Demand3At t m D run p first count second v third
 
   abbrev Rooms : Rule → Type 0
-  Rooms p = (8 * size p ≤ length table) × (length (rowsBytes (rowsOf t m (nodesOf p))) ≤ length rows) × (size p * t ≤ length truth)
+  Rooms p = (8 * size p ≤ length table) × (length (rowsBytes (rowsOf t m (nodesOf p))) ≤ length rows) × (size p ≤ length truth)
 
   facts : None (TextRefused m text) → SlotsAllowed t → RunGood t m run → (D : ℕ) → 1 ≤ D → (p : Rule) × Says text p × (Rooms p → Facts D p)
   facts none slots runs D 0<D =
@@ -135,7 +135,7 @@ module _ (t m : ℕ) (text run table rows truth table′ : List ℕ) (left : tab
             rows-are = rw handed f;
             evaluate-is = rw handed g;
             second-long = rows-long t m first (length rows) count second p (at .table-is) f;
-            third-long = x .2 ∙ ap (λ (n : ℕ). n * t) same;
+            third-long = x .2 ∙ same;
             at = at;
           }
 
@@ -187,7 +187,7 @@ module _ (t m : ℕ) (text run table rows truth table′ : List ℕ) (left : tab
         (f .0, f .1, λ a b c. ended (f .0) (f .2 (a, b, c)))
       where
         ended : (p : Rule) → Facts D p → (c w : ℕ) × (Done n count v ≡ Done (size p) c w) ×
-            Demand3At t m D run p (take (8 * size p) table′) c (take (length (rowsBytes (rowsOf t m (nodesOf p)))) rows′) w (take (size p * t) truth′)
+            Demand3At t m D run p (take (8 * size p) table′) c (take (length (rowsBytes (rowsOf t m (nodesOf p)))) rows′) w (take (size p) truth′)
         ended p x =
             let k = nodes-are D p x n e in
             let a : rowsOutcome t m (take (8 * n) table′) (length rows) ≡ answered (wrote (x .count) (x .second)) = ap (λ (j : ℕ). rowsOutcome t m (take (8 * j) table′) (length rows)) k ∙ x .rows-are in
@@ -195,5 +195,5 @@ module _ (t m : ℕ) (text run table rows truth table′ : List ℕ) (left : tab
             let c : count ≡ x .count = cc (h ∙ ap result a) in
             let w : v ≡ x .v = cc (i ∙ ap result b) in
             let r₂ = left-at (rowsOutcome t m (take (8 * n) table′) (length rows)) (x .count) (length (rowsBytes (rowsOf t m (nodesOf p)))) (x .second) rows rows′ h′ a (x .second-long) in
-            let r₃ = left-at (evaluateOutcome t m (take (8 * n) table′) run (length truth)) (x .v) (size p * t) (x .third) truth truth′ i′ b (x .third-long) in
+            let r₃ = left-at (evaluateOutcome t m (take (8 * n) table′) run (length truth)) (x .v) (size p) (x .third) truth truth′ i′ b (x .third-long) in
             (x .count, x .v, cc, rw (x .handed, r₂, r₃) (x .at))

@@ -2,7 +2,7 @@
 use mathlib.Core.Path.{_≡_, refl, sym, ap, _∙_}
 use mathlib.Core.Logic.{_↔_}
 use mathlib.Core.List.{List}
-use Prim.Native.Nat.{ℕ, _+_, _*_}
+use Prim.Native.Nat.{ℕ, _+_, _*_, _<_}
 use native.Mathlib.Omega.{arith}
 use lib.ListN.{length, drop, getD, List·getD-append}
 use lib.IntN.{ℤ}
@@ -17,8 +17,11 @@ use Rattle.rules.specs.Demands.{Answer, Written, Exact}
 use Rattle.rules.specs.Demands.Answer.{refused, answered}
 use Rattle.rules.specs.Demands.Written.{wrote}
 use Rattle.rules.specs.Outcome.{result, buffer, readOutcome, evaluateOutcome, rowsOutcome, judgeOutcome}
+use Rattle.rules.specs.Truth.{slotBit}
+use Rattle.rules.specs.Unaltered.{bytesOf, words-give-bytes, words-say-same}
 use Rattle.rules.specs.Theorems.{reader-exact, evaluator-exact, rows-exact, judge-exact}
 use Rattle.demands.specs.Heights.{ReaderHeights}
+use Rattle.demands.specs.Words.{SaysBytes}
 use Rattle.demands.specs.Demand2.{Holding, ReaderAnswers, EvaluatorAnswers, RowWriterAnswers, JudgeAnswers}
 
 record Wrote (a : Answer Written) (n : ℕ) (out out′ : List ℕ) : Type 0 where
@@ -73,6 +76,23 @@ evaluator-answers t m table run answer out out′ told left v =
     let f : bytes ≡ i .2 = cc (i .6) in
     (i .0, i .2, i .3, i .4, rw e at (i .5), rw f at h))
     (λ i. (i .1, (i .0, v, i .1, i .2, i .3, i .4, refl)))
+
+pub evaluator-bytes : (t m : ℕ) (table run : List ℕ) (answer : Answer ℕ) (out out′ : List ℕ) → EvaluatorAnswers t m table run answer out out′ →
+    SaysBytes t m table run answer out′
+evaluator-bytes t m table run answer out out′ told v e =
+    let x = told v .0 e .1 in
+    let ns = x .0 in
+    let words = x .1 in
+    let bytes = words-give-bytes t run ns words (x .3) in (
+      ns,
+      bytesOf t words,
+      x .2,
+      bytes,
+      λ n s h l u.
+          let inside : n < length words = omega (arith, x .3 .count) in
+          ap (λ (o : List ℕ). slotBit (getD o n 0) s) (x .5) ∙ ap (λ (w : ℕ). slotBit w s) (List·getD-append words (drop (length words) out) 0 n inside)
+          ∙ words-say-same t run ns (bytesOf t words) words bytes (x .3) n s h l u,
+    )
 
 pub row-writer-answers : (t m : ℕ) (table : List ℕ) (answer : Answer ℕ) (out out′ : List ℕ) →
     answer ≡ result (rowsOutcome t m table (length out)) → out′ ≡ buffer (rowsOutcome t m table (length out)) out → RowWriterAnswers t m table answer out out′

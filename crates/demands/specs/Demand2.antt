@@ -3,15 +3,16 @@
 use mathlib.Core.Path.{_≡_}
 use mathlib.Core.Logic.{_↔_}
 use mathlib.Core.List.{List, _++_}
+use mathlib.Core.Option.{Option, none, some}
 use Prim.Native.Nat.{ℕ}
 use lib.ListN.{length, drop}
 use lib.IntN.{ℤ, pos}
 use Rattle.rules.specs.Rule.{Rule, size}
 use Rattle.rules.specs.Grammar.{Says}
 use Rattle.rules.specs.Table.{Node, Good, tableBytes, nodesOf, ruleAt, root}
-use Rattle.rules.specs.Truth.{Holds, endless, TruthByte, TruthBytes}
+use Rattle.rules.specs.Truth.{Holds, endless, TruthBit, TruthWords, SlotSet}
 use Rattle.rules.specs.Rows.{rowsOf, rowsBytes}
-use Rattle.rules.specs.Judge.{None, Verdict, Judged}
+use Rattle.rules.specs.Judge.{Lowest, None, Verdict, Judged}
 use Rattle.rules.specs.Refusals.{ReadRefused, EvaluateRefused, RowsRefused, JudgeRefused}
 use Rattle.rules.specs.Demands.{Answer}
 use Rattle.rules.specs.Demands.Answer.{answered}
@@ -26,12 +27,17 @@ ReaderAnswers m text answer out out′ =
     (n : ℕ) → (answer ≡ answered n) ↔
     (None (ReadRefused m text (length out)) × ((p : Rule) × Says text p × (n ≡ size p) × Holding (tableBytes (nodesOf p)) out out′))
 
--- the evaluator answers the root's truth at slot 1, and each node's truth at each slot is then written
+-- the evaluator answers the root's truth at slot 1, and the words with each node's truth at each slot are then written
 abbrev pub EvaluatorAnswers : (t m : ℕ) (table run : List ℕ) (answer : Answer ℕ) (out out′ : List ℕ) → Type 0
 EvaluatorAnswers t m table run answer out out′ =
     (v : ℕ) → (answer ≡ answered v) ↔
     (None (EvaluateRefused t m table run (length out)) ×
-    ((ns : List Node) × (bytes : List ℕ) × Good m table ns × TruthBytes t run ns bytes × TruthByte (Holds (endless t run) (ruleAt ns (root ns)) 1) v × Holding bytes out out′))
+    ((ns : List Node) × (words : List ℕ) × Good m table ns × TruthWords t run ns words ×
+    TruthBit (Holds (endless t run) (ruleAt ns (root ns)) 1) v × Holding words out out′))
+
+-- the first slot with a set bit, or that there is none
+abbrev pub FirstAnswers : (word : ℕ) (answer : Option ℕ) → Type 0
+FirstAnswers word answer = ((t : ℕ) → (answer ≡ some t) ↔ Lowest (SlotSet word) t) × ((answer ≡ none) ↔ None (SlotSet word))
 
 -- the row writer answers the row count, and the records of the table's rows are then written
 abbrev pub RowWriterAnswers : (t m : ℕ) (table : List ℕ) (answer : Answer ℕ) (out out′ : List ℕ) → Type 0

@@ -21,6 +21,6 @@ abbrev pub Demanded : (t m : ℕ) (text run table rows truth table′ rows′ tr
 Demanded t m text run table rows truth table′ rows′ truth′ r =
     None (TextRefused m text) → SlotsAllowed t → RunGood t m run → (D : ℕ) → 1 ≤ D →
     (p : Rule) × Says text p ×
-    (8 * size p ≤ length table → length (rowsBytes (rowsOf t m (nodesOf p))) ≤ length rows → size p * t ≤ length truth →
+    (8 * size p ≤ length table → length (rowsBytes (rowsOf t m (nodesOf p))) ≤ length rows → size p ≤ length truth →
     (count v : ℕ) × (r ≡ Done (size p) count v) ×
-    Demand3At t m D run p (take (8 * size p) table′) count (take (length (rowsBytes (rowsOf t m (nodesOf p)))) rows′) v (take (size p * t) truth′))
+    Demand3At t m D run p (take (8 * size p) table′) count (take (length (rowsBytes (rowsOf t m (nodesOf p)))) rows′) v (take (size p) truth′))

@@ -1,6 +1,7 @@
 pub mod Demand1
 pub mod Demand2
 pub mod Heights
+pub mod Words
 pub mod Demand3
 pub mod Passed
 pub mod Shortfall

@@ -2,10 +2,12 @@
 ghost use Rattle.answers.specs.Told.{told};
 ghost use Rattle.row.specs.Meaning.{termsOf};
 ghost use Rattle.sums.specs.Summed.{summed};
+ghost use Rattle.words.specs.Told.{toldSlot};
 ghost use Rattle.judge.specs.Ruled.{ruled};
 ghost use Rattle.demands.specs.Demand1.{ReaderRefuses, EvaluatorRefuses, RowWriterRefuses, JudgeRefuses};
-ghost use Rattle.demands.specs.Demand2.{ReaderAnswers, EvaluatorAnswers, RowWriterAnswers, JudgeAnswers};
+ghost use Rattle.demands.specs.Demand2.{ReaderAnswers, EvaluatorAnswers, FirstAnswers, RowWriterAnswers, JudgeAnswers};
 ghost use Rattle.demands.specs.Heights.{ReaderHeights};
+ghost use Rattle.demands.specs.Words.{SaysBytes};
 ghost use Rattle.demands.specs.Demand3.{Demanded};
 ghost use Rattle.demands.specs.Passed.{PassedMeans, PassedAtZero};
 ghost use Rattle.demands.specs.Shortfall.{SameVerdict, CarriesShortfall};
@@ -16,6 +18,7 @@ use answers::Refusal;
 use judge::Ruling;
 use row::Terms;
 use sums::RowSum;
+use words::FirstSlot;
 
 // Demands 1 and 2 of the reader, and the heights that it writes.
 pub fn read(text: &[u8], m: usize, out: &mut [u8]) -> Answer
@@ -26,12 +29,20 @@ pub fn read(text: &[u8], m: usize, out: &mut [u8]) -> Answer
     reader::read(text, m, out)
 }
 
-// Demands 1 and 2 of the evaluator.
-pub fn evaluate(table: &[u8], t: usize, m: usize, run: &[u16], out: &mut [u8]) -> Answer
+// Demands 1 and 2 of the evaluator, and that its words say what its bytes said.
+pub fn evaluate(table: &[u8], t: usize, m: usize, run: &[u16], out: &mut [u64]) -> Answer
     ensures { λ r. ⌜ EvaluatorRefuses t m (now (table .entry)) (now (run .entry)) (told r) (now (out .entry)) (now (out .exit)) ⌝ }
     ensures { λ r. ⌜ EvaluatorAnswers t m (now (table .entry)) (now (run .entry)) (told r) (now (out .entry)) (now (out .exit)) ⌝ }
+    ensures { λ r. ⌜ SaysBytes t m (now (table .entry)) (now (run .entry)) (told r) (now (out .exit)) ⌝ }
 {
     evaluator::evaluate(table, t, m, run, out)
+}
+
+// What the first slot of a truth word is.
+pub fn first_slot(word: u64) -> FirstSlot
+    ensures { λ r. ⌜ FirstAnswers word (toldSlot r) ⌝ }
+{
+    words::first_slot(word)
 }
 
 // Demands 1 and 2 of the row writer.
@@ -89,7 +100,7 @@ pub fn plan(
     run: &[u16],
     table: &mut [u8],
     rows: &mut [u8],
-    truth: &mut [u8],
+    truth: &mut [u64],
 ) -> Planned
     ensures { λ r. ⌜ Demanded t m (now (text .entry)) (now (run .entry)) (now (table .entry)) (now (rows .entry)) (now (truth .entry)) (now (table .exit)) (now (rows .exit)) (now (truth .exit)) r ⌝ }
 {

@@ -1,3 +1,6 @@
-pub mod Values
-pub mod Known
+pub mod Runs
+pub mod Nodes
+pub mod Low
+pub mod Filled
+pub mod Truths
 pub mod Checks

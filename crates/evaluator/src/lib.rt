@@ -1,28 +1,26 @@
-// The evaluator: the truth of every node of a table at every slot of a run.
+// The evaluator: the truth word of every node of a table over a run.
 ghost use mathlib.Core.Path.{_≡_};
-ghost use Prim.Native.Nat.{_+_, _*_, _^_, _≤_, _<_};
-ghost use lib.ListN.{length};
+ghost use mathlib.Core.List.{List};
+ghost use Prim.Native.Nat.{ℕ, _%_, _^_, _≤_, _<_};
+ghost use lib.ListN.{length, getD};
 ghost use Rattle.rules.specs.Outcome.{runGood, evaluateOutcome, result, buffer};
+ghost use Rattle.rules.specs.Table as Table;
 ghost use Rattle.rules.specs.Table.{NodeGood};
-ghost use Rattle.rules.specs.TableTest.{nodesIn};
+ghost use Rattle.rules.specs.TableTest.{nodesIn, recordCount};
 ghost use Rattle.answers.specs.Told.{told};
 ghost use Rattle.table.specs.Nodes.{nodeOf};
 ghost use Rattle.table.specs.Checks.{Ready};
-ghost use Rattle.slots.specs.Worked.{Worked};
-ghost use Rattle.evaluator.specs.Values.{valueAt, pastOf};
-ghost use Rattle.evaluator.specs.Known.{Known};
+ghost use Rattle.words.specs.Words.{Word};
+ghost use Rattle.atomwords.specs.Columns.{Columns};
+ghost use Rattle.evaluator.specs.Low.{Low};
+ghost use Rattle.evaluator.specs.Nodes.{nodeAt, Children};
+ghost use Rattle.evaluator.specs.Filled.{Filled};
 ghost use Rattle.evaluator.specs.Checks.{ownCheck, evaluateCheck, Workable};
 use answers::Answer;
 use answers::Refusal;
 use table::Checked;
 use table::Kind;
 use table::Node;
-
-fn wide(byte: u8) -> usize
-    ensures { λ r. ⌜ r ≡ byte ⌝ }
-{
-    byte as usize
-}
 
 fn number(x: u16) -> u32
     ensures { λ r. ⌜ r ≡ x ⌝ }
@@ -38,7 +36,7 @@ fn limit(m: usize) -> u32
     1u32 << m
 }
 
-// Whether the run has t numbers, each with bits below m alone.
+// Whether the run has t numbers, each with bits below m alone: then all of them together have no other.
 fn run_good(run: &[u16], t: usize, m: usize) -> bool
     requires { ⌜ m ≤ 16 ⌝ }
     ensures { λ r. ⌜ r ≡ runGood t m (now (run .entry)) ⌝ }
@@ -46,15 +44,13 @@ fn run_good(run: &[u16], t: usize, m: usize) -> bool
     if run.len() != t {
         return false;
     }
-    let high = limit(m);
+    let mut seen: u16 = 0;
     let mut i: usize = 0;
     while i < run.len() {
-        if high <= number(run[i]) {
-            return false;
-        }
+        seen |= run[i];
         i += 1;
     }
-    true
+    number(seen) < limit(m)
 }
 
 // Refusals 8 and 11, once 1, 2 and 7 do not apply.
@@ -65,7 +61,7 @@ fn own_check(table: &[u8], t: usize, m: usize, run: &[u16], room: usize) -> Chec
     if !run_good(run, t, m) {
         return Checked::Refused(Refusal::Run);
     }
-    if room < table::count(table) * t {
+    if room < table::count(table) {
         return Checked::Refused(Refusal::Room);
     }
     Checked::Passed
@@ -81,11 +77,27 @@ fn check(table: &[u8], t: usize, m: usize, run: &[u16], room: usize) -> Checked
     }
 }
 
-// Writes node n's bytes at all slots, from those of the nodes below.
-fn work_node(out: &mut [u8], run: &[u16], t: usize, n: usize, node: Node)
-    requires { ⌜ (n * t + t ≤ length (now out)) × (t ≤ length (now run)) ⌝ }
-    requires { ⌜ NodeGood 16 n (nodeOf node) ⌝ }
-    ensures { λ _. ⌜ Worked t n (pastOf (nodeOf node)) (valueAt t (now (run .entry)) (now (out .entry)) (nodeOf node)) (now (out .entry)) 0 (now (out .exit)) ⌝ }
+// The word of node c.
+fn word_of(words: &[u64], c: usize) -> u64
+    requires { ⌜ c < length (now words) ⌝ }
+    ensures { λ r. ⌜ r ≡ getD (now (words .entry)) c 0 ⌝ }
+{
+    words[c]
+}
+
+// The word of atom a.
+fn column_of(cols: &[u64; 16], a: usize) -> u64
+    requires { ⌜ a < 16 ⌝ }
+    ensures { λ r. ⌜ r ≡ getD (now (cols .entry)) a 0 ⌝ }
+{
+    cols[a]
+}
+
+// A node's word, from those of its children.
+fn node_word(words: &[u64], cols: &[u64; 16], t: usize, node: Node) -> u64
+    requires { ⌜ (1 ≤ t) × (t ≤ 64) × Children t (now words) (nodeOf node) ⌝ }
+    ensures { λ r. ⌜ ((run : List ℕ) (m n : ℕ) → NodeGood m n (nodeOf node) → Columns t run m (now (cols .entry)) →
+        Word t (nodeAt t run (now (words .entry)) (nodeOf node)) r) ⌝ }
 {
     let kind = node.kind;
     let left = node.left;
@@ -93,35 +105,61 @@ fn work_node(out: &mut [u8], run: &[u16], t: usize, n: usize, node: Node)
     let from = node.from;
     let to = node.to;
     match kind {
-        Kind::Atom => slots::atom(out, run, t, n, left),
-        Kind::Not => slots::not(out, t, n, left),
-        Kind::And => slots::and(out, t, n, left, right),
-        Kind::Or => slots::or(out, t, n, left, right),
-        Kind::Implies => slots::implies(out, t, n, left, right),
-        Kind::Eventually => slots::eventually(out, t, n, left),
-        Kind::Always => slots::always(out, t, n, left),
-        Kind::Until => slots::until(out, t, n, left, right),
-        Kind::Within => slots::within(out, t, n, left, from, to),
-        Kind::Throughout => slots::throughout(out, t, n, left, from, to),
+        Kind::Atom => column_of(cols, left),
+        Kind::Not => words::not(word_of(words, left), t),
+        Kind::And => words::and(word_of(words, left), word_of(words, right)),
+        Kind::Or => words::or(word_of(words, left), word_of(words, right)),
+        Kind::Implies => words::implies(word_of(words, left), word_of(words, right), t),
+        Kind::Eventually => words::eventually(word_of(words, left)),
+        Kind::Always => words::always(word_of(words, left), t),
+        Kind::Until => words::until(word_of(words, left), word_of(words, right)),
+        Kind::Within => words::eventually_within(word_of(words, left), t, from, to),
+        Kind::Throughout => words::always_within(word_of(words, left), t, from, to),
     }
 }
 
-// Writes the bytes of all nodes, in number order: children stand below their node.
-fn work(table: &[u8], t: usize, run: &[u16], out: &mut [u8])
-    requires { ⌜ Workable t (now table) (now run) (length (now out)) ⌝ }
-    ensures { λ _. ⌜ Known t (now (run .entry)) (nodesIn (now (table .entry))) (now (out .entry)) (length (nodesIn (now (table .entry)))) (now (out .exit)) ⌝ }
+// The word of node n of a table. Many nodes are atoms: their height, "0 for an atom", tells them without the choice among
+// ten kinds.
+fn word_at(table: &[u8], words: &[u64], cols: &[u64; 16], t: usize, n: usize) -> u64
+    requires { ⌜ (1 ≤ t) × (t ≤ 64) × (n < recordCount (now table)) ⌝ }
+    requires { ⌜ Children t (now words) (Table.nodeAt (nodesIn (now table)) n) ⌝ }
+    requires { ⌜ Low (now table) n ⌝ }
+    ensures { λ r. ⌜ ((run : List ℕ) (m k : ℕ) → NodeGood m k (Table.nodeAt (nodesIn (now (table .entry))) n) →
+        Columns t run m (now (cols .entry)) → Word t (nodeAt t run (now (words .entry)) (Table.nodeAt (nodesIn (now (table .entry))) n)) r) ⌝ }
 {
+    let node = table::node_at(table, n);
+    if table::height_at(table, n) == 0 {
+        return column_of(cols, node.left);
+    }
+    node_word(words, cols, t, node)
+}
+
+// Writes the words of all nodes, in number order: children stand below their node.
+fn work(table: &[u8], t: usize, m: usize, run: &[u16], out: &mut [u64])
+    requires { ⌜ Workable t m (now table) (now run) (length (now out)) ⌝ }
+    ensures { λ _. ⌜ Filled t (now (run .entry)) (nodesIn (now (table .entry))) (now (out .entry))
+        (length (nodesIn (now (table .entry)))) (now (out .exit)) ⌝ }
+{
+    let mut cols = [0u64; 16];
+    atomwords::columns(&mut cols, run, t, m);
     let count = table::count(table);
     let mut n: usize = 0;
     while n < count {
-        let node = table::node_at(table, n);
-        work_node(out, run, t, n, node);
+        let word = word_at(table, &out[..], &cols, t, n);
+        out[n] = word;
         n += 1;
     }
 }
 
-// Writes one byte, 0 or 1, for node n and slot s at place n·t + s − 1, and answers the root's truth at slot 1.
-pub fn evaluate(table: &[u8], t: usize, m: usize, run: &[u16], out: &mut [u8]) -> Answer
+// A word's truth at slot 1, as a number.
+fn at_first(word: u64) -> usize
+    ensures { λ r. ⌜ r ≡ word % 2 ⌝ }
+{
+    (word % 2) as usize
+}
+
+// Writes one word for each node, "with bit t − 1 for slot t and zeros above", and answers the root's truth at slot 1.
+pub fn evaluate(table: &[u8], t: usize, m: usize, run: &[u16], out: &mut [u64]) -> Answer
     ensures { λ r. ⌜ told r ≡ result (evaluateOutcome t m (now (table .entry)) (now (run .entry)) (length (now (out .entry)))) ⌝ }
     ensures { λ _. ⌜ now (out .exit) ≡ buffer (evaluateOutcome t m (now (table .entry)) (now (run .entry)) (length (now (out .entry)))) (now (out .entry)) ⌝ }
 {
@@ -129,9 +167,9 @@ pub fn evaluate(table: &[u8], t: usize, m: usize, run: &[u16], out: &mut [u8]) -
     match checked {
         Checked::Refused(r) => Answer::Refused(r),
         Checked::Passed => {
-            work(table, t, run, out);
+            work(table, t, m, run, out);
             let root = table::count(table) - 1;
-            Answer::Value(wide(out[root * t]))
+            Answer::Value(at_first(out[root]))
         }
     }
 }

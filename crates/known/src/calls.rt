@@ -1,5 +1,5 @@
 // The call that a line asks for: made, and printed with its answer and with what the whole lent buffer then holds.
-// Calls go by the first letter of their name. Of a call that writes, the first number is the length of the buffer lent.
+// Calls go by the first letter of their name. Of a call that writes, the first number is the length of the buffer lent, of evaluate in words.
 ghost use Prim.Native.Nat.{_≤_};
 ghost use lib.IntN.{natAbs};
 ghost use lib.ListN.{length};
@@ -7,15 +7,18 @@ use crate::cases;
 use crate::cases::NUMBERS;
 use crate::show;
 use crate::show::FILL;
+use crate::show::FILL_WORD;
 use answers::Answer;
 use row::Term;
 use row::Terms;
 use sums::RowSum;
 
-// The length of a lent buffer's guard, and of all that can be lent.
+// The length of a lent buffer's guard, and of all that can be lent, in bytes and in words.
 const GUARD: usize = 8;
 
 const LARGEST: usize = 4194304;
+
+const MOST_WORDS: usize = 512;
 
 // The most figures of a window's row.
 const SLOTS: usize = 64;
@@ -23,20 +26,13 @@ const SLOTS: usize = 64;
 // The length of rowlist's page.
 const LISTING: usize = 184000;
 
-// read ROOM M:TEXT, evaluate ROOM T M NUMBERS:TABLE, write ROOM T M:TABLE, mps ROOM T M:TABLE
+// read ROOM M:TEXT, write ROOM T M:TABLE, mps ROOM T M:TABLE
 fn made(call: u8, list: &[usize; NUMBERS], bytes: &[u8], out: &mut [u8]) -> Answer {
     match call {
         b'r' => reader::read(bytes, list[2], out),
-        b'e' => evaluated(list, bytes, out),
         b'w' => rows::write_rows(bytes, list[2], list[3], out),
         _ => pages::mps_page(bytes, list[2], list[3], out),
     }
-}
-
-fn evaluated(list: &[usize; NUMBERS], table: &[u8], out: &mut [u8]) -> Answer {
-    let run = cases::run(list);
-    let end = cases::end(list, 4);
-    evaluator::evaluate(table, list[2], list[3], &run[4..end], out)
 }
 
 // Lends all of `out` but its guard, and prints all of it.
@@ -70,6 +66,41 @@ fn lend_part(call: u8, list: &[usize; NUMBERS], bytes: &[u8], space: &mut [u8]) 
 fn write(call: u8, list: &[usize; NUMBERS], bytes: &[u8]) {
     let mut space = [FILL; LARGEST];
     lend_part(call, list, bytes, &mut space);
+}
+
+fn evaluated(list: &[usize; NUMBERS], table: &[u8], out: &mut [u64]) -> Answer {
+    let run = cases::run(list);
+    let end = cases::end(list, 4);
+    evaluator::evaluate(table, list[2], list[3], &run[4..end], out)
+}
+
+// Lends and prints words likewise.
+fn lend_words(list: &[usize; NUMBERS], table: &[u8], out: &mut [u64]) {
+    if out.len() < GUARD {
+        return;
+    }
+    let room = out.len() - GUARD;
+    let answer = evaluated(list, table, &mut out[0..room]);
+    show::answer(answer);
+    show::word_buffer(out);
+}
+
+fn lend_words_part(list: &[usize; NUMBERS], table: &[u8], space: &mut [u64]) {
+    let end = guarded(list[1], space.len());
+    lend_words(list, table, &mut space[0..end]);
+}
+
+// evaluate ROOM T M NUMBERS:TABLE
+fn evaluate(list: &[usize; NUMBERS], table: &[u8]) {
+    let mut space = [FILL_WORD; MOST_WORDS];
+    lend_words_part(list, table, &mut space);
+}
+
+// first WORD
+fn first(list: &[usize; NUMBERS]) {
+    show::text(b"slot");
+    show::slot(words::first_slot(list[1] as u64));
+    show::text(b"\n");
 }
 
 // judge T M E FIGURES:TABLE
@@ -164,11 +195,13 @@ fn total(list: &[usize; NUMBERS]) {
 
 fn call_with(call: u8, list: &[usize; NUMBERS], bytes: &[u8]) {
     match call {
+        b'e' => evaluate(list, bytes),
+        b'f' => first(list),
         b'j' => judge(list, bytes),
         b'l' => list_rows(bytes),
         b's' => sum(list),
         b't' => total(list),
-        b'r' | b'e' | b'w' | b'm' => write(call, list, bytes),
+        b'r' | b'w' | b'm' => write(call, list, bytes),
         _ => show::line(b"no such call"),
     }
 }

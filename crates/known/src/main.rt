@@ -6,7 +6,7 @@ mod show;
 use libc::STDIN_FILENO;
 
 // The most bytes of cases.
-const CASES: usize = 524288;
+const CASES: usize = 1048576;
 
 fn run_lines(text: &[u8]) {
     let mut at: usize = 0;

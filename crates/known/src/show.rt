@@ -3,12 +3,15 @@ use answers::Answer;
 use judge::Ruling;
 use judge::Verdict;
 use libc::STDOUT_FILENO;
+use words::FirstSlot;
 ghost use Prim.Native.Nat.{_≤_};
 ghost use lib.IntN.{natAbs};
 ghost use lib.ListN.{length};
 
-// What a lent buffer holds before the call.
+// What a lent buffer holds before the call, in each byte and in each word.
 pub const FILL: u8 = 254;
+
+pub const FILL_WORD: u64 = 0xfefefefefefefefe;
 
 // What is longer is printed as its length and a checksum.
 const LONG: usize = 1000;
@@ -136,4 +139,54 @@ pub fn buffer(bytes: &[u8], is_text: bool) {
     part(&bytes[0..n], is_text);
     number(b"~", bytes.len() - n);
     text(b"\n");
+}
+
+// A slot's number, or that there is none, with a space before.
+pub fn slot(slot: FirstSlot) {
+    match slot {
+        FirstSlot::Slot(t) => number(b" ", t),
+        FirstSlot::None => text(b" none"),
+    }
+}
+
+// The length without the fill at the end.
+fn used_words(words: &[u64]) -> usize
+    ensures { λ r. ⌜ r ≤ length (now (words .entry)) ⌝ }
+{
+    let mut n = words.len();
+    while 0 < n {
+        if words[n - 1] != FILL_WORD {
+            return n;
+        }
+        n -= 1;
+    }
+    n
+}
+
+// Words in hexadecimal, with a space before each.
+fn hexadecimal_words(words: &[u64]) {
+    for i in 0..words.len() {
+        text(b" ");
+        io::print_hex(STDOUT_FILENO, words[i], 1);
+    }
+}
+
+fn first_slots(words: &[u64]) {
+    for i in 0..words.len() {
+        slot(words::first_slot(words[i]));
+    }
+}
+
+// What a buffer of words holds, the fill at its end as `~` and its length; and the first slots of what was written.
+pub fn word_buffer(words: &[u64]) {
+    let n = used_words(words);
+    text(b"words");
+    hexadecimal_words(&words[0..n]);
+    number(b"~", words.len() - n);
+    text(b"\n");
+    if 0 < n {
+        text(b"first slots");
+        first_slots(&words[0..n]);
+        text(b"\n");
+    }
 }

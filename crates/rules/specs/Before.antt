@@ -1,14 +1,22 @@
--- The judge's verdict as it was before request N1, without a shortfall. Unaltered.antt proves that it stays.
+-- The judge's verdict as it was before request N1, without a shortfall, and the evaluator's bytes as they were before request N5.
+-- Unaltered.antt proves that verdict and truth stay.
+use mathlib.Core.Path.{_≡_}
 use mathlib.Core.List.{List}
-use Prim.Native.Nat.{ℕ}
+use Prim.Native.Nat.{ℕ, _+_, _-_, _*_, _≤_, _<_}
 use lib.IntN.{ℤ}
-use lib.ListN.{length}
-use Rattle.rules.specs.Table.{Node}
+use lib.ListN.{length, getD}
+use Rattle.rules.specs.Table.{Node, ruleAt}
+use Rattle.rules.specs.Truth.{Holds, endless, TruthBit}
 use Rattle.rules.specs.Rows.{rowsOf}
 use Rattle.rules.specs.Judge.{Lowest, None, OutsideAt, NotBinaryAt, BrokenAt}
 use Rattle.rules.specs.Judge as Now
 use Rattle.rules.specs.Demands.{Answer}
 use Rattle.rules.specs.Demands.Answer.{refused, answered}
+
+-- "The evaluator writes one byte, 0 or 1, for node n and slot t at place n·T + t − 1."
+pub record TruthBytes (T : ℕ) (run : List ℕ) (ns : List Node) (bytes : List ℕ) : Type 0 where
+  pub count : length bytes ≡ length ns * T
+  pub at : (n t : ℕ) → n < length ns → 1 ≤ t → t ≤ T → TruthBit (Holds (endless T run) (ruleAt ns n) t) (getD bytes (n * T + (t - 1)) 0)
 
 pub data Verdict : Type 0 where
   outside not-binary broken passed : ℕ → Verdict

@@ -3,7 +3,8 @@
 use mathlib.Core.Path.{_≡_}
 use mathlib.Core.Logic.{_↔_}
 use mathlib.Core.List.{List, [], _∷_, _++_}
-use Prim.Native.Nat.{ℕ, _+_, _-_, _*_, _≤_, _<_}
+use mathlib.Core.Option.{Option, none, some}
+use Prim.Native.Nat.{ℕ, _+_, _-_, _*_, _^_, _≤_, _<_}
 use lib.ListN.{length, getD}
 use lib.IntN.{ℤ, pos}
 use lib.Signed.{_≤ℤ_}
@@ -12,9 +13,9 @@ use Rattle.rules.specs.Quantities.{bitAt, SlotsAllowed}
 use Rattle.rules.specs.Rule.{Rule, size, height}
 use Rattle.rules.specs.Grammar.{Says}
 use Rattle.rules.specs.Table.{Node, Good, tableBytes, nodesOf, ruleAt, root}
-use Rattle.rules.specs.Truth.{Holds, endless, TruthByte, TruthBytes}
+use Rattle.rules.specs.Truth.{Holds, endless, TruthBit, slotBit, TruthWords, SlotSet}
 use Rattle.rules.specs.Rows.{Row, Meets, valueAt, atomVariable, rowsOf, rowsBytes, rowsIn}
-use Rattle.rules.specs.Judge.{None, Verdict, Judged}
+use Rattle.rules.specs.Judge.{Lowest, None, Verdict, Judged}
 use Rattle.rules.specs.Refusals.{Wins, RunGood, TextRefused, ReadRefused, EvaluateRefused, RowsRefused, JudgeRefused}
 
 -- What a call answers: "A refusal returns its number and changes no byte."
@@ -22,7 +23,7 @@ pub data Answer (A : Type 0) : Type 0 where
   refused : ℕ → Answer A
   answered : A → Answer A
 
--- A result, and the bytes written from the start of the lent buffer: "On success, bytes past the output keep their content."
+-- A result, and the bytes (the evaluator's words) written from the start of the lent buffer: "On success, bytes past the output keep their content."
 pub data Written : Type 0 where
   wrote : ℕ → List ℕ → Written
 
@@ -51,8 +52,14 @@ abbrev pub EvaluatorExact : ((T M : ℕ) (table run : List ℕ) (room : ℕ) →
 EvaluatorExact evaluate =
     (T M : ℕ) (table run : List ℕ) (room : ℕ) →
     Exact (EvaluateRefused T M table run room)
-    (λ w. (ns : List Node) × (v : ℕ) × (bytes : List ℕ) × Good M table ns × TruthBytes T run ns bytes × TruthByte (Holds (endless T run) (ruleAt ns (root ns)) 1) v × (w ≡ wrote v bytes))
+    (λ w. (ns : List Node) × (v : ℕ) × (words : List ℕ) × Good M table ns × TruthWords T run ns words ×
+    TruthBit (Holds (endless T run) (ruleAt ns (root ns)) 1) v × (w ≡ wrote v words))
     (evaluate T M table run room)
+
+-- Request N5: "the first slot with a set bit, or says that there is none", of a 64-bit word
+abbrev pub FirstSlotExact : (ℕ → Option ℕ) → Type 0
+FirstSlotExact firstSlot =
+    (word : ℕ) → word < 2 ^ 64 → ((t : ℕ) → (firstSlot word ≡ some t) ↔ Lowest (SlotSet word) t) × ((firstSlot word ≡ none) ↔ None (SlotSet word))
 
 -- "The result is the row count."
 abbrev pub RowsExact : ((T M : ℕ) (table : List ℕ) (room : ℕ) → Answer Written) → Type 0
@@ -96,7 +103,7 @@ pub record OnlyTheTruth (T M D : ℕ) (run : List ℕ) (ns : List Node) (rows : 
   pub goal-met : Meets D (atoms ++ slacks) goal ↔ Holds (endless T run) (ruleAt ns (root ns)) 1
 
 -- The bytes that the three calls write, for the rule p: the table is p's, its rows are read back from the row writer's bytes,
--- and the evaluator's bytes are the numerators over D.
+-- and the evaluator's words have the numerators over D.
 pub record Demand3At (T M D : ℕ) (run : List ℕ) (p : Rule) (table : List ℕ) (count : ℕ) (written : List ℕ) (answer : ℕ) (truth : List ℕ) : Type 0 where
   pub table-is : table ≡ tableBytes (nodesOf p)
   pub root-is : ruleAt (nodesOf p) (root (nodesOf p)) ≡ p
@@ -104,7 +111,7 @@ pub record Demand3At (T M D : ℕ) (run : List ℕ) (p : Rule) (table : List ℕ
   pub goal : Row
   pub rows-read : rowsIn count written ≡ rows ++ (goal ∷ [])
   pub truthful : OnlyTheTruth T M D run (nodesOf p) rows goal
-  pub evaluated : (n t : ℕ) → n < size p → 1 ≤ t → t ≤ T → valueAt (truthful .slacks) (n * T + (t - 1)) ≡ pos (getD truth (n * T + (t - 1)) 0 * D)
+  pub evaluated : (n t : ℕ) → n < size p → 1 ≤ t → t ≤ T → valueAt (truthful .slacks) (n * T + (t - 1)) ≡ pos (slotBit (getD truth n 0) t * D)
   pub answered : (answer ≡ 1) ↔ Holds (endless T run) p 1
 
 -- "A text gives no ground to refuse when no refusal of the reader on M or the text applies. Every output buffer is taken to be long enough
@@ -117,7 +124,7 @@ Demand3 read rows evaluate =
     (M : ℕ) (text : List ℕ) → None (TextRefused M text) →
     (T D : ℕ) (run : List ℕ) → SlotsAllowed T → RunGood T M run → 1 ≤ D →
     (p : Rule) × Says text p ×
-    ((room₁ room₂ room₃ : ℕ) → 8 * size p ≤ room₁ → length (rowsBytes (rowsOf T M (nodesOf p))) ≤ room₂ → size p * T ≤ room₃ →
+    ((room₁ room₂ room₃ : ℕ) → 8 * size p ≤ room₁ → length (rowsBytes (rowsOf T M (nodesOf p))) ≤ room₂ → size p ≤ room₃ →
     (table written truth : List ℕ) × (count answer : ℕ) ×
     (read M text room₁ ≡ answered (wrote (size p) table)) ×
     (rows T M table room₂ ≡ answered (wrote count written)) ×

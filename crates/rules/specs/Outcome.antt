@@ -2,7 +2,7 @@
 use mathlib.Core.Bool.{Bool, true, false, _&&_}
 use mathlib.Core.List.{List, _++_}
 use mathlib.Core.Option.{Option, none, some}
-use Prim.Native.Nat.{ℕ, suc, _+_, _*_, _/_, _%_, _^_}
+use Prim.Native.Nat.{ℕ, _+_, _*_, _^_}
 use lib.Dec.{leb, ltb, eqb}
 use lib.ListN.{length, getD, drop}
 use lib.IntN.{ℤ, pos, negsuc}
@@ -14,6 +14,7 @@ use Rattle.rules.specs.Reading.{reading}
 use Rattle.rules.specs.Table.{Node, tableBytes, nodesOf, ruleAt, root}
 use Rattle.rules.specs.TableTest.{windowGood, good, nodesIn}
 use Rattle.rules.specs.Evaluation.{bitOf, truth}
+use Rattle.rules.specs.Words.{wordOf}
 use Rattle.rules.specs.Rows.{rowsOf, rowsBytes}
 use Rattle.rules.specs.Judge.{Verdict}
 use Rattle.rules.specs.Verdicts.{verdict}
@@ -72,16 +73,16 @@ tableChecked T M table rest = require (between 1 64 T) 1 (require (between 1 16 
 unfoldable pub runGood : (T M : ℕ) → List ℕ → Bool
 runGood T M run = eqb (length run) T && all (λ i. ltb (getD run i 0) (2 ^ M)) (length run)
 
--- the byte of node n at slot t, at place n·T + t − 1
-unfoldable pub truthBytes : (T : ℕ) (run : List ℕ) (ns : List Node) → List ℕ
-truthBytes T run ns = tabulate (length ns * T) (λ i. bitOf (truth T run (ruleAt ns (i / T)) (suc (i % T))))
+-- the word of each node, bit t − 1 for slot t
+unfoldable pub truthWords : (T : ℕ) (run : List ℕ) (ns : List Node) → List ℕ
+truthWords T run ns = tabulate (length ns) (λ n. wordOf (truth T run (ruleAt ns n)) T)
 
 unfoldable pub evaluateOutcome : (T M : ℕ) (table run : List ℕ) (room : ℕ) → Answer Written
 evaluateOutcome T M table run room =
     tableChecked T M table
     (require (runGood T M run) 8
-    (require (leb (length (nodesIn table) * T) room) 11
-    (answered (wrote (bitOf (truth T run (ruleAt (nodesIn table) (root (nodesIn table))) 1)) (truthBytes T run (nodesIn table))))))
+    (require (leb (length (nodesIn table)) room) 11
+    (answered (wrote (bitOf (truth T run (ruleAt (nodesIn table) (root (nodesIn table))) 1)) (truthWords T run (nodesIn table))))))
 
 unfoldable pub rowsOutcome : (T M : ℕ) (table : List ℕ) (room : ℕ) → Answer Written
 rowsOutcome T M table room =

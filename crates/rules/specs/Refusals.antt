@@ -57,10 +57,11 @@ pub data TableRefused (T M : ℕ) (table : List ℕ) : ℕ → Type 0 where
   atoms : (AtomsAllowed M → ⊥) → TableRefused T M table 2
   not-good : ((ns : List Node) → Good M table ns → ⊥) → TableRefused T M table 7
 
+-- request N5: "11 now counts words for the evaluator"
 pub data EvaluateRefused (T M : ℕ) (table run : List ℕ) (room : ℕ) : ℕ → Type 0 where
   table-refused : {k : ℕ} → TableRefused T M table k → EvaluateRefused T M table run room k
   run-bad : (RunGood T M run → ⊥) → EvaluateRefused T M table run room 8
-  short : {ns : List Node} → Good M table ns → room < length ns * T → EvaluateRefused T M table run room 11
+  short : {ns : List Node} → Good M table ns → room < length ns → EvaluateRefused T M table run room 11
 
 pub data RowsRefused (T M : ℕ) (table : List ℕ) (room : ℕ) : ℕ → Type 0 where
   table-refused : {k : ℕ} → TableRefused T M table k → RowsRefused T M table room k

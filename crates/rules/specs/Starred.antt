@@ -2,7 +2,7 @@
 use mathlib.Core.Path.{_≡_, refl}
 use mathlib.Core.List.{List, [], _∷_, map}
 use Prim.Native.Nat.{ℕ, _-_}
-use lib.ListN.{length, drop}
+use lib.ListN.{length, getD}
 use lib.IntN.{ℤ, pos}
 use Rattle.lists.specs.All.{all}
 use Rattle.lists.specs.Every.{Every}
@@ -12,13 +12,15 @@ use Rattle.rules.specs.TableTest.{nodeIn, recordGood, good, nodesIn}
 use Rattle.rules.specs.Reading.{reading}
 use Rattle.rules.specs.Reading.Lexer.{spaces, digits, value, isNumeral, tokenAt, signAt}
 use Rattle.rules.specs.Reading.Parser.{parse, parsed}
+use Rattle.rules.specs.Truth.{slotBit}
 use Rattle.rules.specs.Evaluation.{truth}
+use Rattle.rules.specs.Words.{wordFrom}
 use Rattle.rules.specs.Judge.{Verdict}
 use Rattle.rules.specs.Verdicts.{verdict}
 use Rattle.rules.specs.Demands.{Answer, Written}
 use Rattle.rules.specs.Demands.Answer.{refused, answered}
 use Rattle.rules.specs.Demands.Written.{wrote}
-use Rattle.rules.specs.Outcome.{readOutcome, tableChecked, runGood, truthBytes, evaluateOutcome, judgeOutcome}
+use Rattle.rules.specs.Outcome.{readOutcome, tableChecked, runGood, truthWords, evaluateOutcome, judgeOutcome}
 
 -- A line: a rule text, and a run of T 3 and M 2 with the root's truth at its slots; or the kinds read; or, at T 1 and M 1, figures, a tolerance and the verdict.
 pub data Line : Type 0 where
@@ -34,12 +36,12 @@ written (answered (wrote n bytes)) = bytes
 abbrev pub table : ℕ → List ℕ → List ℕ
 table M text = written (readOutcome M text 1024)
 
--- the last k elements
-abbrev pub last : ℕ → List ℕ → List ℕ
-last k l = drop (length l - k) l
+-- the bits of the last word at slots 1, 2 and 3
+abbrev pub lastBits : List ℕ → List ℕ
+lastBits l = map (slotBit (getD l (length l - 1) 0)) (1 ∷ 2 ∷ 3 ∷ [])
 
 abbrev pub Shown : Line → Type 0
-Shown (truths text run gives) = last 3 (written (evaluateOutcome 3 2 (table 2 text) run 384)) ≡ gives
+Shown (truths text run gives) = lastBits (written (evaluateOutcome 3 2 (table 2 text) run 128)) ≡ gives
 Shown (kinds text gives) = map kindOf (nodesIn (table 2 text)) ≡ gives
 Shown (judged text figures e gives) = judgeOutcome 1 1 (table 1 text) figures e ≡ answered gives
 
@@ -64,5 +66,5 @@ starred =
     judged (97 ∷ 48 ∷ []) (pos 1000000 ∷ pos 999999 ∷ []) (pos 0) (Verdict.broken 0 (pos 1)) ∷ []
 
 pub starred-shown : Every Shown starred
-unfolding readOutcome reading parsed parse tokenAt signAt spaces digits value isNumeral evaluateOutcome tableChecked good recordGood nodeIn nodesIn all runGood truthBytes truth judgeOutcome verdict first
+unfolding readOutcome reading parsed parse tokenAt signAt spaces digits value isNumeral evaluateOutcome tableChecked good recordGood nodeIn nodesIn all runGood truthWords wordFrom truth judgeOutcome verdict first
 starred-shown = (refl, (refl, (refl, (refl, (refl, (refl, (refl, (refl, (refl, (refl, (refl, (refl, tt))))))))))))

@@ -3,9 +3,10 @@ use mathlib.Core.List.{List}
 use Prim.Native.Nat.{ℕ, _≤_}
 use Rattle.rules.specs.Table.{Node, Good}
 use Rattle.rules.specs.Rows.{slackRows, goalRow}
-use Rattle.rules.specs.Demands.{ReaderExact, OneReading, HeightsRight, EvaluatorExact, RowsExact, JudgeExact, OnlyTheTruth, Demand3}
+use Rattle.rules.specs.Demands.{ReaderExact, OneReading, HeightsRight, EvaluatorExact, FirstSlotExact, RowsExact, JudgeExact, OnlyTheTruth, Demand3}
 use Rattle.rules.specs.Outcome.{readOutcome, evaluateOutcome, rowsOutcome, judgeOutcome}
 use Rattle.rules.specs.TableTest
+use Rattle.rules.specs.Words
 use Rattle.rules.specs.Reading
 use Rattle.rules.specs.Exactness.Read
 use Rattle.rules.specs.Exactness.Evaluate
@@ -26,6 +27,9 @@ heights-right = TableTest.height-byte
 
 pub evaluator-exact : EvaluatorExact evaluateOutcome
 evaluator-exact = Evaluate.evaluate-exact
+
+pub first-slot-exact : FirstSlotExact Words.firstSlot
+first-slot-exact = Words.first-slot-exact
 
 pub rows-exact : RowsExact rowsOutcome
 rows-exact = Rows.rows-exact

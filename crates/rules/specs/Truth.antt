@@ -2,7 +2,7 @@
 use mathlib.Core.Path.{_≡_}
 use mathlib.Core.Logic.{_⊎_}
 use mathlib.Core.List.{List}
-use Prim.Native.Nat.{ℕ, _+_, _-_, _*_, _≤_, _<_, min}
+use Prim.Native.Nat.{ℕ, _+_, _-_, _/_, _%_, _^_, _≤_, _<_, min}
 use lib.ListN.{length, getD}
 use Rattle.rules.specs.Quantities.{bitAt}
 use Rattle.rules.specs.Rule.{Unary, Binary, Window, Rule}
@@ -47,12 +47,21 @@ Holds w (unary u p) t = HoldsUnary u (Holds w p) t
 Holds w (binary o p q) t = HoldsBinary o (Holds w p) (Holds w q) t
 Holds w (windowed i a b p) t = HoldsWindow i a b (Holds w p) t
 
--- "one byte, 0 or 1": 1 where P holds and 0 where not
-pub data TruthByte (P : Type 0) : ℕ → Type 0 where
-  true : P → TruthByte P 1
-  false : (P → ⊥) → TruthByte P 0
+-- 1 where P holds and 0 where not
+pub data TruthBit (P : Type 0) : ℕ → Type 0 where
+  true : P → TruthBit P 1
+  false : (P → ⊥) → TruthBit P 0
 
--- "The evaluator writes one byte, 0 or 1, for node n and slot t at place n·T + t − 1."
-pub record TruthBytes (T : ℕ) (run : List ℕ) (ns : List Node) (bytes : List ℕ) : Type 0 where
-  pub count : length bytes ≡ length ns * T
-  pub at : (n t : ℕ) → n < length ns → 1 ≤ t → t ≤ T → TruthByte (Holds (endless T run) (ruleAt ns n) t) (getD bytes (n * T + (t - 1)) 0)
+-- Request N5: "Hold one 64-bit word per node, with bit t − 1 for slot t and zeros above."
+abbrev pub slotBit : (word t : ℕ) → ℕ
+slotBit word t = word / 2 ^ (t - 1) % 2
+
+-- "The evaluator writes these words in node order"
+pub record TruthWords (T : ℕ) (run : List ℕ) (ns : List Node) (words : List ℕ) : Type 0 where
+  pub count : length words ≡ length ns
+  pub at : (n t : ℕ) → n < length ns → 1 ≤ t → t ≤ T → TruthBit (Holds (endless T run) (ruleAt ns n) t) (slotBit (getD words n 0) t)
+  pub above : (n : ℕ) → n < length ns → getD words n 0 < 2 ^ T
+
+-- "A new call takes one word and gives the first slot with a set bit, or says that there is none."
+abbrev pub SlotSet : (word t : ℕ) → Type 0
+SlotSet word t = (1 ≤ t) × (slotBit word t ≡ 1)

@@ -1,15 +1,20 @@
--- The judge's verdict does not alter.
-use mathlib.Core.Path.{_≡_, refl, sym, ap, subst}
+-- The judge's verdict does not alter, and the evaluator's truth is the one of before.
+use mathlib.Core.Path.{_≡_, refl, sym, ap, ap₂, subst, _∙_}
 use mathlib.Core.Logic.{_↔_, Iff·symm}
 use mathlib.Core.List.{List}
-use Prim.Native.Nat.{ℕ}
+use Prim.Native.Nat.{ℕ, suc, _+_, _-_, _*_, _/_, _%_, _≤_, _<_}
+use lib.ListN.{length, getD}
 use lib.IntN.{ℤ, pos, _*ℤ_}
+use Rattle.lists.specs.Tabulate.{tabulate, length-tabulate, getD-tabulate}
 use Rattle.rules.specs.Quantities.{one}
-use Rattle.rules.specs.Table.{Node}
+use Rattle.rules.specs.Table.{Node, ruleAt}
+use Rattle.rules.specs.Truth.{Holds, endless, TruthBit, slotBit, TruthWords}
 use Rattle.rules.specs.Rows.{Row}
 use Rattle.rules.specs.Judge.{BrokenBy, shortfallBy, Lowest, None, rowAt}
 use Rattle.rules.specs.Judge as Now
-use Rattle.rules.specs.Before.{Verdict, Judged, withoutShortfall}
+use Rattle.rules.specs.Before.{TruthBytes, Verdict, Judged, withoutShortfall}
+use Rattle.rules.specs.Exactness.Evaluate.{bit-one}
+use Rattle.rules.specs.Solution.Truths.{place-div, place-mod, place-lt}
 use Rattle.rules.specs.RowSum as Summed
 use Rattle.rules.specs.RowSumLaws.{whole-is}
 
@@ -67,3 +72,24 @@ module _ (T M e : ℕ) (ns : List Node) (xs : List ℤ) where
 
   pub judged-summed : (v : Now.Verdict) → Summed.Judged T M e ns xs v ↔ Now.Judged T M e ns xs v
   judged-summed v = (summed-now, now-summed)
+
+-- ---- request N5, "The old bytes and the new words must say the same for every node and slot": the bits of the words, one after the other, are the
+-- bytes; and whatever bytes and words there are, they say the same
+
+abbrev pub bytesOf : (T : ℕ) → List ℕ → List ℕ
+bytesOf T words = tabulate (length words * T) (λ i. slotBit (getD words (i / T) 0) (suc (i % T)))
+
+pub words-give-bytes : (T : ℕ) (run : List ℕ) (ns : List Node) (words : List ℕ) → TruthWords T run ns words → TruthBytes T run ns (bytesOf T words)
+words-give-bytes T run ns words w = record {
+  count = length-tabulate (length words * T) (λ i. slotBit (getD words (i / T) 0) (suc (i % T))) ∙ ap (λ (n : ℕ). n * T) (w .count);
+  at = λ n t h l u.
+      let k : n < length words = subst (λ (m : ℕ). n < m) (sym (w .count)) h in
+      let bit : getD (bytesOf T words) (n * T + (t - 1)) 0 ≡ slotBit (getD words n 0) t =
+      getD-tabulate (length words * T) (λ i. slotBit (getD words (i / T) 0) (suc (i % T))) (n * T + (t - 1)) 0 (place-lt T (length words) n t k l u)
+      ∙ ap₂ (λ (a b : ℕ). slotBit (getD words a 0) b) (place-div T n t l u) (place-mod T n t l u) in
+      subst (TruthBit (Holds (endless T run) (ruleAt ns n) t)) (sym bit) (w .at n t h l u);
+}
+
+pub words-say-same : (T : ℕ) (run : List ℕ) (ns : List Node) (bytes words : List ℕ) → TruthBytes T run ns bytes → TruthWords T run ns words →
+    (n t : ℕ) → n < length ns → 1 ≤ t → t ≤ T → slotBit (getD words n 0) t ≡ getD bytes (n * T + (t - 1)) 0
+words-say-same T run ns bytes words b w n t h l u = bit-one (Holds (endless T run) (ruleAt ns n) t) _ _ (w .at n t h l u) (b .at n t h l u)

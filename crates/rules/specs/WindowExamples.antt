@@ -10,13 +10,14 @@ use Rattle.rules.specs.Reading.{reading}
 use Rattle.rules.specs.Reading.Lexer.{spaces, digits, value, isNumeral, tokenAt, signAt, numberAt}
 use Rattle.rules.specs.Reading.Parser.{spanAt, parse, parsed}
 use Rattle.rules.specs.Evaluation.{truth}
+use Rattle.rules.specs.Words.{wordFrom}
 use Rattle.rules.specs.Demands.{Answer, Written}
 use Rattle.rules.specs.Demands.Answer.{refused, answered}
 use Rattle.rules.specs.Demands.Written.{wrote}
-use Rattle.rules.specs.Outcome.{readOutcome, tableChecked, runGood, truthBytes, evaluateOutcome, rowsOutcome}
+use Rattle.rules.specs.Outcome.{readOutcome, tableChecked, runGood, truthWords, evaluateOutcome, rowsOutcome}
 use Rattle.rules.specs.Starred.{written, table}
 
--- A line: a text, the room for its table, and what the reader answers; a text, a run and the truth bytes; or a text, the row count and the row records.
+-- A line: a text, the room for its table, and what the reader answers; a text, a run and the truth words; or a text, the row count and the row records.
 pub data Line : Type 0 where
   reads : (M : ℕ) (text : List ℕ) (room : ℕ) (gives : Answer Written) → Line
   truths : (T M : ℕ) (text run gives : List ℕ) → Line
@@ -24,7 +25,7 @@ pub data Line : Type 0 where
 
 abbrev pub Shown : Line → Type 0
 Shown (reads M text room gives) = readOutcome M text room ≡ gives
-Shown (truths T M text run gives) = written (evaluateOutcome T M (table M text) run 8192) ≡ gives
+Shown (truths T M text run gives) = written (evaluateOutcome T M (table M text) run 128) ≡ gives
 Shown (rows T M text count gives) = rowsOutcome T M (table M text) 65536 ≡ answered (wrote count gives)
 
 abbrev pub lines : List Line
@@ -48,17 +49,17 @@ lines =
     -- 12 comes before 11, which is the one left
     reads 2 (70 ∷ 91 ∷ 49 ∷ 44 ∷ 48 ∷ 93 ∷ 97 ∷ 48 ∷ []) 15 (refused 12) ∷
     reads 2 (70 ∷ 91 ∷ 48 ∷ 44 ∷ 49 ∷ 93 ∷ 97 ∷ 48 ∷ []) 15 (refused 11) ∷
-    -- the part at each slot, then the window: `F[1,1]a1`, `F[0,5]a1`, `G[0,1]a0`, `G[1,2]a0`, `F[0,1]G[0,1]a0`
-    truths 3 2 (70 ∷ 91 ∷ 49 ∷ 44 ∷ 49 ∷ 93 ∷ 97 ∷ 49 ∷ []) (0 ∷ 2 ∷ 0 ∷ []) (0 ∷ 1 ∷ 0 ∷ 1 ∷ 0 ∷ 0 ∷ []) ∷
-    truths 3 2 (70 ∷ 91 ∷ 48 ∷ 44 ∷ 53 ∷ 93 ∷ 97 ∷ 49 ∷ []) (0 ∷ 2 ∷ 0 ∷ []) (0 ∷ 1 ∷ 0 ∷ 1 ∷ 1 ∷ 0 ∷ []) ∷
-    truths 3 2 (71 ∷ 91 ∷ 48 ∷ 44 ∷ 49 ∷ 93 ∷ 97 ∷ 48 ∷ []) (1 ∷ 1 ∷ 0 ∷ []) (1 ∷ 1 ∷ 0 ∷ 1 ∷ 0 ∷ 0 ∷ []) ∷
-    truths 3 2 (71 ∷ 91 ∷ 49 ∷ 44 ∷ 50 ∷ 93 ∷ 97 ∷ 48 ∷ []) (0 ∷ 1 ∷ 1 ∷ []) (0 ∷ 1 ∷ 1 ∷ 1 ∷ 1 ∷ 1 ∷ []) ∷
-    truths 3 2 (70 ∷ 91 ∷ 48 ∷ 44 ∷ 49 ∷ 93 ∷ 71 ∷ 91 ∷ 48 ∷ 44 ∷ 49 ∷ 93 ∷ 97 ∷ 48 ∷ []) (0 ∷ 1 ∷ 1 ∷ []) (0 ∷ 1 ∷ 1 ∷ 0 ∷ 1 ∷ 1 ∷ 1 ∷ 1 ∷ 1 ∷ []) ∷
+    -- the words of the part and of the window: `F[1,1]a1`, `F[0,5]a1`, `G[0,1]a0`, `G[1,2]a0`, `F[0,1]G[0,1]a0`
+    truths 3 2 (70 ∷ 91 ∷ 49 ∷ 44 ∷ 49 ∷ 93 ∷ 97 ∷ 49 ∷ []) (0 ∷ 2 ∷ 0 ∷ []) (2 ∷ 1 ∷ []) ∷
+    truths 3 2 (70 ∷ 91 ∷ 48 ∷ 44 ∷ 53 ∷ 93 ∷ 97 ∷ 49 ∷ []) (0 ∷ 2 ∷ 0 ∷ []) (2 ∷ 3 ∷ []) ∷
+    truths 3 2 (71 ∷ 91 ∷ 48 ∷ 44 ∷ 49 ∷ 93 ∷ 97 ∷ 48 ∷ []) (1 ∷ 1 ∷ 0 ∷ []) (3 ∷ 1 ∷ []) ∷
+    truths 3 2 (71 ∷ 91 ∷ 49 ∷ 44 ∷ 50 ∷ 93 ∷ 97 ∷ 48 ∷ []) (0 ∷ 1 ∷ 1 ∷ []) (6 ∷ 7 ∷ []) ∷
+    truths 3 2 (70 ∷ 91 ∷ 48 ∷ 44 ∷ 49 ∷ 93 ∷ 71 ∷ 91 ∷ 48 ∷ 44 ∷ 49 ∷ 93 ∷ 97 ∷ 48 ∷ []) (0 ∷ 1 ∷ 1 ∷ []) (6 ∷ 6 ∷ 7 ∷ []) ∷
     -- the rows of `F[0,1]a0` and `G[0,1]a0` with T 2, and of `F[0,0]a0` with T 1, which has no = row but the atom's
     rows 2 1 (70 ∷ 91 ∷ 48 ∷ 44 ∷ 49 ∷ 93 ∷ 97 ∷ 48 ∷ []) 8 (82 ∷ 87 ∷ 2 ∷ 2 ∷ 0 ∷ 1 ∷ 2 ∷ 0 ∷ 255 ∷ 0 ∷ 0 ∷ 82 ∷ 87 ∷ 2 ∷ 2 ∷ 0 ∷ 1 ∷ 3 ∷ 0 ∷ 255 ∷ 1 ∷ 0 ∷ 82 ∷ 87 ∷ 1 ∷ 2 ∷ 0 ∷ 1 ∷ 4 ∷ 0 ∷ 255 ∷ 2 ∷ 0 ∷ 82 ∷ 87 ∷ 1 ∷ 2 ∷ 0 ∷ 1 ∷ 4 ∷ 0 ∷ 255 ∷ 3 ∷ 0 ∷ 82 ∷ 87 ∷ 1 ∷ 3 ∷ 0 ∷ 1 ∷ 2 ∷ 0 ∷ 1 ∷ 3 ∷ 0 ∷ 255 ∷ 4 ∷ 0 ∷ 82 ∷ 87 ∷ 1 ∷ 2 ∷ 0 ∷ 1 ∷ 5 ∷ 0 ∷ 255 ∷ 3 ∷ 0 ∷ 82 ∷ 87 ∷ 1 ∷ 2 ∷ 0 ∷ 1 ∷ 3 ∷ 0 ∷ 255 ∷ 5 ∷ 0 ∷ 82 ∷ 87 ∷ 2 ∷ 1 ∷ 1 ∷ 1 ∷ 4 ∷ 0 ∷ []) ∷
     rows 2 1 (71 ∷ 91 ∷ 48 ∷ 44 ∷ 49 ∷ 93 ∷ 97 ∷ 48 ∷ []) 8 (82 ∷ 87 ∷ 2 ∷ 2 ∷ 0 ∷ 1 ∷ 2 ∷ 0 ∷ 255 ∷ 0 ∷ 0 ∷ 82 ∷ 87 ∷ 2 ∷ 2 ∷ 0 ∷ 1 ∷ 3 ∷ 0 ∷ 255 ∷ 1 ∷ 0 ∷ 82 ∷ 87 ∷ 1 ∷ 2 ∷ 0 ∷ 1 ∷ 2 ∷ 0 ∷ 255 ∷ 4 ∷ 0 ∷ 82 ∷ 87 ∷ 1 ∷ 2 ∷ 0 ∷ 1 ∷ 3 ∷ 0 ∷ 255 ∷ 4 ∷ 0 ∷ 82 ∷ 87 ∷ 1 ∷ 3 ∷ 255 ∷ 1 ∷ 4 ∷ 0 ∷ 255 ∷ 2 ∷ 0 ∷ 255 ∷ 3 ∷ 0 ∷ 82 ∷ 87 ∷ 1 ∷ 2 ∷ 0 ∷ 1 ∷ 3 ∷ 0 ∷ 255 ∷ 5 ∷ 0 ∷ 82 ∷ 87 ∷ 1 ∷ 2 ∷ 0 ∷ 1 ∷ 5 ∷ 0 ∷ 255 ∷ 3 ∷ 0 ∷ 82 ∷ 87 ∷ 2 ∷ 1 ∷ 1 ∷ 1 ∷ 4 ∷ 0 ∷ []) ∷
     rows 1 1 (70 ∷ 91 ∷ 48 ∷ 44 ∷ 48 ∷ 93 ∷ 97 ∷ 48 ∷ []) 4 (82 ∷ 87 ∷ 2 ∷ 2 ∷ 0 ∷ 1 ∷ 1 ∷ 0 ∷ 255 ∷ 0 ∷ 0 ∷ 82 ∷ 87 ∷ 1 ∷ 2 ∷ 0 ∷ 1 ∷ 2 ∷ 0 ∷ 255 ∷ 1 ∷ 0 ∷ 82 ∷ 87 ∷ 1 ∷ 2 ∷ 0 ∷ 1 ∷ 1 ∷ 0 ∷ 255 ∷ 2 ∷ 0 ∷ 82 ∷ 87 ∷ 2 ∷ 1 ∷ 1 ∷ 1 ∷ 2 ∷ 0 ∷ []) ∷ []
 
 pub lines-shown : Every Shown lines
-unfolding readOutcome reading parsed parse spanAt numberAt tokenAt signAt spaces digits value isNumeral evaluateOutcome tableChecked good recordGood nodeIn nodesIn all any runGood truthBytes truth rowsOutcome
+unfolding readOutcome reading parsed parse spanAt numberAt tokenAt signAt spaces digits value isNumeral evaluateOutcome tableChecked good recordGood nodeIn nodesIn all any runGood truthWords wordFrom truth rowsOutcome
 lines-shown = (refl, (refl, (refl, (refl, (refl, (refl, (refl, (refl, (refl, (refl, (refl, (refl, (refl, (refl, (refl, (refl, (refl, (refl, (refl, (refl, (refl, tt)))))))))))))))))))))

@@ -9,7 +9,7 @@ use lib.ListN.{length}
 use lib.IntN.{ℤ}
 use Rattle.rules.specs.Rule.{size}
 use Rattle.rules.specs.Table.{Node, Good}
-use Rattle.rules.specs.Truth.{TruthByte}
+use Rattle.rules.specs.Truth.{TruthBit}
 use Rattle.rules.specs.Rows.{rowsOf}
 use Rattle.rules.specs.RowCount.{rows-count}
 use Rattle.rules.specs.Judge.{None, Verdict, Judged}
@@ -40,14 +40,14 @@ read-fits m text room =
     let e : n ≡ size (i .0) = cc (i .2) in
     omega (arith, at-least 128 (size (i .0)) (λ h. none 6 (ReadRefused.text-refused (TextRefused.nodes (i .1) h)))))
 
-byte-fits : {P : Type 0} {v : ℕ} → TruthByte P v → v < 4294967296
-byte-fits (TruthByte.true x) = omega arith
-byte-fits (TruthByte.false x) = omega arith
+bit-fits : {P : Type 0} {v : ℕ} → TruthBit P v → v < 4294967296
+bit-fits (TruthBit.true x) = omega arith
+bit-fits (TruthBit.false x) = omega arith
 
 pub evaluate-fits : (t m : ℕ) (table run : List ℕ) (room : ℕ) → Fits (result (evaluateOutcome t m table run room))
 evaluate-fits t m table run room =
     fits _ _ (evaluateOutcome t m table run room) (evaluator-exact t m table run room)
-    (λ v bytes none i. let e : i .1 ≡ v = cc (i .6) in rw e at (byte-fits (i .5)))
+    (λ v bytes none i. let e : i .1 ≡ v = cc (i .6) in rw e at (bit-fits (i .5)))
 
 -- ---- at most T + 4 rows for a node at a slot
 

@@ -1,4 +1,5 @@
 -- What the C structs say.
+use mathlib.Core.Option.{Option, none, some}
 use Prim.Native.Nat.{ℕ, _<_}
 use lib.IntN.{ℤ, pos}
 use Rattle.rules.specs.Demands.{Answer}
@@ -8,9 +9,9 @@ use Rattle.rules.specs.Judge.Verdict.{outside, not-binary, broken, passed}
 use Rattle.sepia.specs.declared.SepiaAnswer.{SepiaAnswer}
 use Rattle.sepia.specs.declared.SepiaVerdict.{SepiaVerdict}
 
--- rises with each change of the boundary: 1 as first offered, 2 with request N1, 3 with N2, 4 with N4, 5 with N6
+-- rises with each change of the boundary: 1 as first offered, 2 with request N1, 3 with N2, 4 with N4, 5 with N6, 6 with N5
 abbrev pub version : ℕ
-version = 5
+version = 6
 
 -- refusal 0: value is the result
 abbrev pub inC : Answer ℕ → SepiaAnswer
@@ -21,6 +22,11 @@ inC (answered n) = record { refusal = 0; value = n }
 abbrev pub Fits : Answer ℕ → Type 0
 Fits (refused k) = Unit {0}
 Fits (answered n) = n < 4294967296
+
+-- a first slot, and 0 for none: slots count from 1
+abbrev pub slotInC : Option ℕ → ℕ
+slotInC none = 0
+slotInC (some t) = t
 
 -- verdict 0 outside, 1 not binary, 2 broken, 3 passed, and its variable, row or row count
 abbrev pub verdictNumber : Verdict → ℕ

@@ -2,20 +2,22 @@
 ghost use mathlib.Core.Path.{_≡_};
 ghost use lib.ListN.{length};
 ghost use Rattle.rules.specs.Outcome.{result, buffer, readOutcome, evaluateOutcome, rowsOutcome, judgeOutcome};
+ghost use Rattle.rules.specs.Words.{firstSlot};
 ghost use Rattle.answers.specs.Told.{told};
 ghost use Rattle.mps.specs.Outcome.{pageOutcome};
 ghost use Rattle.judge.specs.Ruled.{ruled, verdictOf};
-ghost use Rattle.sepia.specs.Boundary.{version, inC, Fits, verdictNumber, verdictValue, verdictShortfall, verdictInC, VerdictFits};
+ghost use Rattle.sepia.specs.Boundary.{version, inC, Fits, slotInC, verdictNumber, verdictValue, verdictShortfall, verdictInC, VerdictFits};
 use answers::Answer;
 use judge::Ruling;
 use judge::Verdict;
+use words::FirstSlot;
 
 // The version of this boundary, for a caller to compare with its header's.
 #[no_mangle]
 pub extern "C" fn sepia_version() -> u32
     ensures { λ r. ⌜ r ≡ version ⌝ }
 {
-    5
+    6
 }
 
 // A refusal's number, or 0 and the result.
@@ -50,19 +52,30 @@ pub extern "C" fn sepia_read(text: &[u8], m: usize, out: &mut [u8]) -> SepiaAnsw
     plain(reader::read(text, m, out))
 }
 
-// Evaluates a table over a run.
+// Evaluates a table over a run: a truth word for each node.
 #[no_mangle]
 pub extern "C" fn sepia_evaluate(
     table: &[u8],
     t: usize,
     m: usize,
     run: &[u16],
-    out: &mut [u8],
+    out: &mut [u64],
 ) -> SepiaAnswer
     ensures { λ r. ⌜ r ≡ inC (result (evaluateOutcome t m (now (table .entry)) (now (run .entry)) (length (now (out .entry))))) ⌝ }
     ensures { λ _. ⌜ now (out .exit) ≡ buffer (evaluateOutcome t m (now (table .entry)) (now (run .entry)) (length (now (out .entry)))) (now (out .entry)) ⌝ }
 {
     plain(evaluator::evaluate(table, t, m, run, out))
+}
+
+// The first slot at which a truth word has a set bit, and 0 where it has none.
+#[no_mangle]
+pub extern "C" fn sepia_first_slot(word: u64) -> u32
+    ensures { λ r. ⌜ r ≡ slotInC (firstSlot word) ⌝ }
+{
+    match words::first_slot(word) {
+        FirstSlot::Slot(t) => t as u32,
+        FirstSlot::None => 0,
+    }
 }
 
 // Writes a table's rows.

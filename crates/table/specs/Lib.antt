@@ -2,3 +2,4 @@ pub mod Nodes
 pub mod Checks
 pub mod Heights
 pub mod Ends
+pub mod Atoms

@@ -15,6 +15,9 @@ ghost use Rattle.table.specs.Checks.{checkOf};
 // The mark of a node record.
 pub const MARK: [u8; 2] = *b"ND";
 
+// The kind of an atom.
+const ATOM: u8 = 1;
+
 pub enum Kind {
     Atom,
     Not,
@@ -211,7 +214,7 @@ fn fields_good(kind: u8, left: u8, right: u8, from: u8, to: u8, m: usize, n: usi
 
 // Two bytes as one number: the test of a mark is then one comparison.
 fn word(low: u8, high: u8) -> usize
-    ensures { λ r. ⌜ (r ≡ low + 256 * high) × (low < 256) ⌝ }
+    ensures { λ r. ⌜ (r ≡ low + 256 * high) × (low < 256) × (high < 256) ⌝ }
 {
     wide(low) + 256 * wide(high)
 }
@@ -252,30 +255,30 @@ pub fn larger(a: usize, b: usize) -> usize
 }
 
 // The height in node n's record.
-fn height_at(table: &[u8], n: usize) -> usize
+pub fn height_at(table: &[u8], n: usize) -> usize
     requires { ⌜ n < recordCount (now table) ⌝ }
     ensures { λ r. ⌜ (r ≡ byteAt (now (table .entry)) n 7) × (r < 256) ⌝ }
 {
     wide(table[8 * n + 7])
 }
 
-// Whether node n's record has the height that its children's records give. There is no branch: an atom, of kind 1, has
-// itself for its left child, and who has no right child has node 0 there, an atom, of height 0.
+// Whether node n's record has the height that its children's records give. Who has no right child has node 0 there, an
+// atom, of height 0.
 fn height_good(table: &[u8], n: usize) -> bool
     requires { ⌜ n < recordCount (now table) ⌝ }
     requires { ⌜ ChildrenKnown (now table) n ⌝ }
     ensures { λ r. ⌜ r ≡ heightTest (now (table .entry)) n ⌝ }
 {
     let at = 8 * n;
-    let atom = table[at + 2] == 1;
-    let left = pick(atom, n, wide(table[at + 3]));
+    let left = wide(table[at + 3]);
     let right = wide(table[at + 4]);
     let highest = larger(height_at(table, left), height_at(table, right));
-    height_at(table, n) == pick(atom, 0, highest + 1)
+    height_at(table, n) == highest + 1
 }
 
-fn record_good(table: &[u8], m: usize, n: usize) -> bool
-    requires { ⌜ n < recordCount (now table) ⌝ }
+// Whether the record of node n, which is not an atom's, is as it must be.
+fn composed_good(table: &[u8], m: usize, n: usize) -> bool
+    requires { ⌜ (n < recordCount (now table)) × (byteAt (now table) n 2 ≡ 1 → ⊥) ⌝ }
     requires { ⌜ FirstLow (now table) n ⌝ }
     ensures { λ r. ⌜ r ≡ recordGood m (now (table .entry)) n ⌝ }
 {
@@ -283,6 +286,29 @@ fn record_good(table: &[u8], m: usize, n: usize) -> bool
         height_good(table, n)
     } else {
         false
+    }
+}
+
+// Whether an atom's record is as it must be: right, window and height are 0, which is one comparison of four bytes.
+fn atom_good(table: &[u8], m: usize, n: usize) -> bool
+    requires { ⌜ (n < recordCount (now table)) × (byteAt (now table) n 2 ≡ 1) ⌝ }
+    ensures { λ r. ⌜ r ≡ recordGood m (now (table .entry)) n ⌝ }
+{
+    let at = 8 * n;
+    let rest = word(table[at + 4], table[at + 5]) + 65536 * word(table[at + 6], table[at + 7]);
+    both(marked(table, at), both(wide(table[at + 3]) < m, rest == 0))
+}
+
+// Whether node n's record is as it must be. Many nodes are atoms, whose test is short.
+fn record_good(table: &[u8], m: usize, n: usize) -> bool
+    requires { ⌜ n < recordCount (now table) ⌝ }
+    requires { ⌜ FirstLow (now table) n ⌝ }
+    ensures { λ r. ⌜ r ≡ recordGood m (now (table .entry)) n ⌝ }
+{
+    if table[8 * n + 2] == ATOM {
+        atom_good(table, m, n)
+    } else {
+        composed_good(table, m, n)
     }
 }
 

@@ -1,7 +1,7 @@
--- `demands::evaluate` meets its contract: demands 1 and 2, from the contract of `evaluator::evaluate`.
+-- `demands::evaluate` meets its contract: demands 1 and 2, and the bytes of before, from the contract of `evaluator::evaluate`.
 use Rattle.answers.specs.Told.{told}
 use Rattle.demands.specs.Refusing.{evaluator-refuses}
-use Rattle.demands.specs.Answering.{evaluator-answers}
+use Rattle.demands.specs.Answering.{evaluator-answers, evaluator-bytes}
 use borrow.Author.Needs.{needs}
 use Rattle.demands.proofs.evaluate.Statement.{statement}
 use Rattle.demands.proofs.evaluate.Tie as tie
@@ -15,9 +15,11 @@ same-length c = search needs
 returns : tie.Need-returns
 returns c =
     let a = c .before .before .before .before .before .before .before .args in
-    let k = c .before .before .evaluate in (
+    let k = c .before .before .evaluate in
+    let answers = evaluator-answers (a .t) (a .m) (a .table .now) (a .run .now) (told (k .result)) (a .out .now) (k .last .1 .1 .1 .1 .0)
+    (k .ensures .0) (k .ensures .1) in (
       evaluator-refuses (a .t) (a .m) (a .table .now) (a .run .now) (told (k .result)) (a .out .now) (k .last .1 .1 .1 .1 .0) (k .ensures .0) (k .ensures .1),
-      evaluator-answers (a .t) (a .m) (a .table .now) (a .run .now) (told (k .result)) (a .out .now) (k .last .1 .1 .1 .1 .0) (k .ensures .0) (k .ensures .1),
+      (answers, evaluator-bytes (a .t) (a .m) (a .table .now) (a .run .now) (told (k .result)) (a .out .now) (k .last .1 .1 .1 .1 .0) answers),
     )
 
 pub evaluate-spec : {M : Type 1} → statement M

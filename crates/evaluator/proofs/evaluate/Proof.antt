@@ -1,20 +1,20 @@
 -- `evaluator::evaluate` meets its contract. Assumes nothing.
 use Rattle.rules.specs.Demands.Answer.{answered}
 use Rattle.rules.specs.Table.{root}
-use Rattle.rules.specs.TableTest.{recordCount, nodesIn, length-nodesIn}
+use Rattle.rules.specs.TableTest.{nodesIn, length-nodesIn}
 use mathlib.Core.Path.{_≡_, refl, sym, ap, _∙_}
-use Prim.Native.Nat.{_-_, _<_}
+use Prim.Native.Nat.{_-_, _≤_}
 use native.Mathlib.Omega.{arith}
 use lib.ListN.{length}
-use Rattle.lists.specs.Place.{place-end}
 use Rattle.evaluator.specs.Checks.{Workable, workable, outcome-is}
-use Rattle.evaluator.specs.Known.{known-all, root-byte}
+use Rattle.evaluator.specs.Truths.{filled-all, root-bit}
 use borrow.Author.Needs.{needs}
 use Rattle.evaluator.proofs.evaluate.Statement.{statement}
 use Rattle.evaluator.proofs.evaluate.Tie as tie
 
 -- where the checks are passed, the work can be done
-able : (c : tie.After-enum-told) → let a = c .before .before .before .before .before .before .args in Workable (a .t) (a .table .now) (a .run .now) (length (a .out .now))
+able : (c : tie.After-enum-told) →
+    let a = c .before .before .before .before .before .before .args in Workable (a .t) (a .m) (a .table .now) (a .run .now) (length (a .out .now))
 able c = workable _ _ _ _ _ (sym (c .before .before .check .ensures) ∙ c .enum-told .given .1)
 
 check-requires : tie.Need-check-requires
@@ -35,20 +35,18 @@ count-requires c κs = search needs
 sub-root : tie.Need-sub-root
 sub-root c = let w = able (c .before .before .before .before .before) in omega arith
 
-mul-wide : tie.Need-mul-wide
-mul-wide c =
+mul-at-first : tie.Need-mul-at-first
+mul-at-first c =
     let w = able (c .before .before .before .before .before) in
-    let h : c .count .result - 1 < recordCount (c .before .before .before .before .before .before .before .before .before .before .before .args .table .now) = omega arith in
-    omega (arith, place-end (c .before .before .before .before .before .before .before .before .before .before .before .args .t) h)
+    omega (arith, c .before .before .before .work .ensures .same, c .before .before .before .before .before .before .before .before .before .before .before .good)
 
-slice-read-wide : tie.Need-slice-read-wide
-slice-read-wide c =
+slice-read-at-first : tie.Need-slice-read-at-first
+slice-read-at-first c =
     let w = able (c .before .before .before .before .before .before) in
-    let h : c .before .count .result - 1 < recordCount (c .before .before .before .before .before .before .before .before .before .before .before .before .args .table .now) = omega arith in
-    omega (arith, place-end (c .before .before .before .before .before .before .before .before .before .before .before .before .args .t) h, c .before .before .before .before .work .ensures .same)
+    omega (arith, c .before .before .before .before .work .ensures .same)
 
-wide-requires : tie.Need-wide-requires
-wide-requires c κs = search needs
+at-first-requires : tie.Need-at-first-requires
+at-first-requires c κs = search needs
 
 returns : tie.Need-returns
 returns c = rw (outcome-is _ _ _ _ _, sym (c .before .before .before .check .ensures) ∙ c .before .checked .given .1) (refl, refl)
@@ -62,11 +60,12 @@ returns-2 c =
     let w = able (c .before .before .before .before .before .before .before) in
     let k = c .before .before .before .before .before .work .ensures in
     let n = length-nodesIn (a .m) (a .table .now) in
-    let room = rw (← n) at (w .room-for) in
+    let room : length (nodesIn (a .table .now)) ≤ length (a .out .now) = omega arith in
     let last : c .before .before .count .result - 1 ≡ root (nodesIn (a .table .now)) = omega arith in
     rw (outcome-is _ _ _ _ _, sym (c .before .before .before .before .before .before .before .before .before .check .ensures) ∙ c .before .before .before .before .before .before .before .enum-told .given .1) (
-      ap answered (c .wide .ensures ∙ root-byte (a .t) (a .run .now) _ (w .slots) (a .out .now) _ room k _ (omega arith) last),
-      known-all (a .t) (a .run .now) _ (w .slots) (a .out .now) _ room k,
+      ap answered (c .at-first .ensures ∙ root-bit (a .t) (w .slots) (a .m) (a .run .now) (nodesIn (a .table .now)) (w .good) (a .out .now) _ k _
+          (omega arith) last),
+      filled-all (a .t) (w .slots) (a .m) (a .run .now) (nodesIn (a .table .now)) (w .good) (a .out .now) _ k room,
     )
 
 pub evaluate-spec : {M : Type 1} → statement M
@@ -79,9 +78,9 @@ evaluate-spec =
     work-requires
     count-requires
     sub-root
-    mul-wide
-    slice-read-wide
-    wide-requires
+    mul-at-first
+    slice-read-at-first
+    at-first-requires
     returns
     same-length
     returns-2)

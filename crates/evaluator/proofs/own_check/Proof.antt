@@ -1,7 +1,4 @@
 -- `evaluator::own_check` meets its contract, a rung for each test. Assumes nothing.
-use Prim.Native.Nat.{_≤_}
-use native.Mathlib.Nat.{mul-le-mul}
-use native.Mathlib.Omega.{arith}
 use borrow.Author.Tests.{lt-leb, le-leb}
 use Rattle.rules.specs.TableTest.{length-nodesIn}
 use Rattle.lists.specs.Flags.{off, on}
@@ -18,11 +15,6 @@ returns c = rw (off (c .before .run-good .ensures) (c .if1 .taken))
 count-requires : tie.Need-count-requires
 count-requires c κs = search needs
 
-mul-if2 : tie.Need-mul-if2
-mul-if2 c =
-    let few : c .count .result ≤ 128 = omega arith in
-    omega (arith, mul-le-mul few (c .before .before .before .before .before .pre .slots-high))
-
 returns-2 : tie.Need-returns-2
 returns-2 c =
     let a = c .before .before .before .before .before .before .args in
@@ -37,4 +29,4 @@ returns-3 c =
 
 pub own-check-spec : {M : Type 1} → statement M
 own-check-spec =
-    tie.close (tie.spec run-good-requires returns count-requires mul-if2 returns-2 returns-3)
+    tie.close (tie.spec run-good-requires returns count-requires returns-2 returns-3)

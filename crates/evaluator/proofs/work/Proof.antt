@@ -1,36 +1,53 @@
--- `evaluator::work` meets its contract. The loop's invariant: the bytes of the first n nodes are their truths. Assumes nothing.
+-- `evaluator::work` meets its contract. The loop's invariant: the first n nodes have their words. Assumes nothing.
 use mathlib.Core.Path.{_≡_}
 use Prim.Native.Nat.{_-_, _≤_, _<_}
 use native.Mathlib.Omega.{arith}
 use borrow.Author.Needs.{needs}
 use lib.ListN.{length}
-use Rattle.lists.specs.Place.{place-end}
-use Rattle.rules.specs.TableTest.{recordCount, nodesIn, length-nodesIn}
-use Rattle.evaluator.specs.Known.{Known, known-none, known-more}
+use Rattle.rules.specs.Table.{nodeAt}
+use Rattle.rules.specs.TableTest.{nodesIn, length-nodesIn}
+use Rattle.atomwords.specs.Packing.{blank-zeros}
+use Rattle.evaluator.specs.Low.{low-atom}
+use Rattle.evaluator.specs.Nodes.{children-there}
+use Rattle.evaluator.specs.Filled.{Filled, filled-none, filled-more}
 use Rattle.evaluator.proofs.work.Statement.{statement}
 use Rattle.evaluator.proofs.work.Tie as tie
 
 abbrev Inv-loop : tie.InvT-loop
-Inv-loop table t run out₀ count n₀ out n = (n ≤ count) × Known t run (nodesIn table) out₀ n out
+Inv-loop table t m run out₀ cols count n₀ out n = (n ≤ count) × Filled t run (nodesIn table) out₀ n out
 
 abbrev μ-loop : tie.MeasureT-loop
-μ-loop table t run out₀ count n₀ out n = count - n
+μ-loop table t m run out₀ cols count n₀ out n = count - n
+
+columns-requires : tie.Need-columns-requires Inv-loop μ-loop
+columns-requires c κs = let w = c .before .before .before .before .pre in ((w .slots-high, w .enough, w .atoms-high, w .numbers), blank-zeros)
 
 count-requires : tie.Need-count-requires Inv-loop μ-loop
 count-requires c κs = search needs
 
 loop-holds : tie.Need-loop-holds Inv-loop μ-loop
-loop-holds c = (omega arith, known-none _ _ _ _)
+loop-holds c = (omega arith, filled-none _ _ _ _)
 
-node-at-requires : tie.Need-node-at-requires Inv-loop μ-loop
-node-at-requires c κs = omega arith
+word-at-requires : tie.Need-word-at-requires Inv-loop μ-loop
+word-at-requires c κs =
+    let s = c .before .before .before .before .before .before .before .before .before .before in
+    let i = c .before .before .before .loop in
+    let w = s .pre in
+    let a = s .args in
+    let h : i .n < length (nodesIn (a .table .now)) = omega (arith, length-nodesIn (a .m) (a .table .now)) in (
+      (w .slots, w .slots-high, omega arith),
+      (
+        children-there (a .t) (a .m) (i .n) (i .out) (nodeAt (nodesIn (a .table .now)) (i .n)) (w .atoms-high) (omega (arith, i .inv .1 .same))
+            (λ k u. i .inv .1 .at k u .small) (w .good (i .n) h),
+        low-atom (a .m) (a .table .now) (w .table-good) (w .good) (i .n) h,
+      ),
+    )
 
-work-node-requires : tie.Need-work-node-requires Inv-loop μ-loop
-work-node-requires c κs =
-    let s = c .before .before .before .before .before .before .before .before in
-    let n = c .before .before .before .loop .n in
-    let h : n < recordCount (s .args .table .now) = omega arith in
-    ((omega (arith, place-end (s .args .t) h), omega arith), rw (c .before .node-at .ensures .is) (s .pre .good n (omega (arith, length-nodesIn 16 (s .args .table .now)))))
+mul-out : tie.Need-mul-out Inv-loop μ-loop
+mul-out c = omega (arith, c .before .before .before .before .loop .inv .1 .same, c .before .before .before .before .before .before .before .before .before .before .before .good)
+
+slice-write-out : tie.Need-slice-write-out Inv-loop μ-loop
+slice-write-out c = omega (arith, c .before .before .before .before .loop .inv .1 .same)
 
 add-n : tie.Need-add-n Inv-loop μ-loop
 add-n c = omega arith
@@ -41,18 +58,20 @@ loop-less c = omega arith
 loop-again : tie.Need-loop-again Inv-loop μ-loop
 loop-again c =
     let s = c .before .before .before .before .before .before .before .before .before .before .before in
-    let l = c .before .before .before .before .before .before .loop in
-    let h : l .n < length (nodesIn (s .args .table .now)) = omega (arith, length-nodesIn 16 (s .args .table .now)) in
-    let w = rw (c .before .before .before .before .node-at .ensures .is) at (c .before .before .work-node .ensures) in
-    (omega arith, known-more (s .args .t) 16 (s .args .run .now) (nodesIn (s .args .table .now)) (s .pre .good) (s .args .out .now) (l .n) h _ _ (l .inv .1) w)
+    let i = c .before .before .before .before .loop in
+    let a = s .args in
+    let ns = nodesIn (a .table .now) in
+    let h : i .n < length ns = omega (arith, length-nodesIn (a .m) (a .table .now)) in
+    let w = c .word-at .ensures (a .run .now) (a .m) (i .n) (s .pre .good (i .n) h) (c .before .before .before .before .before .before .columns .ensures) in
+    (omega arith, filled-more (a .t) (a .m) (a .run .now) ns (a .out .now) (i .n) (i .out) (s .pre .good) h (omega arith) (i .inv .1) (c .word-at .result) w)
 
 same-length : tie.Need-same-length Inv-loop μ-loop
-same-length c = omega arith
+same-length c = c .before .loop .inv .1 .same
 
 returns : tie.Need-returns Inv-loop μ-loop
 returns c =
-    let table = c .before .before .before .before .before .before .args .table .now in
-    let z : c .before .loop .n ≡ length (nodesIn table) = omega (arith, length-nodesIn 16 table) in
+    let a = c .before .before .before .before .before .before .before .before .args in
+    let z : c .before .loop .n ≡ length (nodesIn (a .table .now)) = omega (arith, length-nodesIn (a .m) (a .table .now)) in
     rw z at (c .before .loop .inv .1)
 
 pub work-spec : {M : Type 1} → statement M
@@ -61,10 +80,12 @@ work-spec =
     (tie.spec
     Inv-loop
     μ-loop
+    columns-requires
     count-requires
     loop-holds
-    node-at-requires
-    work-node-requires
+    word-at-requires
+    mul-out
+    slice-write-out
     add-n
     loop-less
     loop-again

@@ -18,7 +18,7 @@ use Rattle.rules.specs.Reading.{reading, reading-sound, reading-complete
 use Rattle.rules.specs.Table.{Node, Good, tableBytes, nodesOf, ruleAt, root}
 use Rattle.rules.specs.TableRules.{length-nodesFrom, nodes-good, rule-good, root-is}
 use Rattle.rules.specs.TableTest.{good-nodes}
-use Rattle.rules.specs.Truth.{Holds, endless, TruthByte}
+use Rattle.rules.specs.Truth.{Holds, endless, TruthBit, slotBit}
 use Rattle.rules.specs.Evaluation.{bitOf, truth}
 use Rattle.rules.specs.Rows.{valueAt, rowsOf, rowsBytes, slackRows, goalRow}
 use Rattle.rules.specs.RowRecords.{rows-back, rows-recordable}
@@ -27,11 +27,11 @@ use Rattle.rules.specs.Refusals.{RunGood, TextRefused, ReadRefused, Tabl
 use Rattle.rules.specs.Demands.{OnlyTheTruth, Demand3At, Demand3}
 use Rattle.rules.specs.Demands.Answer.{answered}
 use Rattle.rules.specs.Demands.Written.{wrote}
-use Rattle.rules.specs.Outcome.{between, atomsBelow, windowsGood, readOutcome, rowsOutcome, truthBytes, evaluateOutcome}
+use Rattle.rules.specs.Outcome.{between, atomsBelow, windowsGood, readOutcome, rowsOutcome, truthWords, evaluateOutcome}
 use Rattle.rules.specs.Exactness.Tests.{between-true, between-false, atoms-true, windows-true, failed, passes}
 use Rattle.rules.specs.Exactness.Read.{read-exact}
 use Rattle.rules.specs.Exactness.Rows.{rows-exact}
-use Rattle.rules.specs.Exactness.Evaluate.{evaluate-exact, truth-byte, bytes-are}
+use Rattle.rules.specs.Exactness.Evaluate.{evaluate-exact, truth-bit, words-are}
 use Rattle.rules.specs.Solution.Truths.{only-the-truth}
 
 -- what a text has that gives no ground to refuse
@@ -77,20 +77,20 @@ module _ (M : ℕ) (text : List ℕ) (ok : None (TextRefused M text)) where
             nodes = few-nodes p s (leb (size p) 128) refl;
           }
 
--- a numerator where a byte is the truth
-byte-numerator : (P : Type 0) (D x b : ℕ) (z : ℤ) → TruthByte P b → (P → z ≡ pos D) → ((P → ⊥) → z ≡ pos 0) → z ≡ pos (b * D)
-byte-numerator P D x b z h f g = go h
+-- a numerator where a bit is the truth
+bit-numerator : (P : Type 0) (D x b : ℕ) (z : ℤ) → TruthBit P b → (P → z ≡ pos D) → ((P → ⊥) → z ≡ pos 0) → z ≡ pos (b * D)
+bit-numerator P D x b z h f g = go h
   where
-    go : {b : ℕ} → TruthByte P b → z ≡ pos (b * D)
-    go (TruthByte.true y) = f y ∙ ap pos (omega arith)
-    go (TruthByte.false y) = g y ∙ ap pos (omega arith)
+    go : {b : ℕ} → TruthBit P b → z ≡ pos (b * D)
+    go (TruthBit.true y) = f y ∙ ap pos (omega arith)
+    go (TruthBit.false y) = g y ∙ ap pos (omega arith)
 
-byte-one-iff : (P : Type 0) (b : ℕ) → TruthByte P b → (b ≡ 1) ↔ P
-byte-one-iff P b h = go h
+bit-one-iff : (P : Type 0) (b : ℕ) → TruthBit P b → (b ≡ 1) ↔ P
+bit-one-iff P b h = go h
   where
-    go : {b : ℕ} → TruthByte P b → (b ≡ 1) ↔ P
-    go (TruthByte.true y) = (λ e. y, λ z. refl)
-    go (TruthByte.false y) = (λ e. absurd (omega arith), λ z. absurd (y z))
+    go : {b : ℕ} → TruthBit P b → (b ≡ 1) ↔ P
+    go (TruthBit.true y) = (λ e. y, λ z. refl)
+    go (TruthBit.false y) = (λ e. absurd (omega arith), λ z. absurd (y z))
 
 module _ (T M D : ℕ) (run : List ℕ) (slots : SlotsAllowed T) (runs : RunGood T M run) (0<D : 1 ≤ D) (text : List ℕ) (ok : None (TextRefused M text)) (q : Plain M text) where
   abbrev p : Rule
@@ -123,10 +123,10 @@ module _ (T M D : ℕ) (run : List ℕ) (slots : SlotsAllowed T) (runs : RunGood
     rows-ok h k (RowsRefused.table-refused x) = table-ok k x
     rows-ok h k (RowsRefused.short {ns = ms} g x) = omega (arith, ap (λ (l : List Node). length (rowsBytes (rowsOf T M l))) (same-nodes ms g))
 
-    evaluate-ok : size p * T ≤ room → None (EvaluateRefused T M (tableBytes ns) run room)
+    evaluate-ok : size p ≤ room → None (EvaluateRefused T M (tableBytes ns) run room)
     evaluate-ok h k (EvaluateRefused.table-refused x) = table-ok k x
     evaluate-ok h k (EvaluateRefused.run-bad x) = x runs
-    evaluate-ok h k (EvaluateRefused.short {ns = ms} g x) = omega (arith, ap (λ (l : List Node). length l * T) (same-nodes ms g), ap (λ (n : ℕ). n * T) length-ns)
+    evaluate-ok h k (EvaluateRefused.short {ns = ms} g x) = omega (arith, ap (λ (l : List Node). length l) (same-nodes ms g), length-ns)
 
     read-is : 8 * size p ≤ room → readOutcome M text room ≡ answered (wrote (size p) (tableBytes ns))
     read-is h = read-exact M text room .answers (wrote (size p) (tableBytes ns)) .1 (read-ok h, (p, q .says, refl))
@@ -134,15 +134,15 @@ module _ (T M D : ℕ) (run : List ℕ) (slots : SlotsAllowed T) (runs : RunGood
     rows-are : length (rowsBytes (rowsOf T M ns)) ≤ room → rowsOutcome T M (tableBytes ns) room ≡ answered (wrote (length (rowsOf T M ns)) (rowsBytes (rowsOf T M ns)))
     rows-are h = rows-exact T M (tableBytes ns) room .answers (wrote (length (rowsOf T M ns)) (rowsBytes (rowsOf T M ns))) .1 (rows-ok h, (ns, good-table, refl))
 
-    evaluate-is : size p * T ≤ room → evaluateOutcome T M (tableBytes ns) run room ≡ answered (wrote (bitOf (truth T run (ruleAt ns (root ns)) 1)) (truthBytes T run ns))
+    evaluate-is : size p ≤ room → evaluateOutcome T M (tableBytes ns) run room ≡ answered (wrote (bitOf (truth T run (ruleAt ns (root ns)) 1)) (truthWords T run ns))
     evaluate-is h =
-        evaluate-exact T M (tableBytes ns) run room .answers (wrote (bitOf (truth T run (ruleAt ns (root ns)) 1)) (truthBytes T run ns)) .1
-        (evaluate-ok h, (ns, bitOf (truth T run (ruleAt ns (root ns)) 1), truthBytes T run ns, good-table, bytes-are T run ns (slots .0), truth-byte T run (ruleAt ns (root ns)) 1 (omega arith) (slots .0), refl))
+        evaluate-exact T M (tableBytes ns) run room .answers (wrote (bitOf (truth T run (ruleAt ns (root ns)) 1)) (truthWords T run ns)) .1
+        (evaluate-ok h, (ns, bitOf (truth T run (ruleAt ns (root ns)) 1), truthWords T run ns, good-table, words-are T run ns, truth-bit T run (ruleAt ns (root ns)) 1 (omega arith) (slots .0), refl))
 
   truthful : OnlyTheTruth T M D run ns (slackRows T M ns) (goalRow T M ns)
   truthful = only-the-truth T M D run ns (nodes-good M p (q .atoms) (q .windows)) (slots .0) 0<D (omega (arith, length-ns, size-positive p))
 
-  at-bytes : Demand3At T M D run p (tableBytes ns) (length (rowsOf T M ns)) (rowsBytes (rowsOf T M ns)) (bitOf (truth T run (ruleAt ns (root ns)) 1)) (truthBytes T run ns)
+  at-bytes : Demand3At T M D run p (tableBytes ns) (length (rowsOf T M ns)) (rowsBytes (rowsOf T M ns)) (bitOf (truth T run (ruleAt ns (root ns)) 1)) (truthWords T run ns)
   at-bytes = record {
     table-is = refl;
     root-is = root-is M p (q .atoms) (q .windows);
@@ -152,10 +152,10 @@ module _ (T M D : ℕ) (run : List ℕ) (slots : SlotsAllowed T) (runs : RunGood
     truthful = truthful;
     evaluated = λ n t h l u.
         let k : n < length ns = omega (arith, length-ns) in
-        byte-numerator (Holds (endless T run) (ruleAt ns n) t) D 0 (getD (truthBytes T run ns) (n * T + (t - 1)) 0) (valueAt (truthful .slacks) (n * T + (t - 1)))
-        (bytes-are T run ns (slots .0) .at n t k l u) (truthful .one n t k l u) (truthful .zero n t k l u);
+        bit-numerator (Holds (endless T run) (ruleAt ns n) t) D 0 (slotBit (getD (truthWords T run ns) n 0) t) (valueAt (truthful .slacks) (n * T + (t - 1)))
+        (words-are T run ns .at n t k l u) (truthful .one n t k l u) (truthful .zero n t k l u);
     answered = subst (λ (r : Rule). (bitOf (truth T run (ruleAt ns (root ns)) 1) ≡ 1) ↔ Holds (endless T run) r 1) (root-is M p (q .atoms) (q .windows))
-        (byte-one-iff (Holds (endless T run) (ruleAt ns (root ns)) 1) (bitOf (truth T run (ruleAt ns (root ns)) 1)) (truth-byte T run (ruleAt ns (root ns)) 1 (omega arith) (slots .0)));
+        (bit-one-iff (Holds (endless T run) (ruleAt ns (root ns)) 1) (bitOf (truth T run (ruleAt ns (root ns)) 1)) (truth-bit T run (ruleAt ns (root ns)) 1 (omega arith) (slots .0)));
   }
 
 pub demand3 : Demand3 readOutcome rowsOutcome evaluateOutcome
@@ -168,7 +168,7 @@ demand3 M text ok T D run slots runs 0<D =
       λ room₁ room₂ room₃ h₁ h₂ h₃. (
         tableBytes ns,
         rowsBytes r,
-        truthBytes T run ns,
+        truthWords T run ns,
         length r,
         bitOf (truth T run (ruleAt ns (root ns)) 1),
         read-is T M D run slots runs 0<D text ok q room₁ h₁,

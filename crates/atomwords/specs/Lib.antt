@@ -1,0 +1,4 @@
+pub mod Turning
+pub mod Exchanged
+pub mod Packing
+pub mod Columns

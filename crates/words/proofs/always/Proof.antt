@@ -1,0 +1,24 @@
+-- `words::always` meets its contract. Assumes nothing.
+use Rattle.words.specs.Words.{word-always}
+use borrow.Author.Needs.{needs}
+use Rattle.words.proofs.always.Statement.{statement}
+use Rattle.words.proofs.always.Tie as tie
+
+not-requires : tie.Need-not-requires
+not-requires c κs = search needs
+
+eventually-requires : tie.Need-eventually-requires
+eventually-requires c κs = search needs
+
+not-requires-2 : tie.Need-not-requires-2
+not-requires-2 c κs = search needs
+
+returns : tie.Need-returns
+returns c =
+    let s = c .before .before .before in
+    let p = c .before .before .not in
+    word-always (s .args .t) (s .args .p) (p .result) (c .before .eventually .result) (c .not2 .result)
+    (p .ensures) (c .before .eventually .ensures (s .args .t) (p .ensures .small)) (c .not2 .ensures)
+
+pub always-spec : {M : Type 1} → statement M
+always-spec = tie.close (tie.spec not-requires eventually-requires not-requires-2 returns)

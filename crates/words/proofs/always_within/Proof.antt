@@ -1,0 +1,27 @@
+-- `words::always_within` meets its contract. Assumes nothing.
+use Rattle.words.specs.Windows.{word-throughout}
+use borrow.Author.Needs.{needs}
+use Rattle.words.proofs.always_within.Statement.{statement}
+use Rattle.words.proofs.always_within.Tie as tie
+
+not-requires : tie.Need-not-requires
+not-requires c κs = search needs
+
+eventually-within-requires : tie.Need-eventually-within-requires
+eventually-within-requires c κs =
+    let s = c .before in
+    (s .pre .0, s .pre .1, c .not .ensures .small, s .pre .2, s .pre .3)
+
+not-requires-2 : tie.Need-not-requires-2
+not-requires-2 c κs = search needs
+
+returns : tie.Need-returns
+returns c =
+    let s = c .before .before .before in
+    let p = c .before .before .not in
+    word-throughout (s .args .t) (s .args .a) (s .args .b) (s .args .p) (p .result) (c .before .eventually-within .result) (c .not2 .result)
+    (s .pre .0) (p .ensures) (c .before .eventually-within .ensures) (c .not2 .ensures)
+
+pub always-within-spec : {M : Type 1} → statement M
+always-within-spec =
+    tie.close (tie.spec not-requires eventually-within-requires not-requires-2 returns)

@@ -1,0 +1,6 @@
+pub mod Bits
+pub mod Ahead
+pub mod Words
+pub mod Windows
+pub mod Told
+pub mod First
