@@ -28,9 +28,12 @@ static void fill_figures(size_t nodes, const uint16_t *run) {
         for (size_t s = 0; s < T; s++) figures[(M + n) * T + s] = (int32_t)(truth[n] >> s & 1) * ONE;
 }
 
+/* a verdict; where figures passed that are nearly right, the error figure tells whether the schedule that they round to meets the rule */
 static void judge(size_t nodes, int32_t e) {
     sepia_verdict verdict = sepia_judge(table, NODE_BYTES * nodes, T, M, figures, (M + nodes) * T, e);
-    printf("verdict %u, value %u, shortfall %lld\n", verdict.verdict, verdict.value, (long long)verdict.shortfall);
+    printf("verdict %u, value %u, error %u, shortfall %lld\n", verdict.verdict, verdict.value, verdict.error, (long long)verdict.shortfall);
+    if (verdict.verdict == SEPIA_PASSED)
+        puts(verdict.error < ONE / 2 ? "the rounded schedule meets the rule" : "the rounded schedule must be evaluated");
 }
 
 /* what a shift lead asks of a log: the first slot at which the rule holds, which is in the root's word, the last */
@@ -71,6 +74,8 @@ int main(void) {
 
     fill_figures(nodes, runs[0]);
     judge(nodes, 0);
+    figures[0] = 999400; /* a0 at slot 1, nearly right */
+    judge(nodes, 1000);
     figures[(M + nodes - 1) * T] = 500000; /* a figure left at one half */
     judge(nodes, 1000);
 

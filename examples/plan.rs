@@ -14,8 +14,11 @@ struct Verdict {
     refusal: u32,
     verdict: u32,
     value: u32,
+    error: u32,
     shortfall: i64,
 }
+
+const PASSED: u32 = 3;
 
 #[link(name = "sepia", kind = "static")]
 extern "C" {
@@ -55,9 +58,9 @@ fn mps(table: &[u8], t: usize, m: usize, out: &mut [u8]) -> Result<usize, u32> {
     answer(unsafe { sepia_mps(table.as_ptr(), table.len(), t, m, out.as_mut_ptr(), out.len()) })
 }
 
-fn judge(table: &[u8], t: usize, m: usize, figures: &[i32], e: i32) -> Result<(u32, usize, i64), u32> {
+fn judge(table: &[u8], t: usize, m: usize, figures: &[i32], e: i32) -> Result<Verdict, u32> {
     let v = unsafe { sepia_judge(table.as_ptr(), table.len(), t, m, figures.as_ptr(), figures.len(), e) };
-    if v.refusal == 0 { Ok((v.verdict, v.value as usize, v.shortfall)) } else { Err(v.refusal) }
+    if v.refusal == 0 { Ok(v) } else { Err(v.refusal) }
 }
 
 const T: usize = 8;
@@ -66,11 +69,15 @@ const NODES: usize = 128;
 const NODE_BYTES: usize = 8;
 const ONE: i32 = 1_000_000;
 
-const VERSION: u32 = 6; // of the boundary declared above
+const VERSION: u32 = 7; // of the boundary declared above
 
+// Where figures passed that are nearly right, the error figure tells whether the schedule that they round to meets the rule.
 fn print_verdict(table: &[u8], figures: &[i32], e: i32) -> Result<(), u32> {
-    let (verdict, value, shortfall) = judge(table, T, M, figures, e)?;
-    println!("verdict {verdict}, value {value}, shortfall {shortfall}");
+    let Verdict { verdict, value, error, shortfall, .. } = judge(table, T, M, figures, e)?;
+    println!("verdict {verdict}, value {value}, error {error}, shortfall {shortfall}");
+    if verdict == PASSED {
+        println!("the rounded schedule {}", if error < ONE as u32 / 2 { "meets the rule" } else { "must be evaluated" });
+    }
     Ok(())
 }
 
@@ -112,6 +119,8 @@ fn main() -> Result<(), u32> {
     let slacks = truth.iter().flat_map(|word| (0..T).map(move |s| (word >> s & 1) as i32 * ONE));
     let mut figures: Vec<i32> = atoms.chain(slacks).collect();
     print_verdict(table, &figures, 0)?;
+    figures[0] = 999_400; // a0 at slot 1, nearly right
+    print_verdict(table, &figures, 1000)?;
     figures[(M + nodes - 1) * T] = 500_000; // a figure left at one half
     print_verdict(table, &figures, 1000)?;
 

@@ -21,8 +21,9 @@ extern "C" {
  *   4  rules with windows: node records of 7 bytes, row records without padding, refusal 12, the order of refusals; sepia_version
  *   5  node records of 8 bytes, with the node's height; refusal 7 also when a height is wrong
  *   6  sepia_evaluate writes a word for each node in place of a byte for each node and slot, and its refusal 11 counts words;
- *      sepia_first_slot */
-#define SEPIA_VERSION 6
+ *      sepia_first_slot
+ *   7  a passed verdict carries its error figure, in what was padding */
+#define SEPIA_VERSION 7
 
 /* The version of the library; to be compared with SEPIA_VERSION. */
 uint32_t sepia_version(void);
@@ -55,16 +56,23 @@ enum {
     SEPIA_OUTSIDE = 0,    /* value: the lowest variable below -e or above 1,000,000 + e */
     SEPIA_NOT_BINARY = 1, /* value: the lowest atom variable more than e from both 0 and 1,000,000 */
     SEPIA_BROKEN = 2,     /* value: the lowest row that does not hold within e; shortfall: how far off it is */
-    SEPIA_PASSED = 3      /* value: the row count */
+    SEPIA_PASSED = 3      /* value: the row count; error: the root's error figure at slot 1 */
 };
 
 /* refusal 0: verdict and its value. Otherwise both are 0.
+ * error is in millionths, at most 1,000,000, for SEPIA_PASSED: how far the root's figure at slot 1 may be from the truth over the run made by
+ * rounding each atom to the nearer of 0 and 1,000,000. It follows from the table, T and e alone, and is 0 when e is.
+ *   below 500,000    that run satisfies the rule at slot 1
+ *   below 1,000,000  the root's figure at slot 1 is within error of 1,000,000 where that run satisfies the rule there, and of 0 where it does not
+ *   1,000,000        the count stops here, and nothing is said: evaluate that run
+ * Otherwise it is 0.
  * shortfall is in millionths, for SEPIA_BROKEN: of a >= row the right side less the sum, of an = row the distance between them, e not taken off;
  * always above e. Otherwise it is 0. */
 typedef struct {
     uint32_t refusal;
     uint32_t verdict;
     uint32_t value;
+    uint32_t error;
     int64_t shortfall;
 } sepia_verdict;
 
@@ -93,7 +101,9 @@ sepia_answer sepia_rows(const uint8_t *table, size_t table_len, size_t t, size_t
  * The result is the page's length in bytes, at most 24,984,950. */
 sepia_answer sepia_mps(const uint8_t *table, size_t table_len, size_t t, size_t m, uint8_t *out, size_t out_len);
 
-/* Judges a solver's figures, in millionths, one for each variable, with tolerance e. */
+/* Judges a solver's figures, in millionths, one for each variable, with tolerance e. Nothing that is lent is written: where figures pass, the
+ * error figures are worked out on the stack, of which the call then takes up to 72 KB (up to 5 KB with at most 256 nodes times slots).
+ * Otherwise it takes up to 5 KB. */
 sepia_verdict sepia_judge(const uint8_t *table, size_t table_len, size_t t, size_t m, const int32_t *figures, size_t figures_len, int32_t e);
 
 #ifdef __cplusplus

@@ -7,7 +7,8 @@
 What is expected is written down below, comes from SPIN (tests/spin.txt) or is worked out here from the paper's words
 (tests/paper.py); nothing of it comes from the program. Tables, truths, rows, refusals and verdicts that are written down
 must also be what the paper's words give; of a truth, its bytes and its words (request N5) must say the same for every node
-and slot. A new call has a function here that writes its case and what must be printed.
+and slot; what request N7 promises of figures that pass must be so. A new call has a function here that writes its case and
+what must be printed.
 """
 
 import itertools
@@ -24,13 +25,15 @@ Cases made by tests/known_lines.py. A line is a call, numbers, and after a colon
   write ROOM T M:TABLE
   mps ROOM T M:TABLE
   judge T M E FIGURES..:TABLE
+  counted T M E COUNT FIGURE..:TABLE (the judge, on many figures: each stands COUNT times)
   list:INPUT (what rowlist prints, in a buffer of 184,000 bytes without a guard)
   sum X Y C V.. (the row sum of terms of coefficient C and variable V, over the figures X and Y)
   total W X FIGURES.. (the row sum of a window's last row, F's where W is 1 and otherwise G's: the node has the figure X,
     the part the others)
 ROOM is the length of the buffer lent. It is filled with bytes fe and followed by 8 more of them, its guard.
 After a line stand the answer and what the buffer then holds: what was written, of mps and list as text, otherwise in
-hexadecimal, above 1,000 bytes its length and FNV-1a sum of 64 bits; then ~ and how many bytes fe follow, guard included.
+hexadecimal, then ~ and how many bytes fe follow, guard included. Of a line, and of what was written, of more than 1,000 bytes
+the length and the FNV-1a sum of 64 bits stand.
 For evaluate all this is counted in words of 64 bits, filled with fefefefefefefefe. They stand in hexadecimal without leading
 zeros, bit 0 for slot 1, and a line more has the first slot of each that was written.
 Above each group stands where the expected values come from."""
@@ -41,9 +44,13 @@ GUARD = 8
 MOST_WORDS = 512
 LISTING = 184000
 LONG = 1000
+FIGURES = 1020  # the most numbers of a judge case behind E
+FEW = 200  # as many figures stand one by one
 NAMES = {"n": "value", "v": "value", "r": "refused", "o": "outside", "b": "not binary", "k": "broken", "p": "passed"}
+SECOND = {"k": "shortfall", "p": "error"}
 KINDS = {**paper.SINGLE, **paper.DOUBLE}
 RECORD = paper.RECORD
+ONE = paper.ONE
 
 CASES, PRINTED = [], []
 
@@ -61,13 +68,13 @@ def spelled(data):
 def case(call, numbers, data, *printed):
     line = " ".join([call, *map(str, numbers)]) + ("" if data is None else ":" + spelled(data))
     CASES.append(line)
-    PRINTED.extend([line, *printed])
+    PRINTED.extend([summed(line.encode()) if len(line) > LONG else line, *printed])
 
 
 def said(answer):
-    """n3 as `value 3`, k0,1 as `broken 0 shortfall 1`."""
-    number, _, shortfall = answer[1:].partition(",")
-    return f"{NAMES[answer[0]]} {number}" + (f" shortfall {shortfall}" if shortfall else "")
+    """n3 as `value 3`, k0,1 as `broken 0 shortfall 1`, p2,1 as `passed 2 error 1`."""
+    number, _, second = answer[1:].partition(",")
+    return f"{NAMES[answer[0]]} {number}" + (f" {SECOND[answer[0]]} {second}" if second else "")
 
 
 def summed(data):
@@ -210,7 +217,32 @@ def judge(t, m, e, figures, answer, nodes):
     if refusal is None and not 0 <= e <= 1000:
         refusal = 10
     assert said(answer) == (f"refused {refusal}" if refusal is not None else paper.verdict(paper.nodes_in(nodes), t, m, figures, e))
-    case("judge", [t, m, e, *figures], nodes, said(answer))
+    if answer[0] == "p":
+        promised(t, m, e, figures, paper.nodes_in(nodes))
+    runs = [(len(list(run)), figure) for figure, run in itertools.groupby(figures)]
+    numbers = [number for run in runs for number in run]
+    call, numbers = ("counted", numbers) if len(numbers) < len(figures) > FEW else ("judge", figures)
+    assert len(numbers) <= FIGURES
+    case(call, [t, m, e, *numbers], nodes, said(answer))
+
+
+def judge_of_paper(t, m, e, figures, nodes):
+    """The verdict of the paper's words, on figures that are as many as they must be."""
+    verdict = paper.verdict(nodes, t, m, figures, e)
+    letter = next(letter for letter, name in NAMES.items() if letter in "obkp" and verdict.startswith(name))
+    numbers = [word for word in verdict.split() if word.isdecimal()]
+    judge(t, m, e, figures, letter + ",".join(numbers), paper.table(nodes))
+    return verdict
+
+
+def promised(t, m, e, figures, nodes):
+    """What request N7 says of figures that pass: each slack is within its error figure of the truth on the rounded run, where
+    that is below 1,000,000, and below 500,000 at the root the rule holds at slot 1."""
+    truths = paper.truth(nodes, paper.rounded(t, m, figures))
+    errors = paper.error_figures(nodes, t, m, e)[m * t :]
+    for error, figure, holds in zip(errors, figures[m * t :], itertools.chain(*truths), strict=True):
+        assert error == ONE or error < ONE and abs(figure - ONE * holds) <= error
+    assert errors[-t] >= 500000 or truths[-1][0]
 
 
 def page_of(nodes, t, m):
@@ -862,13 +894,10 @@ def widest(kind, first):
     return [*found, f"= 1 +{first + 64}"]
 
 
-ONE = 1000000
-
-
 def judging():
     say("The paper: `a0`, T 1, M 1")
     judge(1, 1, 0, [ONE, 999999], "k0,1", ATOM)
-    judge(1, 1, 1, [ONE, 999999], "p2", ATOM)
+    judge(1, 1, 1, [ONE, 999999], "p2,2", ATOM)
     judge(1, 1, 0, [500000, 500000], "b0", ATOM)
     judge(1, 1, 0, [-1, 0], "o0", ATOM)
     say("The paper, refusals: T 65; M 0; no records; no figures; tolerance 1,001")
@@ -888,8 +917,8 @@ def judging():
     judge(1, 1, -1000, [ONE, ONE], "r10", ATOM)
     judge(1, 1, 2147483647, [ONE, ONE], "r10", ATOM)
     judge(1, 1, -2147483648, [ONE, ONE], "r10", ATOM)
-    judge(1, 1, 1000, [ONE, ONE], "p2", ATOM)
-    judge(1, 1, 0, [ONE, ONE], "p2", ATOM)
+    judge(1, 1, 1000, [ONE, ONE], "p2,2000", ATOM)
+    judge(1, 1, 0, [ONE, ONE], "p2,0", ATOM)
     say("By hand: the first refusal in the order of the checks wins")
     judge(65, 0, -1, [], "r1", b"")
     judge(64, 0, -1, [], "r2", b"")
@@ -900,11 +929,11 @@ def judging():
     judge(1, 1, 0, [0, -1], "o1", ATOM)
     judge(1, 1, 0, [ONE + 1, 0], "o0", ATOM)
     judge(1, 1, 0, [ONE, ONE + 1], "o1", ATOM)
-    judge(1, 1, 1, [ONE + 1, ONE + 1], "p2", ATOM)
+    judge(1, 1, 1, [ONE + 1, ONE + 1], "p2,2", ATOM)
     judge(1, 1, 1, [ONE + 2, ONE + 1], "o0", ATOM)
     judge(1, 1, 1, [-1, -1], "k1,1000001", ATOM)
     judge(1, 1, 1, [-2, -1], "o0", ATOM)
-    judge(1, 1, 1000, [ONE + 1000, ONE + 1000], "p2", ATOM)
+    judge(1, 1, 1000, [ONE + 1000, ONE + 1000], "p2,2000", ATOM)
     judge(1, 1, 1000, [ONE + 1000, ONE + 1001], "o1", ATOM)
     judge(1, 1, 1000, [ONE, -1001], "o1", ATOM)
     judge(1, 1, 1000, [ONE, -1000], "k0,1001000", ATOM)
@@ -918,8 +947,8 @@ def judging():
     judge(1, 1, 1, [1, 1], "k1,999999", ATOM)
     judge(1, 1, 1, [2, 2], "b0", ATOM)
     judge(1, 1, 0, [999999, 999999], "b0", ATOM)
-    judge(1, 1, 1, [999999, 999999], "p2", ATOM)
-    judge(1, 1, 1000, [999000, 999000], "p2", ATOM)
+    judge(1, 1, 1, [999999, 999999], "p2,2", ATOM)
+    judge(1, 1, 1000, [999000, 999000], "p2,2000", ATOM)
     judge(1, 1, 1000, [998999, 998999], "b0", ATOM)
     judge(1, 1, 1000, [1000, 1000], "k1,999000", ATOM)
     judge(1, 1, 1000, [1001, 1001], "b0", ATOM)
@@ -927,23 +956,23 @@ def judging():
     judge(1, 2, 0, [ONE, 500000, ONE], "b1", ATOM)
     say("By hand: = rows within e either way, the goal row last")
     judge(1, 1, 0, [0, 0], "k1,1000000", ATOM)
-    judge(1, 1, 1, [999999, ONE], "p2", ATOM)
+    judge(1, 1, 1, [999999, ONE], "p2,2", ATOM)
     judge(1, 1, 1, [999999, ONE + 1], "k0,2", ATOM)
-    judge(1, 1, 1000, [ONE, 999000], "p2", ATOM)
+    judge(1, 1, 1000, [ONE, 999000], "p2,2000", ATOM)
     judge(1, 1, 1000, [ONE, 998999], "k0,1001", ATOM)
-    judge(64, 1, 0, [ONE] * 128, "p65", ATOM)
+    judge(64, 1, 0, [ONE] * 128, "p65,0", ATOM)
     judge(64, 1, 0, [ONE] * 127 + [999999], "k63,1", ATOM)
     judge(64, 1, 0, [0] + [ONE] * 63 + [0] + [ONE] * 63, "k64,1000000", ATOM)
     say("By hand: `a0Ua1`, T 2, M 2, rows numbered as rowlist prints them")
     met = [ONE, 0, 0, ONE, ONE, 0, 0, ONE, ONE, ONE]
-    judge(2, 2, 0, met, "p10", UNTIL)
+    judge(2, 2, 0, met, "p10,0", UNTIL)
     judge(2, 2, 0, met[:4] + [0] + met[5:], "k0,1000000", UNTIL)
     judge(2, 2, 0, met[:7] + [0] + met[8:], "k3,1000000", UNTIL)
     judge(2, 2, 0, met[:9] + [0], "k6,1000000", UNTIL)
     judge(2, 2, 0, met[:8] + [0, ONE], "k7,1000000", UNTIL)
     judge(2, 2, 0, met[:8] + [0, 0], "k8,1000000", UNTIL)
     judge(2, 2, 0, met[:8] + [500000, 500000], "k8,500000", UNTIL)
-    judge(2, 2, 1, met[:8] + [999999, 999999], "p10", UNTIL)
+    judge(2, 2, 1, met[:8] + [999999, 999999], "p10,8", UNTIL)
     judge(2, 2, 1, met[:8] + [999999, 999998], "k8,2", UNTIL)
     never = [ONE, ONE, 0, 0, ONE, ONE, 0, 0]
     judge(2, 2, 0, never + [0, 0], "k9,1000000", UNTIL)
@@ -955,11 +984,11 @@ def judging():
     judge(2, 2, 0, [0, 0, ONE, ONE, 0, 0, ONE, ONE, 0, ONE], "k4,1000000", UNTIL)
     say("By hand: e once for a row, whatever its terms: `a0&a1`, T 1, M 2, third row P - p - q >= -1")
     both = table((1, 0, 0), (1, 1, 0), (3, 0, 1))
-    judge(1, 2, 1, [ONE, ONE, ONE, ONE, 999999], "p6", both)
+    judge(1, 2, 1, [ONE, ONE, ONE, ONE, 999999], "p6,5", both)
     judge(1, 2, 1, [ONE, ONE, ONE + 1, ONE, 999999], "k4,2", both)
-    judge(1, 2, 2, [ONE, ONE, ONE + 1, ONE, 999999], "p6", both)
+    judge(1, 2, 2, [ONE, ONE, ONE + 1, ONE, 999999], "p6,10", both)
     say("By hand: the shortfall, e not taken off: of >= rows the right side less the sum, of = rows the distance either way")
-    judge(1, 1, 1000, [ONE, ONE + 1000], "p2", ATOM)
+    judge(1, 1, 1000, [ONE, ONE + 1000], "p2,2000", ATOM)
     judge(1, 1, 1000, [0, 1001], "k0,1001", ATOM)
     judge(1, 1, 1000, [0, -1000], "k1,1001000", ATOM)
     judge(1, 1, 999, [1, ONE + 999], "k0,1000998", ATOM)
@@ -972,8 +1001,8 @@ def judging():
 def judging_windows():
     say("By hand from the request (N4): `F[0,1]a0`, T 2, M 1: atoms, part, node; rows numbered as rowlist prints them")
     within = window("F", 0, 1)
-    judge(2, 1, 0, [0, ONE, 0, ONE, ONE, ONE], "p8", within)
-    judge(2, 1, 0, [ONE, 0, ONE, 0, ONE, 0], "p8", within)
+    judge(2, 1, 0, [0, ONE, 0, ONE, ONE, ONE], "p8,0", within)
+    judge(2, 1, 0, [ONE, 0, ONE, 0, ONE, 0], "p8,0", within)
     judge(2, 1, 0, [ONE, 0, ONE, 0, 0, 0], "k2,1000000", within)
     judge(2, 1, 0, [0, ONE, 0, ONE, 0, ONE], "k3,1000000", within)
     judge(2, 1, 0, [0, 0, 0, 0, ONE, 0], "k4,1000000", within)
@@ -981,7 +1010,7 @@ def judging_windows():
     judge(2, 1, 0, [ONE, 0, ONE, 0, ONE, ONE], "k6,1000000", within)
     judge(2, 1, 0, [0] * 6, "k7,1000000", within)
     judge(2, 1, 0, [0, ONE, 0, ONE, 999999, ONE], "k3,1", within)
-    judge(2, 1, 1, [0, ONE, 0, ONE, 999999, ONE], "p8", within)
+    judge(2, 1, 1, [0, ONE, 0, ONE, 999999, ONE], "p8,5", within)
     judge(2, 1, 1, [0, ONE, 0, ONE, 999998, ONE], "k3,2", within)
     judge(2, 1, 1000, [0, 0, -1000, -1000, 0, -1000], "k4,2000", within)
     judge(2, 1, 1000, [0, 0, -1000, -1000, -1000, -1000], "k7,1001000", within)
@@ -990,7 +1019,7 @@ def judging_windows():
     judge(2, 1, 0, [0, ONE, 0, ONE, ONE, -1], "o5", within)
     say("By hand: `G[0,1]a0`, T 2, M 1")
     throughout = window("G", 0, 1)
-    judge(2, 1, 0, [ONE] * 6, "p8", throughout)
+    judge(2, 1, 0, [ONE] * 6, "p8,0", throughout)
     judge(2, 1, 0, [0, ONE, 0, ONE, ONE, ONE], "k2,1000000", throughout)
     judge(2, 1, 0, [ONE, 0, ONE, 0, ONE, 0], "k3,1000000", throughout)
     judge(2, 1, 0, [ONE, ONE, ONE, ONE, 0, ONE], "k4,1000000", throughout)
@@ -998,33 +1027,33 @@ def judging_windows():
     judge(2, 1, 0, [ONE, ONE, ONE, ONE, ONE, 0], "k6,1000000", throughout)
     judge(2, 1, 0, [ONE, 0, ONE, 0, 0, 0], "k7,1000000", throughout)
     judge(2, 1, 0, [ONE, ONE, ONE, ONE, 999999, ONE], "k4,1", throughout)
-    judge(2, 1, 1, [ONE, ONE, ONE, ONE, 999999, ONE], "p8", throughout)
+    judge(2, 1, 1, [ONE, ONE, ONE, ONE, 999999, ONE], "p8,5", throughout)
     judge(2, 1, 1, [ONE, ONE, ONE, ONE, 999998, ONE], "k4,2", throughout)
     judge(2, 1, 1000, [ONE, ONE, ONE + 1000, ONE + 1000, ONE, ONE], "k4,2000", throughout)
-    judge(2, 1, 1000, [ONE, ONE, ONE + 1000, ONE + 1000, ONE + 1000, ONE], "p8", throughout)
+    judge(2, 1, 1000, [ONE, ONE, ONE + 1000, ONE + 1000, ONE + 1000, ONE], "p8,5000", throughout)
     judge(2, 1, 0, [ONE, 1, ONE, ONE, ONE, ONE], "b1", throughout)
     judge(2, 1, 0, [ONE, ONE, ONE, -1, ONE, ONE], "o3", throughout)
     say("By hand: `F[0,0]a0` and `G[0,2]a0`; windows all after T; refusals")
-    judge(1, 1, 0, [ONE, ONE, ONE], "p4", window("F", 0, 0))
+    judge(1, 1, 0, [ONE, ONE, ONE], "p4,0", window("F", 0, 0))
     judge(1, 1, 0, [ONE, ONE, 0], "k1,1000000", window("F", 0, 0))
     judge(1, 1, 0, [0, 0, ONE], "k2,1000000", window("F", 0, 0))
     judge(1, 1, 0, [ONE, ONE, 0], "k2,1000000", window("G", 0, 0))
     judge(1, 1, 0, [0, 0, ONE], "k1,1000000", window("G", 0, 0))
-    judge(1, 1, 0, [ONE, ONE, ONE], "p4", window("G", 63, 63))
-    judge(3, 1, 0, [ONE] * 9, "p13", window("G", 0, 2))
+    judge(1, 1, 0, [ONE, ONE, ONE], "p4,0", window("G", 63, 63))
+    judge(3, 1, 0, [ONE] * 9, "p13,0", window("G", 0, 2))
     judge(3, 1, 0, [ONE] * 6 + [0, ONE, ONE], "k6,1000000", window("G", 0, 2))
     judge(3, 1, 0, [ONE, ONE, 0] * 2 + [ONE, 0, 0], "k5,1000000", window("G", 0, 2))
-    judge(3, 1, 0, [0, 0, ONE] + [0, 0, ONE] + [ONE, ONE, ONE], "p10", window("F", 3, 5))
+    judge(3, 1, 0, [0, 0, ONE] + [0, 0, ONE] + [ONE, ONE, ONE], "p10,0", window("F", 3, 5))
     judge(2, 1, 0, [0] * 5, "r9", within)
     judge(2, 1, 1001, [0] * 6, "r10", within)
     judge(2, 1, 0, [0] * 6, "r7", window("F", 1, 0))
     judge(2, 1, 0, [0] * 6, "r7", window("G", 0, 64))
     judge(2, 1, -1, [], "r7", table((1, 0, 0), (7, 0, 0, 0, 1)))
     say("By hand: [0,63] with T 64, the row of 65 terms at slot 1 being row 128")
-    judge(64, 1, 0, [ONE] * 192, "p2209", window("G", 0, 63))
+    judge(64, 1, 0, [ONE] * 192, "p2209,0", window("G", 0, 63))
     judge(64, 1, 0, [ONE] * 128 + [0] + [ONE] * 63, "k128,1000000", window("G", 0, 63))
     judge(64, 1, 1000, [ONE] * 64 + [ONE + 1000] * 64 + [ONE] * 64, "k128,64000", window("G", 0, 63))
-    judge(64, 1, 0, [0] * 63 + [ONE] + [0] * 63 + [ONE] + [ONE] * 64, "p2209", window("F", 0, 63))
+    judge(64, 1, 0, [0] * 63 + [ONE] + [0] * 63 + [ONE] + [ONE] * 64, "p2209,0", window("F", 0, 63))
     judge(64, 1, 0, [0] * 128 + [ONE] + [0] * 63, "k128,1000000", window("F", 0, 63))
     judge(64, 1, 1000, [0] * 64 + [-1000] * 64 + [ONE] + [0] * 63, "k128,1064000", window("F", 0, 63))
     judge(64, 1, 0, [0] * 63 + [ONE] + [0] * 63 + [ONE] + [0] + [ONE] * 63, "k127,1000000", window("F", 0, 63))
@@ -1055,9 +1084,9 @@ def of_every_kind():
     on_runs(4, MIXED, (
         ([0, 1, 2, 4], "v0", "0100 0010 1110 1111 1111 0001 0100 1011 1011 0100 0100 0010 0110", "k97,1000000"),
         ([5, 7, 4, 1], "v0", "1101 0100 1100 1110 0000 1110 1101 0010 1110 0001 0000 0100 0100", "k97,1000000"),
-        ([5, 5, 5, 7], "v1", "1111 0001 1111 1111 1111 1111 1111 0000 0000 1111 1111 0001 1111", "p98"),
-        ([2, 0, 0, 0], "v1", "0000 1000 1000 1111 1111 0000 0000 1111 1111 0000 0000 1000 1000", "p98"),
-        ([1, 4, 1, 3], "v1", "1011 0001 1111 1111 1111 0100 1011 0100 0100 1011 1011 0001 1011", "p98"),
+        ([5, 5, 5, 7], "v1", "1111 0001 1111 1111 1111 1111 1111 0000 0000 1111 1111 0001 1111", "p98,0"),
+        ([2, 0, 0, 0], "v1", "0000 1000 1000 1111 1111 0000 0000 1111 1111 0000 0000 1000 1000", "p98,0"),
+        ([1, 4, 1, 3], "v1", "1011 0001 1111 1111 1111 0100 1011 0100 0100 1011 1011 0001 1011", "p98,0"),
     ))
 
 
@@ -1071,9 +1100,9 @@ def of_windows():
     read(3, 96, WINDOWED_RULE, "G(a0>F[1,2]a1)|!(a2UG[0,1]!a0)")
     read(3, 95, "r11", "G ( a0 > F [ 1 , 2 ] a1 ) | ! ( a2 U G [ 0 , 1 ] ! a0 )")
     on_runs(4, WINDOWED, (
-        ([1, 4, 2, 0], "v1", "1000 0010 1100 1111 1111 0100 1000 0111 0111 0111 1000 1111", "p93"),
+        ([1, 4, 2, 0], "v1", "1000 0010 1100 1111 1111 0100 1000 0111 0111 0111 1000 1111", "p93,0"),
         ([5, 5, 0, 0], "v0", "1100 0000 0000 0011 0011 1100 1100 0011 0011 1111 0000 0011", "k92,1000000"),
-        ([5, 4, 1, 1], "v1", "1011 0000 0000 0100 0000 1100 1011 0100 0000 0000 1111 1111", "p93"),
+        ([5, 4, 1, 1], "v1", "1011 0000 0000 0100 0000 1100 1011 0100 0000 0000 1111 1111", "p93,0"),
     ))
 
 
@@ -1100,6 +1129,262 @@ LONGEST = (
     table((1, 0, 0), *((5, 0, child) for child in range(127))),
     table((1, 0, 0), *((9, child, 0, 0, child % 64) for child in range(127))),
 )
+
+
+def exact(t, m, run, nodes):
+    """The figures of a run, and of the truth of the nodes over it."""
+    atoms = [number >> atom & 1 for atom in range(m) for number in run]
+    return [ONE * int(bit) for bit in itertools.chain(atoms, *paper.run_truth(nodes, m, run))]
+
+
+def passes(t, m, e, run, error, records):
+    """The figures of a run, and of the truth over it, pass with this error figure."""
+    nodes = paper.nodes_in(records)
+    judge(t, m, e, exact(t, m, run, nodes), f"p{len(paper.rows(nodes, t, m))},{error}", records)
+
+
+def rule(postfix):
+    return paper.table(nodes_of(postfix))
+
+
+# How many times e the root's error figure at slot 1 is, T, a run on which the root holds there, and the table. An atom node has
+# 2, its own e and that of its atom, and so on: the slots are worked out from the last.
+ERRORS = (
+    (2, 1, [1], ATOM),
+    (2, 3, [1, 0, 0], ATOM),
+    (2, 64, [1] * 64, ATOM),
+    (2, 2, [32768, 0], table((1, 15, 0))),
+    (3, 1, [0], rule("a0 !")),  # 1 + 2
+    (3, 2, [0, 1], rule("a0 !")),
+    (5, 1, [1], rule("a0 a0 &")),  # 1 + 2 + 2
+    (5, 2, [3, 0], rule("a0 a1 &")),
+    (5, 1, [1], table((1, 0, 0), (3, 0, 0))),  # 1 + 2 twice, in P - p - p
+    (5, 1, [1], rule("a0 a0 |")),
+    (5, 1, [1], table((1, 0, 0), (4, 0, 0))),
+    (5, 1, [0], rule("a0 a0 >")),
+    (5, 1, [1], table((1, 0, 0), (5, 0, 0))),  # counted in the row as listed, p - p - P, although p cancels
+    (6, 1, [0], rule("a0 ! a1 |")),  # 1 + 3 + 2
+    (7, 1, [0], table((1, 0, 0), (2, 0, 0), (3, 1, 1))),  # 1 + 3 twice
+    (8, 1, [1], table((1, 0, 0), (3, 0, 0), (5, 1, 0))),  # 1 + 5 + 2
+    (9, 1, [2], rule("a0 ! a1 a1 & &")),  # 1 + 3 + 5
+    (3, 1, [2], UNTIL),  # at T 1 + 2, of q alone
+    (8, 2, [1, 2], UNTIL),  # 1 + 2 + 2 + 3
+    (13, 3, [1, 1, 2], UNTIL),  # 1 + 2 + 2 + 8
+    (318, 64, [1] * 63 + [2], UNTIL),  # 3 + 63 times 5
+    (9, 2, [0, 2], rule("a0 ! a1 U")),  # 1 + 3 + 2 + 3: p, which T does not count, has 3
+    (10, 2, [1, 0], rule("a0 a1 ! U")),  # 1 + 2 + 3 + 4
+    (3, 1, [1], table((1, 0, 0), (8, 0, 0))),
+    (8, 2, [1, 0], table((1, 0, 0), (8, 0, 0))),  # 1 + 2 twice, in p + p - P, + 3
+    (13, 3, [1, 0, 0], table((1, 0, 0), (8, 0, 0))),
+    (11, 2, [0, 1], table((1, 0, 0), (2, 0, 0), (8, 1, 1))),  # 1 + 3 twice + 4
+    (3, 1, [1], rule("a0 F")),
+    (6, 2, [0, 1], rule("a0 F")),  # 1 + 2 + 3
+    (9, 3, [0, 1, 0], rule("a0 F")),
+    (192, 64, [0] * 63 + [1], rule("a0 F")),  # 64 times 3
+    (3, 1, [1], rule("a0 G")),
+    (6, 2, [1, 1], rule("a0 G")),
+    (192, 64, [1] * 64, rule("a0 G")),
+    (4, 1, [1], rule("a0 F G")),
+    (11, 2, [0, 1], rule("a0 F G")),  # F 6 and 3, G 4 and then 1 + 6 + 4
+    (21, 3, [0, 0, 1], rule("a0 G F")),  # G 9, 6 and 3, F 4, 11 and then 1 + 9 + 11
+    (3, 3, [1, 0, 0], window("F", 0, 0)),  # 1 + 2
+    (3, 1, [1], window("F", 0, 1)),  # slots after T are T, and it counts once
+    (5, 2, [0, 1], window("F", 0, 1)),  # 1 + 2 + 2
+    (5, 2, [0, 1], window("F", 0, 63)),
+    (129, 64, [0] * 63 + [1], window("F", 0, 63)),  # 1 + 64 times 2
+    (3, 3, [0, 0, 1], window("F", 3, 5)),
+    (3, 2, [0, 1], window("G", 1, 2)),
+    (5, 3, [0, 1, 1], window("G", 1, 2)),
+    (7, 3, [1, 1, 1], window("G", 0, 2)),
+    (3, 1, [1], window("G", 63, 63)),
+    (3, 64, [0] * 63 + [1], window("G", 63, 63)),
+    (5, 64, [0] * 62 + [1, 1], window("G", 62, 63)),
+    (127, 64, [0] + [1] * 63, window("G", 1, 63)),  # 1 + 63 times 2
+    (4, 1, [1], rule("a0 G[0,1] F[0,1]")),
+    (9, 2, [0, 1], rule("a0 G[0,1] F[0,1]")),  # G 5 and 3, F 1 + 5 + 3
+    (11, 3, [0, 1, 1], rule("a0 G[0,1] F[0,1]")),  # G 5, 5 and 3, F 1 + 5 + 5
+    (16, 3, [0, 0, 1], rule("a0 F[0,63] G[0,63]")),  # F 7, 5 and 3, G 1 + 7 + 5 + 3
+    (7, 3, [0, 1, 1], rule("a0 F[1,1] G[0,1]")),  # F 3 each, G 1 + 3 + 3
+    (10, 3, [0, 0, 1], rule("a0 F G[1,2]")),  # F 9, 6 and 3, G 1 + 6 + 3
+    (12, 2, [1, 2], rule("a0 a1 U F[0,1]")),  # U 8 and 3, F 1 + 8 + 3
+    (11, 2, [1, 3], rule("a0 G[0,1] a1 U")),  # G 5 and 3, U 3 and then 1 + 5 + 2 + 3
+    (2, 1, [2], table((1, 0, 0), (3, 0, 0), (3, 1, 1), (1, 1, 0))),  # the root does not use the others
+    (3, 2, [0, 2], table((1, 0, 0), (1, 1, 0), (8, 0, 1), (2, 0, 0))),
+    # F 12, 9, 6, 3; > 15, 12, 9, 6; G 46, 30, 17, 7; U 22, 16, 10, 4, with ! 23; & 1 + 46 + 23; | 1 + 70 + 2
+    (73, 4, [5, 5, 5, 7], MIXED),
+    # F[1,2] 5, 5, 3, 3; > 8, 8, 6, 6; G 32, 23, 14, 7; G[0,1] 7, 7, 7, 4; U 35, 25, 15, 5, with ! 36; | 1 + 32 + 36
+    (69, 4, [1, 4, 2, 0], WINDOWED),
+)
+
+
+def judging_errors():
+    say("By hand from the request (N7): the root's error figure at slot 1 where figures pass, with e of 1 and 1,000, some with 0")
+    for place, (times, t, run, records) in enumerate(ERRORS):
+        m = max(1, max(run).bit_length(), *(left + 1 for kind, left, *_ in paper.nodes_in(records) if kind == 1))
+        for e in (1, 1000) if place % 4 else (0, 1, 1000):
+            passes(t, m, e, run, times * e, records)
+
+
+def times_of(times, two=(3, 4), one=(7, 6, 9, 10)):
+    """A table that holds where a0 does, with a root that has this many times e at T 1: `p&p` and `p|p` of one part have one more
+    than twice that of the part, and G, F and windows one more."""
+    steps = []
+    while times > 2:
+        steps.append(times % 2 == 1 and times > 3)
+        times = times // 2 if steps[-1] else times - 1
+    nodes = [(1, 0, 0, 0, 0)]
+    for number, twice in enumerate(reversed(steps)):
+        kinds = two if twice else one
+        kind = kinds[number % len(kinds)]
+        nodes.append((kind, number, number if twice else 0, 0, 63 if kind > 8 else 0))
+    return paper.table(nodes)
+
+
+def judging_stops():
+    say("By hand: `p&p` of one part again and again with e 1,000, T 1: 2000, 5000, 11000 .. 767000, and then the stop at 1,000,000;\n"
+        "`p|p`, `p>p` and at T 2 until, which has 3 at T, 4 .. and so at slot 1 8, 21 = 1 + 8 + 8 + 4, 48 = 1 + 21 + 21 + 5 ..")
+    for kind in 3, 4, 5:
+        for count in range(12) if kind == 3 else (1, 8, 9):
+            error = 1000 * (3 * 2**count - 1)
+            passes(1, 1, 1000, [1], min(error, ONE), table((1, 0, 0), *((kind, child, child) for child in range(count))))
+    first = 2000
+    for count in range(11):
+        passes(2, 1, 1000, [1, 1], min(first, ONE), table((1, 0, 0), *((8, child, child) for child in range(count))))
+        first += first + 1000 * (count + 4)
+    say("By hand: 128 nodes, two far beyond the stop, and with e 0 it is 0; a root that does not use the part that stops, or one of two")
+    for e, error in (0, 0), (1, ONE), (1000, ONE):
+        passes(2, 1, e, [1, 1], error, LONGEST[1])
+        passes(2, 1, e, [1, 1], error, table((1, 0, 0), *((3, child, child) for child in range(127))))
+        passes(2, 1, e, [1, 1], 383 * e, LONGEST[2])  # 2 + 127 times 3
+    chain = [(1, 0, 0), *((3, child, child) for child in range(20))]
+    passes(1, 1, 1000, [1], 3000, table(*chain, (7, 0, 0)))
+    passes(1, 1, 1000, [1], ONE, table(*chain, (4, 0, 20)))
+    passes(1, 1, 1000, [1], ONE, table(*chain, (8, 0, 20)))
+    passes(1, 1, 1000, [1], 3000, table(*chain, (8, 20, 0)))
+    passes(2, 1, 1000, [1, 1], ONE, table(*chain, (8, 20, 0)))
+    say("By hand: about 500,000 and 1,000,000, T 1: every error figure is e times a count")
+    for e, times in (
+        (1000, 499), (1000, 500), (1000, 501), (500, 999), (500, 1000), (127, 3937), (31, 16129), (3, 166666), (3, 166667), (2, 249999),
+        (2, 250000), (1, 499999), (1, 500000), (1, 500001), (1000, 999), (1000, 1000), (1000, 1001), (999, 1001), (999, 1002), (101, 9900),
+        (101, 9901), (27, 37037), (27, 37038), (2, 499999), (2, 500000), (1, 999999), (1, 1000000), (1, 1000001), (1, 2**40), (0, 2**40),
+    ):
+        passes(1, 1, e, [1], min(e * times, ONE), times_of(times))
+
+
+# Nodes and T: 255, 256, 258 (257 is prime), 260, 891, 896, 897, 900, 1024, 1025, 8064, 8128 and 8192 error figures of nodes.
+SIZES = (
+    (15, 17), (17, 15), (16, 16), (4, 64), (128, 2), (6, 43), (43, 6), (65, 4), (27, 33), (128, 7), (14, 64), (28, 32), (23, 39), (39, 23),
+    (15, 60), (16, 64), (25, 41), (128, 63), (127, 64), (128, 64),
+)
+
+
+def judging_sizes():
+    say("By hand: tables of many sizes, the root over a chain of `!`, whose node k has k + 2: `!` has N + 1, G T times N + 1, F[0,63] 1 + T\n"
+        "times N, and until, over the last two of the chain, N at T and 2N more at each slot before; with the largest e, up to 1,000, that\n"
+        "keeps it below 500,000 or 1,000,000, or one more")
+    limits = itertools.cycle(((ONE // 2 - 1, 0), (ONE // 2 - 1, 1), (ONE - 1, 0), (ONE - 1, 1), (ONE // 2 - 1, 0)))
+    for place, (n, t) in enumerate(SIZES):
+        nots = [(1, 0, 0), *((2, child, 0) for child in range(n - 2))]
+        for root, times, a0 in (
+            ((2, n - 2, 0), n + 1, n % 2), ((7, n - 2, 0), t * (n + 1), 1 - n % 2), ((9, n - 2, 0, 0, 63), 1 + t * n, 1 - n % 2),
+            ((8, n - 2, n - 3), n + 2 * n * (t - 1), n % 2),
+        ):
+            limit, more = next(limits)
+            e = min(1000, limit // times + more)
+            passes(t, (1, 2, 16)[place % 3], e, [a0] * t, min(e * times, ONE), table(*nots, root))
+
+
+def judging_near():
+    say("By hand: `!a0`, T 1, e 1,000: the part as far off as its error figure, 2,000; one further, not binary, outside or broken")
+    near = rule("a0 !")
+    judge(1, 1, 1000, [1000, 2000, 999000], "p3,3000", near)
+    judge(1, 1, 1000, [1000, 2001, 999000], "k0,1001", near)
+    judge(1, 1, 1000, [1000, 2000, 998999], "k2,1001", near)
+    judge(1, 1, 1000, [1000, 2000, 999001], "k1,1001", near)
+    judge(1, 1, 1000, [1001, 2000, 999000], "b0", near)
+    judge(1, 1, 1000, [-1000, -1000, ONE + 1000], "p3,3000", near)
+    judge(1, 1, 1000, [-1000, -1001, ONE + 1000], "o1", near)
+    judge(1, 1, 1000, [-1000, -1000, ONE + 1001], "o2", near)
+    say("By hand: `a0&a1`, T 1: the third row, P - p - q >= -1, at its end; `F[0,1]a0`, T 2,\n"
+        "and where a0 holds at no slot the root off by its error figure, 5,000, which the goal row breaks")
+    both = rule("a0 a1 &")
+    judge(1, 2, 1000, [ONE + 1000] * 5, "p6,5000", both)
+    judge(1, 2, 1000, [ONE + 1000] * 4 + [ONE + 999], "k4,1001", both)
+    judge(1, 2, 1000, [999000, 999000, 998000, 998000, 999000], "p6,5000", both)
+    judge(1, 2, 1000, [999000, 999000, 997999, 998000, 999000], "k0,1001", both)
+    judge(1, 2, 1000, [999000, 999000, 998000, 998000, 999001], "k2,1001", both)
+    judge(1, 2, 1000, [999000, 999000, 998000, 998000, 998999], "k5,1001", both)
+    within = window("F", 0, 1)
+    judge(2, 1, 1000, [1000, ONE, 2000, ONE, 999000, 999000], "p8,5000", within)
+    judge(2, 1, 1000, [1000, ONE, 2000, ONE, ONE + 1000, ONE + 1000], "p8,5000", within)
+    judge(2, 1, 1000, [1000, ONE, 2000, ONE, 998999, 999000], "k3,1001", within)
+    judge(2, 1, 1000, [1000, 1000, 2000, 2000, 5000, 3000], "k7,995000", within)
+    judge(2, 1, 1000, [1000, 1000, 2000, 2000, 5001, 3000], "k4,1001", within)
+
+
+def judging_untrue():
+    say("By hand: a0 does not hold and no node does, but the rows let each figure be as large as its error figure: e, 2e, and for `p|p` e\n"
+        "more than twice the part's. From 1,000,000 less e on the root passes; where its error figure is below 500,000 it cannot")
+    for e, times in (
+        (1000, 998), (1000, 999), (1000, 1000), (1000, 1500), (999, 999), (999, 1000), (999, 1001), (500, 1998), (500, 1999), (100, 9998),
+        (100, 9999), (1, 499999), (1, 999998), (1, 999999), (1, 1000000), (2, 499998), (2, 499999), (1000, 499), (1000, 500), (1000, 10**9),
+    ):
+        records = times_of(times, two=(4,))
+        counts = [2]
+        for kind, *_ in paper.nodes_in(records)[1:]:
+            counts.append(2 * counts[-1] + 1 if kind == 4 else counts[-1] + 1)
+        figures = [e, *(min(e * count, ONE) for count in counts)]
+        goal, short = len(paper.rows(paper.nodes_in(records), 1, 1)) - 1, ONE - figures[-1]
+        assert counts[-1] == times and not paper.run_truth(paper.nodes_in(records), 1, [0])[-1][0]
+        judge(1, 1, e, figures, f"p{goal + 1},{figures[-1]}" if short <= e else f"k{goal},{short}", records)
+
+
+def chance_nodes(rng, n, m):
+    """Nodes of every kind, most of them over the last few; parts are shared, or on both sides, and the root may not use some."""
+    nodes = [(1, rng.randrange(m), 0, 0, 0)]
+    while len(nodes) < n:
+        kind = rng.randint(1, 10)
+        left, right = (rng.randrange(max(0, len(nodes) - rng.choice((2, 4, 128))), len(nodes)) for _ in range(2))
+        a, b = sorted(rng.choice((0, 0, 1, 2, 3, rng.randrange(64))) for _ in range(2)) if kind in (9, 10) else (0, 0)
+        nodes.append((kind, rng.randrange(m) if kind == 1 else left, right if kind in paper.DOUBLE.values() else 0, a, b))
+    return nodes
+
+
+def reach(found, t, m, e, figures, variable, way):
+    """How far a figure can go up (way 1) or down (-1) so that figures that pass still do."""
+    figure = figures[variable]
+    ends = [ONE + e - figure if way > 0 else figure + e]
+    if variable < m * t:
+        ends.append(e - way * (figure - ONE * round(figure / ONE)))
+    for relation, right, terms in found:
+        pull = way * sum(coefficient for coefficient, other in terms if other == variable)
+        over = sum(coefficient * figures[other] for coefficient, other in terms) - right * ONE
+        if pull < 0:
+            ends.append((over + e) // -pull)
+        if pull > 0 and relation == "=":
+            ends.append((e - over) // pull)
+    return min(ends)
+
+
+def judging_by_chance():
+    say("Of the request's words: tables and runs of chance, each figure in turn put off as far as the others let it, or less; they pass,\n"
+        "and with one figure put one further they do not")
+    rng = random.Random(7)
+    for _ in range(50):
+        t, m, e = rng.choice((1, 2, 3, 5, 8)), rng.choice((1, 2, 3, 16)), rng.choice((1, 2, 10, 100, 500, 999, 1000))
+        nodes, run = chance_nodes(rng, rng.randint(2, 12), m), [rng.getrandbits(m) for _ in range(t)]
+        if not paper.run_truth(nodes, m, run)[-1][0]:
+            nodes.append((2, len(nodes) - 1, 0, 0, 0))
+        figures, found = exact(t, m, run, nodes), paper.rows(nodes, t, m)
+        of_rows = [[row for row in found if variable in (other for _, other in row[2])] for variable in range(len(figures))]
+        for variable in rng.sample(range(len(figures)), len(figures)):
+            way = rng.choice((1, -1))
+            most = reach(of_rows[variable], t, m, e, figures, variable, way)
+            figures[variable] += way * rng.choice((most, most, rng.randint(0, most)))
+        assert judge_of_paper(t, m, e, figures, nodes).startswith("passed")
+        variable, way = rng.randrange(len(figures)), rng.choice((1, -1))
+        figures[variable] += way * (reach(of_rows[variable], t, m, e, figures, variable, way) + 1)
+        assert not judge_of_paper(t, m, e, figures, nodes).startswith("passed")
 
 
 def tested(is_good, m, nodes, calls="ewmj"):
@@ -1418,6 +1703,12 @@ def main():
     of_every_kind()
     of_windows()
     of_heights()
+    judging_errors()
+    judging_stops()
+    judging_sizes()
+    judging_near()
+    judging_untrue()
+    judging_by_chance()
     of_spin()
     largest()
     summing()

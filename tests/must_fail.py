@@ -55,6 +55,13 @@ NAMED = {
         "zero word gives 64",
         "F that forgets the last slot",
     ),
+    "N7": (
+        "a part on both sides counted once",
+        "an atom node's figure e instead of 2e",
+        "no stop",
+        "the root at slot T",
+        "1,000,000 for 500,000",
+    ),
 }
 DEMANDS = ("demand 1", "demand 2", "demand 3")
 MOST = 300  # characters of what the prover says

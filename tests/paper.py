@@ -3,6 +3,7 @@
 import re
 import sys
 from collections import Counter
+from functools import cache
 
 sys.setrecursionlimit(10000)  # a bracket takes six calls of `parse`, and a text may open 1,024
 
@@ -12,6 +13,7 @@ DOUBLE = {">": 5, "|": 4, "&": 3, "U": 8}  # loosest first
 ATOM, NOT, AND, OR, IMPLIES, EVENTUALLY, ALWAYS, UNTIL, WITHIN, THROUGHOUT = range(1, 11)
 NUMBER = "0|[1-9][0-9]*"
 RECORD = 8  # bytes of a node record
+ONE = 1000000  # in millionths
 
 
 class Fault(Exception):
@@ -220,27 +222,49 @@ def window_rows(kind, own, parts):
     return [*each, (">=", -(len(parts) - 1), [(1, own), *((-1, part) for part in parts)])]
 
 
+@cache
+def written(row):
+    """The relation, the right side and the terms, as (coefficient, place), of a row of the paper."""
+    terms, relation, right = re.fullmatch(r"(.*) (>?=) (-?\d+)", row).groups()
+    signed = re.findall(r"([+-]?) ?([Ppq]'?)", terms)
+    return relation, int(right), [(-1 if sign == "-" else 1, place) for sign, place in signed]
+
+
+def row_over(row, variables):
+    relation, right, terms = written(row)
+    return relation, right, [(coefficient, variables[place]) for coefficient, place in terms]
+
+
+def rows_at(nodes, t, m, number, slot):
+    """The rows of a node at a slot, as (relation, right side, terms), a term as (coefficient, variable)."""
+    kind, left, right, a, b = nodes[number]
+    own = (m + number) * t + slot
+    if kind in (WITHIN, THROUGHOUT):
+        return window_rows(kind, own, [(m + left) * t + s for s in window_slots(t, slot, a, b)])
+    p = (left if kind == ATOM else m + left) * t + slot
+    variables = {"P": own, "P'": own + 1, "p": p, "q": (m + right) * t + slot}
+    return [row_over(row, variables) for row in (ROWS if slot < t - 1 else LAST)[kind].split("; ")]
+
+
 def rows(nodes, t, m):
-    """The rows as (relation, right side, terms), a term as (coefficient, variable), in the order of the paper."""
-    found = []
+    """All rows, in the order of the paper."""
+    found = [row for number in range(len(nodes)) for slot in range(t) for row in rows_at(nodes, t, m, number, slot)]
+    return [*found, row_over("P = 1", {"P": (m + len(nodes) - 1) * t})]
 
-    def add(row, variables):
-        terms, relation, right = re.fullmatch(r"(.*) (>?=) (-?\d+)", row).groups()
-        signed = re.findall(r"([+-]?) ?([Ppq]'?)", terms)
-        found.append((relation, int(right), [(-1 if sign == "-" else 1, variables[place]) for sign, place in signed]))
 
-    for number, (kind, left, right, a, b) in enumerate(nodes):
-        for slot in range(t):
+def error_figures(nodes, t, m, e):
+    """Request N7: by variable its error figure. The parts of a node are below it and P' is a slot later, so nodes in number
+    order and slots from the last one find the figures that they count."""
+    figures = [e] * (m * t) + [None] * (len(nodes) * t)
+    for number in range(len(nodes)):
+        for slot in reversed(range(t)):
             own = (m + number) * t + slot
-            if kind in (WITHIN, THROUGHOUT):
-                found += window_rows(kind, own, [(m + left) * t + s for s in window_slots(t, slot, a, b)])
-                continue
-            p = (left if kind == ATOM else m + left) * t + slot
-            variables = {"P": own, "P'": own + 1, "p": p, "q": (m + right) * t + slot}
-            for row in (ROWS if slot < t - 1 else LAST)[kind].split("; "):
-                add(row, variables)
-    add("P = 1", {"P": (m + len(nodes) - 1) * t})
-    return found
+            most = Counter()  # how often each variable stands in that row where it stands most often
+            for _, _, terms in rows_at(nodes, t, m, number, slot):
+                most |= Counter(variable for _, variable in terms)
+            others = sum(count * figures[variable] for variable, count in most.items() if variable != own)
+            figures[own] = min(ONE, e + others)
+    return figures
 
 
 def record(row):
@@ -253,20 +277,24 @@ def record(row):
 
 def verdict(nodes, t, m, figures, e):
     """The judge's verdict, in words."""
-    one = 1000000
     for variable, figure in enumerate(figures):
-        if not -e <= figure <= one + e:
+        if not -e <= figure <= ONE + e:
             return f"outside {variable}"
     for variable, figure in enumerate(figures[: m * t]):
-        if abs(figure) > e and abs(figure - one) > e:
+        if abs(figure) > e and abs(figure - ONE) > e:
             return f"not binary {variable}"
     found = rows(nodes, t, m)
     for number, (relation, right, terms) in enumerate(found):
-        short = right * one - sum(coefficient * figures[variable] for coefficient, variable in terms)
+        short = right * ONE - sum(coefficient * figures[variable] for coefficient, variable in terms)
         short = abs(short) if relation == "=" else short
         if short > e:
             return f"broken {number} shortfall {short}"
-    return f"passed {len(found)}"
+    return f"passed {len(found)} error {error_figures(nodes, t, m, e)[(m + len(nodes) - 1) * t]}"
+
+
+def rounded(t, m, figures):
+    """The run made by rounding each atom to the nearer of 0 and 1,000,000: for each atom its truth at each slot."""
+    return [[abs(figure - ONE) < abs(figure) for figure in figures[atom * t : atom * t + t]] for atom in range(m)]
 
 
 def row_text(row):

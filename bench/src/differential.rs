@@ -8,6 +8,7 @@ use crate::random::Random;
 use crate::reference::{self, Verdict, HEIGHT, NODE_BYTES};
 use crate::sepia;
 use crate::shape;
+use crate::trust;
 
 /// Cells before and behind each output buffer that no call may change.
 const GUARD: usize = 16;
@@ -390,26 +391,63 @@ fn judge(cases: u64, random: &mut Random, counts: &mut Counts) -> Result<(), Str
         let kept = (table.clone(), figures.clone());
         let expected = reference::judge(&table, t, m, &figures, e);
         let answer = sepia::judge(&table, t, m, &figures, e);
-        if let Some(difference) = compare(&expected, &answer, kept.0 == table && kept.1 == figures) {
+        let difference = compare(&expected, &answer, kept.0 == table && kept.1 == figures);
+        let outcome = difference.map_or(Ok(()), Err).and_then(|()| {
+            trust::compare_counts(&table, t, m, e)?;
+            note_verdict(counts, &expected, &table, t, m, &figures, e)
+        });
+        if let Err(difference) = outcome {
             return Err(format!(
                 "case {case}: {difference}\n  table {}\n  T {t} M {m} e {e}\n  figures {figures:?}",
                 hex(&table)
             ));
         }
-        counts.add(match expected {
-            Ok(Verdict::Outside(_)) => "outside".to_string(),
-            Ok(Verdict::NotBinary(_)) => "not binary".to_string(),
-            Ok(Verdict::Broken(..)) => "broken".to_string(),
-            Ok(Verdict::Passed(_)) => "passed".to_string(),
-            Err(number) => refusal(number),
-        });
         note_table(counts, &expected, &table, t, m);
-        if let Ok(Verdict::Broken(row, _)) = expected {
-            let kind = reference::kind_of_row(&table, t, m, row);
-            counts.note(kind >= Some(reference::WITHIN), "a window's row broken");
-        }
     }
     Ok(())
+}
+
+/// Counts a verdict, and holds one that passed to its promise.
+fn note_verdict(
+    counts: &mut Counts,
+    verdict: &Result<Verdict, u32>,
+    table: &[u8],
+    t: usize,
+    m: usize,
+    figures: &[i32],
+    e: i32,
+) -> Result<(), String> {
+    counts.add(match verdict {
+        Ok(Verdict::Outside(_)) => "outside".to_string(),
+        Ok(Verdict::NotBinary(_)) => "not binary".to_string(),
+        Ok(Verdict::Broken(..)) => "broken".to_string(),
+        Ok(Verdict::Passed(..)) => "passed".to_string(),
+        Err(number) => refusal(*number),
+    });
+    match *verdict {
+        Ok(Verdict::Broken(row, _)) => {
+            let kind = reference::kind_of_row(table, t, m, row);
+            counts.note(kind >= Some(reference::WITHIN), "a window's row broken");
+            counts.note(kind.is_none(), "the goal row broken");
+        }
+        Ok(Verdict::Passed(_, error)) => {
+            let seen = trust::check(table, t, m, figures, e)?;
+            note_passed(counts, table, e, error, seen);
+        }
+        _ => {}
+    }
+    Ok(())
+}
+
+fn note_passed(counts: &mut Counts, table: &[u8], e: i32, error: u32, seen: trust::Seen) {
+    counts.note(e > 0, "passed, e above 0");
+    counts.note(e > 0 && has_window(table), "passed, e above 0, a window");
+    counts.note(e > 0 && shape::has_same_sides(table), "passed, e above 0, the same part on both sides");
+    counts.note(e > 0 && error < trust::HALF, "passed, e above 0, error below 500,000");
+    counts.note((trust::HALF..trust::STOP).contains(&error), "passed, error 500,000 to 999,999");
+    counts.note(error == trust::STOP, "passed, error at the stop");
+    counts.note(seen.reached, "passed, a slack as far off as its error figure, not 0");
+    counts.note(!seen.met, "passed, and the rounded run does not satisfy the rule");
 }
 
 /// Runs `cases` inputs through each call; true when all agree.

@@ -598,43 +598,92 @@ fn off_by(random: &mut Random, most: i32) -> i32 {
     random.between(0, 2 * most as usize) as i32 - most
 }
 
+/// From 0 or 1,000,000 towards the other, so that a figure is not outside.
+fn inwards(figure: i32, off: i32) -> i32 {
+    if figure == 0 {
+        off
+    } else {
+        -off
+    }
+}
+
+/// The figures of a run and of the truth over it, a byte for each node and slot.
+fn figures_of(run: &[u16], m: usize, truth: &[u8]) -> impl Iterator<Item = i32> {
+    let one = reference::ONE as i32;
+    let atoms = (0..m).flat_map(|atom| run.iter().map(move |numbers| (numbers >> atom & 1) as u8));
+    let all: Vec<u8> = atoms.chain(truth.iter().copied()).collect();
+    all.into_iter().map(move |bit| i32::from(bit) * one)
+}
+
 /// Figures near the one solution of a table's rows, with the ways in which a solver's can differ.
 pub fn figures(random: &mut Random, table: &[u8], t: usize, m: usize, e: i32, figures: &mut Vec<i32>) {
-    figures.clear();
-    let one = reference::ONE as i32;
     let slots = t.clamp(1, reference::MAX_SLOTS);
     let atoms = made_for(m);
+    let e = e.clamp(0, 1000);
+    let drifts = random.percent(25);
     let mut run = Vec::new();
     let mut truth = vec![0; truth_bytes(table, slots)];
-    for _ in 0..3 {
+    // Mostly one over which the rule holds. Where errors add up, figures may pass without, most so where nothing changes.
+    for _ in 0..if drifts { random.between(1, 4) } else { 3 } {
         good_run(random, slots, atoms, &mut run);
+        if drifts && random.percent(40) {
+            let numbers = run[0];
+            run.fill(numbers);
+        }
         if reference::evaluate_bytes(table, slots, atoms, &run, &mut truth) != Ok(0) {
             break;
         }
     }
-    for atom in 0..atoms {
-        figures.extend(run.iter().map(|numbers| i32::from(numbers >> atom & 1) * one));
+    figures.clear();
+    figures.extend(figures_of(&run, atoms, &truth));
+    if drifts {
+        drift(random, table, slots, atoms, e, figures);
+    } else {
+        differ(random, atoms * slots, e, figures);
     }
-    figures.extend(truth.iter().map(|&truth| i32::from(truth) * one));
+}
+
+/// Gives figures that hold within e and whose errors add up: each slack is on the way from its truth to the end of what
+/// its rows allow, the end that helps the root to hold.
+fn drift(random: &mut Random, table: &[u8], t: usize, m: usize, e: i32, figures: &mut [i32]) {
+    let whole = random.pick(&[0, 50, 95, 100, 100]);
+    let beyond = if random.percent(50) { e } else { 0 };
+    let one = reference::ONE as i32;
+    let side = random.pick(&[-1, 0, 1, 1]);
+    for figure in &mut figures[..m * t] {
+        let off = if random.percent(whole) { side * e } else { off_by(random, e) };
+        *figure = (*figure + off).clamp(-beyond, one + beyond);
+    }
+    let helps = shape::helping_root(table);
+    let choose = |node: usize, truth: i32, low: i32, high: i32| {
+        let end = if helps[node] { high.min(one + beyond) } else { low.max(-beyond) }.clamp(low, high);
+        let start = truth.clamp(low, high);
+        let way = random.between(0, start.abs_diff(end) as usize) as i32;
+        if random.percent(whole) {
+            end
+        } else {
+            start + way * (end - start).signum()
+        }
+    };
+    // A damaged table has no rows, and its figures stay.
+    let _ = reference::settle(table, t, m, e, figures, choose);
+}
+
+/// The other ways, with the number of atom variables.
+fn differ(random: &mut Random, atoms: usize, e: i32, figures: &mut Vec<i32>) {
+    let one = reference::ONE as i32;
     let count = figures.len();
     let place = random.below(count);
-    let slack = if truth.is_empty() { place } else { count - 1 - random.below(truth.len()) };
-    let e = e.clamp(0, 1000);
+    let slack = if atoms == count { place } else { random.between(atoms, count - 1) };
     match random.below(20) {
         0..=2 => {}
         3 => figures.iter_mut().for_each(|figure| *figure += off_by(random, e / 3)),
         4 => figures.iter_mut().for_each(|figure| *figure += off_by(random, e)),
-        5 => {
-            // Inwards only, so that none is outside.
-            for figure in figures.iter_mut() {
-                let off = off_by(random, e / 3).abs();
-                *figure += if *figure == 0 { off } else { -off };
-            }
-        }
+        5 => figures.iter_mut().for_each(|figure| *figure += inwards(*figure, off_by(random, e / 3).abs())),
         6..=7 => figures[place] += random.pick(&[-1, 1]) * (e + random.below(2) as i32),
         8..=9 => {
             let off = e + random.below(2) as i32;
-            figures[slack] += if figures[slack] == 0 { off } else { -off };
+            figures[slack] += inwards(figures[slack], off);
         }
         10 => figures[slack] = one - figures[slack],
         11 => figures[slack] = random.between(0, one as usize) as i32,
@@ -648,20 +697,24 @@ pub fn figures(random: &mut Random, table: &[u8], t: usize, m: usize, e: i32, fi
             }
         }
         16 => figures.iter_mut().for_each(|figure| *figure = random.next() as i32),
-        17 => figures[atoms * slots..].iter_mut().for_each(|figure| *figure = random.between(0, one as usize) as i32),
+        17 => figures[atoms..].iter_mut().for_each(|figure| *figure = random.between(0, one as usize) as i32),
         18 => {
             // All slacks on the same figure: only the rows decide.
             let same = random.pick(&[0, one, one / 2, e, one - e]);
-            figures[atoms * slots..].iter_mut().for_each(|figure| *figure = same);
+            figures[atoms..].iter_mut().for_each(|figure| *figure = same);
         }
-        _ => match random.below(6) {
-            0..=1 => figures.push(0),
-            2..=3 => {
-                figures.pop();
-            }
-            4 => figures.clear(),
-            _ => figures.resize(random.below(2 * count + 1), one),
-        },
+        _ => other_length(random, figures),
+    }
+}
+
+fn other_length(random: &mut Random, figures: &mut Vec<i32>) {
+    match random.below(6) {
+        0..=1 => figures.push(0),
+        2..=3 => {
+            figures.pop();
+        }
+        4 => figures.clear(),
+        _ => figures.resize(random.below(2 * figures.len() + 1), reference::ONE as i32),
     }
 }
 
@@ -711,25 +764,23 @@ pub fn largest_windows() -> Vec<u8> {
     prefixes.chain(["a0"]).collect::<String>().into_bytes()
 }
 
-/// A run of `t` numbers over which the table's root holds, so that the judge goes through all its rows.
-pub fn true_run(table: &[u8], t: usize, m: usize) -> Vec<u16> {
+/// A run of `t` numbers over which the table's root has this truth, 0 or 1: where it is 1, the judge passes its figures,
+/// and where it is 0, the goal row alone is broken.
+pub fn run_with(table: &[u8], t: usize, m: usize, root: usize) -> Vec<u16> {
     let mut random = Random::new(1);
     let mut run = Vec::new();
     let mut truth = vec![0; truth_bytes(table, t)];
     loop {
         good_run(&mut random, t, m, &mut run);
-        if reference::evaluate_bytes(table, t, m, &run, &mut truth) == Ok(1) {
+        if reference::evaluate_bytes(table, t, m, &run, &mut truth) == Ok(root) {
             return run;
         }
     }
 }
 
-/// The exact solution of the table's rows over a run.
+/// The exact solution of the table's rows over a run, the goal row aside.
 pub fn solution(table: &[u8], t: usize, m: usize, run: &[u16]) -> Vec<i32> {
-    let one = reference::ONE as i32;
     let mut truth = vec![0; truth_bytes(table, t)];
-    let answer = reference::evaluate_bytes(table, t, m, run, &mut truth);
-    assert_eq!(answer, Ok(1), "the rule does not hold over the run");
-    let atoms = (0..m).flat_map(|atom| run.iter().map(move |numbers| i32::from(numbers >> atom & 1) * one));
-    atoms.chain(truth.iter().map(|&truth| i32::from(truth) * one)).collect()
+    reference::evaluate_bytes(table, t, m, run, &mut truth).expect("a table and a run");
+    figures_of(run, m, &truth).collect()
 }

@@ -9,6 +9,7 @@ mod reference;
 mod sepia;
 mod shape;
 mod speed;
+mod trust;
 
 use std::process::ExitCode;
 

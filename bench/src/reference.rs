@@ -40,7 +40,8 @@ pub enum Verdict {
     NotBinary(usize),
     /// The row, and its shortfall in millionths.
     Broken(usize, i64),
-    Passed(usize),
+    /// The row count, and the root's error figure at slot 1.
+    Passed(usize, u32),
 }
 
 fn require(condition: bool, refusal: u32) -> Result<(), u32> {
@@ -580,71 +581,80 @@ trait Rows {
 /// Hands all rows of a good table to `rows`, or those up to the first at which it answers false.
 #[inline(always)]
 fn all_rows(table: &Table, t: usize, m: usize, rows: &mut impl Rows) -> bool {
-    use Relation::{AtLeast, Equal};
     for (number, node) in table.nodes().enumerate() {
-        let own = (m + number) * t;
-        let left = if node.kind == ATOM { node.left * t } else { (m + node.left) * t };
-        let right = (m + node.right) * t;
-        if node.kind >= WITHIN {
-            if !window_rows(&node, own, left, t, rows) {
-                return false;
-            }
-            continue;
-        }
-        for slot in 0..t {
-            // The paper's P, p, q and P'.
-            let (big, p, q) = (own + slot, left + slot, right + slot);
-            let next = big + 1;
-            let last = slot + 1 == t;
-            let holds = match node.kind {
-                ATOM => rows.row(Equal, 0, [(1, big), (-1, p)]),
-                NOT => rows.row(Equal, 1, [(1, big), (1, p)]),
-                AND => {
-                    rows.row(AtLeast, 0, [(1, p), (-1, big)])
-                        && rows.row(AtLeast, 0, [(1, q), (-1, big)])
-                        && rows.row(AtLeast, -1, [(1, big), (-1, p), (-1, q)])
-                }
-                OR => {
-                    rows.row(AtLeast, 0, [(1, big), (-1, p)])
-                        && rows.row(AtLeast, 0, [(1, big), (-1, q)])
-                        && rows.row(AtLeast, 0, [(1, p), (1, q), (-1, big)])
-                }
-                IMPLIES => {
-                    rows.row(AtLeast, 1, [(1, big), (1, p)])
-                        && rows.row(AtLeast, 0, [(1, big), (-1, q)])
-                        && rows.row(AtLeast, -1, [(1, q), (-1, p), (-1, big)])
-                }
-                EVENTUALLY | ALWAYS if last => rows.row(Equal, 0, [(1, big), (-1, p)]),
-                EVENTUALLY => {
-                    rows.row(AtLeast, 0, [(1, big), (-1, p)])
-                        && rows.row(AtLeast, 0, [(1, big), (-1, next)])
-                        && rows.row(AtLeast, 0, [(1, p), (1, next), (-1, big)])
-                }
-                ALWAYS => {
-                    rows.row(AtLeast, 0, [(1, p), (-1, big)])
-                        && rows.row(AtLeast, 0, [(1, next), (-1, big)])
-                        && rows.row(AtLeast, -1, [(1, big), (-1, p), (-1, next)])
-                }
-                _ if last => rows.row(Equal, 0, [(1, big), (-1, q)]),
-                _ => {
-                    rows.row(AtLeast, 0, [(1, big), (-1, q)])
-                        && rows.row(AtLeast, 0, [(1, p), (1, q), (-1, big)])
-                        && rows.row(AtLeast, 0, [(1, q), (1, next), (-1, big)])
-                        && rows.row(AtLeast, -1, [(1, big), (-1, p), (-1, next)])
-                }
-            };
-            if !holds {
-                return false;
-            }
+        if !node_rows(number, &node, 0..t, t, m, rows) {
+            return false;
         }
     }
     let root = m + table.len() - 1;
-    rows.row(Equal, 1, [(1, root * t)])
+    rows.row(Relation::Equal, 1, [(1, root * t)])
+}
+
+/// The rows of a node at some slots.
+#[inline(always)]
+fn node_rows(number: usize, node: &Node, slots: Range<usize>, t: usize, m: usize, rows: &mut impl Rows) -> bool {
+    let own = (m + number) * t;
+    let left = if node.kind == ATOM { node.left * t } else { (m + node.left) * t };
+    let right = (m + node.right) * t;
+    if node.kind >= WITHIN {
+        return window_rows(node, own, left, slots, t, rows);
+    }
+    for slot in slots {
+        let last = slot + 1 == t;
+        if !slot_rows(node.kind, last, own + slot, left + slot, right + slot, rows) {
+            return false;
+        }
+    }
+    true
+}
+
+/// Those of a node without a window at a slot; `big`, `p`, `q` and `next` are the paper's P, p, q and P'.
+#[inline(always)]
+fn slot_rows(kind: u8, last: bool, big: usize, p: usize, q: usize, rows: &mut impl Rows) -> bool {
+    use Relation::{AtLeast, Equal};
+    let next = big + 1;
+    match kind {
+        ATOM => rows.row(Equal, 0, [(1, big), (-1, p)]),
+        NOT => rows.row(Equal, 1, [(1, big), (1, p)]),
+        AND => {
+            rows.row(AtLeast, 0, [(1, p), (-1, big)])
+                && rows.row(AtLeast, 0, [(1, q), (-1, big)])
+                && rows.row(AtLeast, -1, [(1, big), (-1, p), (-1, q)])
+        }
+        OR => {
+            rows.row(AtLeast, 0, [(1, big), (-1, p)])
+                && rows.row(AtLeast, 0, [(1, big), (-1, q)])
+                && rows.row(AtLeast, 0, [(1, p), (1, q), (-1, big)])
+        }
+        IMPLIES => {
+            rows.row(AtLeast, 1, [(1, big), (1, p)])
+                && rows.row(AtLeast, 0, [(1, big), (-1, q)])
+                && rows.row(AtLeast, -1, [(1, q), (-1, p), (-1, big)])
+        }
+        EVENTUALLY | ALWAYS if last => rows.row(Equal, 0, [(1, big), (-1, p)]),
+        EVENTUALLY => {
+            rows.row(AtLeast, 0, [(1, big), (-1, p)])
+                && rows.row(AtLeast, 0, [(1, big), (-1, next)])
+                && rows.row(AtLeast, 0, [(1, p), (1, next), (-1, big)])
+        }
+        ALWAYS => {
+            rows.row(AtLeast, 0, [(1, p), (-1, big)])
+                && rows.row(AtLeast, 0, [(1, next), (-1, big)])
+                && rows.row(AtLeast, -1, [(1, big), (-1, p), (-1, next)])
+        }
+        _ if last => rows.row(Equal, 0, [(1, big), (-1, q)]),
+        _ => {
+            rows.row(AtLeast, 0, [(1, big), (-1, q)])
+                && rows.row(AtLeast, 0, [(1, p), (1, q), (-1, big)])
+                && rows.row(AtLeast, 0, [(1, q), (1, next), (-1, big)])
+                && rows.row(AtLeast, -1, [(1, big), (-1, p), (-1, next)])
+        }
+    }
 }
 
 /// Those of a node with a window; `own` and `left` are the variables of the node and of its part at the first slot.
-fn window_rows(node: &Node, own: usize, left: usize, t: usize, rows: &mut impl Rows) -> bool {
-    (0..t).all(|slot| {
+fn window_rows(node: &Node, own: usize, left: usize, mut slots: Range<usize>, t: usize, rows: &mut impl Rows) -> bool {
+    slots.all(|slot| {
         let slots = node.looks_at(slot, t);
         let (big, parts) = (own + slot, left + slots.start..left + slots.end);
         if node.kind == WITHIN {
@@ -1005,7 +1015,7 @@ pub fn judge(table: &[u8], t: usize, m: usize, figures: &[i32], e: i32) -> Resul
     }
     let mut checker = Checker { figures, e: i64::from(e), count: 0, shortfall: 0 };
     Ok(if all_rows(&table, t, m, &mut checker) {
-        Verdict::Passed(checker.count)
+        Verdict::Passed(checker.count, root_error(&table, t, e as u32))
     } else {
         Verdict::Broken(checker.count, checker.shortfall)
     })
@@ -1059,4 +1069,235 @@ impl Rows for Checker<'_> {
 
 fn sum_of(figures: &[i32]) -> i64 {
     figures.iter().map(|&figure| i64::from(figure)).sum()
+}
+
+// -------------------------------------------------------------------------------------- error figures
+
+const STOP: u32 = ONE as u32;
+
+/// The error figures of all slacks, that of node n at slot s at place n·T + s − 1, by the kinds of the nodes.
+pub fn error_figures(table: &[u8], t: usize, m: usize, e: i32) -> Result<Vec<u32>, u32> {
+    let table = checked_table(table, t, m)?;
+    require((0..=MAX_TOLERANCE).contains(&e), 10)?;
+    Ok(errors_by_kind(&table, t, e as u32))
+}
+
+fn root_error(table: &Table, t: usize, e: u32) -> u32 {
+    errors_by_kind(table, t, e)[(table.len() - 1) * t]
+}
+
+fn errors_by_kind(table: &Table, t: usize, e: u32) -> Vec<u32> {
+    let mut errors = vec![0; table.len() * t];
+    for (number, node) in table.nodes().enumerate() {
+        let (before, rest) = errors.split_at_mut(number * t);
+        let own = &mut rest[..t];
+        if node.kind == ATOM {
+            own.fill(2 * e);
+            continue;
+        }
+        let p = &before[node.left * t..][..t];
+        let q = &before[node.right * t..][..t];
+        match node.kind {
+            NOT => own.iter_mut().zip(p).for_each(|(own, p)| *own = STOP.min(e + p)),
+            AND | OR | IMPLIES => add_parts(own, p, q, e),
+            EVENTUALLY | ALWAYS => add_backwards(own, p, e),
+            UNTIL => add_until(own, p, q, e),
+            _ => add_window(own, p, &node, e),
+        }
+    }
+    errors
+}
+
+fn add_parts(own: &mut [u32], p: &[u32], q: &[u32], e: u32) {
+    for (own, (p, q)) in own.iter_mut().zip(p.iter().zip(q)) {
+        *own = STOP.min(e + p + q);
+    }
+}
+
+// Over 64 slots of figures up to the stop, no sum leaves 32 bits, so that only what is kept needs the stop.
+
+fn add_backwards(own: &mut [u32], p: &[u32], e: u32) {
+    let mut sum = 0;
+    for (own, p) in own.iter_mut().zip(p).rev() {
+        sum += e + p;
+        *own = STOP.min(sum);
+    }
+}
+
+/// At the last slot the rows have no p.
+fn add_until(own: &mut [u32], p: &[u32], q: &[u32], e: u32) {
+    let last = own.len() - 1;
+    let mut sum = e + q[last];
+    own[last] = STOP.min(sum);
+    for (own, (p, q)) in own[..last].iter_mut().zip(p.iter().zip(q)).rev() {
+        sum += e + p + q;
+        *own = STOP.min(sum);
+    }
+}
+
+/// The sum over a window is the difference of two sums from the first slot on.
+fn add_window(own: &mut [u32], p: &[u32], node: &Node, e: u32) {
+    let mut sums = [0; MAX_SLOTS + 1];
+    for (slot, p) in p.iter().enumerate() {
+        sums[slot + 1] = sums[slot] + p;
+    }
+    let t = own.len();
+    for (slot, own) in own.iter_mut().enumerate() {
+        let slots = node.looks_at(slot, t);
+        *own = STOP.min(e + sums[slots.end] - sums[slots.start]);
+    }
+}
+
+/// The same in the request's own words, from the rows alone: e, and the error figures of all other variables that stand
+/// in the slack's rows, each as often as it stands in that one of them where it stands most often.
+pub fn error_figures_by_rows(table: &[u8], t: usize, m: usize, e: i32) -> Result<Vec<u32>, u32> {
+    let table = checked_table(table, t, m)?;
+    require((0..=MAX_TOLERANCE).contains(&e), 10)?;
+    let e = e as u32;
+    let mut errors = vec![None; (m + table.len()) * t];
+    errors[..m * t].fill(Some(e));
+    let mut standing = Standing { in_row: vec![0; errors.len()], most: vec![0; errors.len()], seen: Vec::new() };
+    for (number, node) in table.nodes().enumerate() {
+        // The rows have the slack of the next slot.
+        for slot in (0..t).rev() {
+            let own = (m + number) * t + slot;
+            node_rows(number, &node, slot..slot + 1, t, m, &mut standing);
+            let others =
+                standing.seen.drain(..).map(|variable| (variable, std::mem::take(&mut standing.most[variable])));
+            let counted = others.filter(|&(variable, _)| variable != own);
+            let sum: u32 = counted.map(|(variable, times)| times * errors[variable].expect("known before")).sum();
+            errors[own] = Some(STOP.min(e + sum));
+        }
+    }
+    Ok(errors[m * t..].iter().map(|error| error.expect("all are known")).collect())
+}
+
+/// How often each variable stands in the rows taken so far, in that one where it stands most often.
+struct Standing {
+    /// The same for the row that is being taken; zeros between rows.
+    in_row: Vec<u32>,
+    most: Vec<u32>,
+    /// The variables that stand in a row.
+    seen: Vec<usize>,
+}
+
+impl Standing {
+    fn take(&mut self, row: impl Iterator<Item = usize> + Clone) -> bool {
+        row.clone().for_each(|variable| self.in_row[variable] += 1);
+        for variable in row {
+            // Where a variable stands a second time, it has been taken.
+            let times = std::mem::take(&mut self.in_row[variable]);
+            let most = &mut self.most[variable];
+            if *most == 0 {
+                self.seen.push(variable);
+            }
+            *most = times.max(*most);
+        }
+        true
+    }
+}
+
+impl Rows for Standing {
+    fn row<const N: usize>(&mut self, _: Relation, _: i8, terms: [(i8, usize); N]) -> bool {
+        self.take(terms.iter().map(|&(_, variable)| variable))
+    }
+
+    fn within(&mut self, big: usize, parts: Range<usize>) -> bool {
+        parts.clone().for_each(|part| {
+            self.take([big, part].into_iter());
+        });
+        self.take(parts.chain([big]))
+    }
+
+    fn throughout(&mut self, big: usize, parts: Range<usize>) -> bool {
+        parts.clone().for_each(|part| {
+            self.take([part, big].into_iter());
+        });
+        self.take([big].into_iter().chain(parts))
+    }
+}
+
+// ------------------------------------------------------------------------------------- allowed figures
+
+/// Gives the slacks new figures, node by node and from the last slot back. `choose` has the node, its figure of before
+/// and the least and the largest figure that its rows, the limits and the goal allow beside the figures given so far;
+/// a slack that nothing is allowed for keeps its figure.
+pub fn settle(
+    table: &[u8],
+    t: usize,
+    m: usize,
+    e: i32,
+    figures: &mut [i32],
+    mut choose: impl FnMut(usize, i32, i32, i32) -> i32,
+) -> Result<(), u32> {
+    let table = checked_table(table, t, m)?;
+    require(figures.len() == (m + table.len()) * t, 9)?;
+    let e = i64::from(e);
+    let goal = figures.len() - t;
+    for (number, node) in table.nodes().enumerate() {
+        for slot in (0..t).rev() {
+            let own = (m + number) * t + slot;
+            let least = if own == goal { ONE - e } else { -e };
+            let mut allowed = Allowed { figures, own, e, low: least, high: ONE + e };
+            node_rows(number, &node, slot..slot + 1, t, m, &mut allowed);
+            let Allowed { low, high, .. } = allowed;
+            if low <= high {
+                figures[own] = choose(number, figures[own], low as i32, high as i32);
+            }
+        }
+    }
+    Ok(())
+}
+
+/// What the rows taken so far allow a slack, beside the figures of the others.
+struct Allowed<'a> {
+    figures: &'a [i32],
+    own: usize,
+    e: i64,
+    low: i64,
+    high: i64,
+}
+
+impl Allowed<'_> {
+    fn at_least(&mut self, figure: i64) {
+        self.low = self.low.max(figure - self.e);
+    }
+
+    fn at_most(&mut self, figure: i64) {
+        self.high = self.high.min(figure + self.e);
+    }
+}
+
+impl Rows for Allowed<'_> {
+    fn row<const N: usize>(&mut self, relation: Relation, right: i8, terms: [(i8, usize); N]) -> bool {
+        let (own, others): (Vec<_>, Vec<_>) = terms.into_iter().partition(|&(_, variable)| variable == self.own);
+        let figure =
+            |&(coefficient, variable): &(i8, usize)| i64::from(coefficient) * i64::from(self.figures[variable]);
+        let rest = i64::from(right) * ONE - others.iter().map(figure).sum::<i64>();
+        // A slack stands once in each of its rows.
+        match (relation, own[0].0) {
+            (Relation::AtLeast, 1) => self.at_least(rest),
+            (Relation::AtLeast, _) => self.at_most(-rest),
+            (Relation::Equal, sign) => {
+                self.at_least(i64::from(sign) * rest);
+                self.at_most(i64::from(sign) * rest);
+            }
+        }
+        true
+    }
+
+    fn within(&mut self, _: usize, parts: Range<usize>) -> bool {
+        let parts = &self.figures[parts];
+        parts.iter().for_each(|&part| self.at_least(i64::from(part)));
+        self.at_most(sum_of(parts));
+        true
+    }
+
+    fn throughout(&mut self, _: usize, parts: Range<usize>) -> bool {
+        let right = i64::from(all_but_one(&parts)) * ONE;
+        let parts = &self.figures[parts];
+        parts.iter().for_each(|&part| self.at_most(i64::from(part)));
+        self.at_least(right + sum_of(parts));
+        true
+    }
 }

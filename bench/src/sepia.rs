@@ -15,6 +15,7 @@ struct RawVerdict {
     refusal: u32,
     verdict: u32,
     value: u32,
+    error: u32,
     shortfall: i64,
 }
 
@@ -85,13 +86,13 @@ pub fn judge(table: &[u8], t: usize, m: usize, figures: &[i32], e: i32) -> Resul
     // SAFETY: as in `read`; nothing is written.
     let raw = unsafe { sepia_judge(table.as_ptr(), table.len(), t, m, figures.as_ptr(), figures.len(), e) };
     let value = raw.value as usize;
-    match (raw.refusal, raw.verdict, raw.shortfall) {
-        (0, 0, 0) => Ok(Verdict::Outside(value)),
-        (0, 1, 0) => Ok(Verdict::NotBinary(value)),
-        (0, 2, shortfall) => Ok(Verdict::Broken(value, shortfall)),
-        (0, 3, 0) => Ok(Verdict::Passed(value)),
+    match (raw.refusal, raw.verdict, raw.error, raw.shortfall) {
+        (0, 0, 0, 0) => Ok(Verdict::Outside(value)),
+        (0, 1, 0, 0) => Ok(Verdict::NotBinary(value)),
+        (0, 2, 0, shortfall) => Ok(Verdict::Broken(value, shortfall)),
+        (0, 3, error, 0) => Ok(Verdict::Passed(value, error)),
         (0, ..) => Err(0), // no verdict of the paper: nothing that the reference answers
-        (refusal, _, 0) => Err(refusal),
+        (refusal, 0, 0, 0) if value == 0 => Err(refusal),
         (..) => Err(0),
     }
 }

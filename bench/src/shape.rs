@@ -1,7 +1,7 @@
 //! The shape of a table: heights, which nodes several others share and which the root does not use. The table may be
 //! damaged: a child that it does not have counts for nothing.
 
-use crate::reference::{AND, ATOM, HEIGHT, IMPLIES, NODE_BYTES, OR, UNTIL};
+use crate::reference::{AND, ATOM, HEIGHT, IMPLIES, NODE_BYTES, NOT, OR, UNTIL};
 
 pub fn len(table: &[u8]) -> usize {
     table.len() / NODE_BYTES
@@ -57,4 +57,23 @@ pub fn unused(table: &[u8]) -> Vec<usize> {
         }
     }
     (0..len(table)).filter(|&node| !used[node]).collect()
+}
+
+/// Whether a larger figure of each node helps the root to hold, or a smaller one; of a node with uses of both sorts, as
+/// its lowest user has it.
+pub fn helping_root(table: &[u8]) -> Vec<bool> {
+    let mut larger = vec![true; len(table)];
+    for node in (0..len(table)).rev() {
+        let turned = [NOT, IMPLIES].contains(&table[node * NODE_BYTES + 2]);
+        for (place, child) in children(table, node).enumerate() {
+            larger[child] = larger[node] ^ (turned && place == 0);
+        }
+    }
+    larger
+}
+
+/// Whether a node has the same part on both sides.
+pub fn has_same_sides(table: &[u8]) -> bool {
+    let binary = |kind: u8| [AND, OR, IMPLIES, UNTIL].contains(&kind);
+    table.chunks_exact(NODE_BYTES).any(|record| binary(record[2]) && record[3] == record[4])
 }

@@ -5,7 +5,7 @@ use std::hint::black_box;
 
 use crate::clock::processor_time;
 use crate::inputs;
-use crate::reference;
+use crate::reference::{self, Verdict};
 use crate::sepia;
 use crate::shape;
 
@@ -14,6 +14,8 @@ const ROUNDS: usize = 7;
 const REPETITIONS: usize = 41;
 /// What one timing takes at least, in nanoseconds.
 const TIMING: u64 = 100_000;
+/// The judge's tolerance.
+const E: i32 = 1000;
 
 struct Input {
     name: String,
@@ -121,17 +123,21 @@ struct Case {
     t: usize,
     m: usize,
     run: Vec<u16>,
+    /// Figures that pass.
     figures: Vec<i32>,
+    /// Figures that break the goal row alone.
+    broken: Vec<i32>,
 }
 
 fn case(Input { name, text, t, m }: Input) -> Case {
     let mut table = vec![0; reference::MAX_NODES * reference::NODE_BYTES];
     let nodes = reference::read(&text, m, &mut table).expect("a rule");
     table.truncate(nodes * reference::NODE_BYTES);
-    let run = inputs::true_run(&table, t, m);
+    let run = inputs::run_with(&table, t, m, 1);
     let figures = inputs::solution(&table, t, m, &run);
+    let broken = inputs::solution(&table, t, m, &inputs::run_with(&table, t, m, 0));
     let label = format!("{name}: {nodes} nodes, {} bytes, T {t}, M {m}", text.len());
-    Case { name, label, text, table, t, m, run, figures }
+    Case { name, label, text, table, t, m, run, figures, broken }
 }
 
 /// Prints a line, and gives that of the reader by levels.
@@ -195,15 +201,29 @@ fn time_page(Case { label, table, t, m, .. }: &Case) {
     print_pair("mps", &format!("{label}, {bytes} bytes of page"), &rounds);
 }
 
-fn time_judge(Case { label, table, t, m, figures, .. }: &Case) {
+/// Prints a line, and gives that of the error figures: the same rows are tested where the last is broken, but no error
+/// figures are worked out.
+fn time_judge(Case { label, table, t, m, figures, broken, .. }: &Case) -> String {
     let (t, m) = (*t, *m);
-    let expected = reference::judge(table, t, m, figures, 0);
-    assert!(matches!(expected, Ok(reference::Verdict::Passed(_))));
-    assert_eq!(expected, sepia::judge(table, t, m, figures, 0));
-    let mut rust = || finish(reference::judge(black_box(table), t, m, black_box(figures), 0));
-    let mut rattle = || finish(sepia::judge(black_box(table), t, m, black_box(figures), 0));
-    let rounds = measure([&mut rust, &mut rattle]);
-    print_pair("judge", label, &rounds);
+    let expected = reference::judge(table, t, m, figures, E);
+    let Ok(Verdict::Passed(rows, _)) = expected else { panic!("{expected:?}") };
+    assert_eq!(expected, sepia::judge(table, t, m, figures, E));
+    let goal = Ok(Verdict::Broken(rows - 1, reference::ONE));
+    assert_eq!(goal, reference::judge(table, t, m, broken, E));
+    assert_eq!(goal, sepia::judge(table, t, m, broken, E));
+    let rounds = measure([
+        &mut || finish(reference::judge(black_box(table), t, m, black_box(figures), E)),
+        &mut || finish(sepia::judge(black_box(table), t, m, black_box(figures), E)),
+        &mut || finish(reference::judge(black_box(table), t, m, black_box(broken), E)),
+        &mut || finish(sepia::judge(black_box(table), t, m, black_box(broken), E)),
+    ]);
+    let both: Vec<[f64; 2]> = rounds.iter().map(|&[rust, rattle, ..]| [rust, rattle]).collect();
+    print_pair("judge", label, &both);
+    let line = |with: usize, without: usize| {
+        let (passed, broken) = (nanoseconds(&rounds, with), nanoseconds(&rounds, without));
+        format!("{passed} | {broken} | {}", ratio(&rounds, with, without))
+    };
+    format!("| {label}, {rows} rows | {} | {} |", line(1, 3), line(0, 2))
 }
 
 fn print_table(title: &str, heads: &str, lines: &[String]) {
@@ -219,13 +239,13 @@ pub fn run() {
     println!();
     println!("| call | input | Rust | Rattle | ratio | rounds |");
     println!("|---|---|---:|---:|---:|---|");
-    let (mut levels, mut bytes, mut copies) = (Vec::new(), Vec::new(), Vec::new());
+    let (mut levels, mut bytes, mut copies, mut errors) = (Vec::new(), Vec::new(), Vec::new(), Vec::new());
     for case in all_inputs().map(case) {
         levels.push(time_read(&case));
         bytes.push(time_evaluate(&case));
         copies.push(time_rows(&case));
         time_page(&case);
-        time_judge(&case);
+        errors.push(time_judge(&case));
     }
     print_table(
         "The reader beside one in Rust that has a function for each level of the grammar too:",
@@ -241,5 +261,11 @@ pub fn run() {
         "The row writer beside a copy of its output (memcpy):",
         "| input | copy | Rattle over copy | rounds | Rust over copy | rounds |\n|---|---:|---:|---|---:|---|",
         &copies,
+    );
+    print_table(
+        "The judge with error figures (passed) beside the judge without (the goal row alone broken, the same rows tested):",
+        "| input | Rattle with | without | ratio | rounds | Rust with | without | ratio | rounds |\n\
+         |---|---:|---:|---:|---|---:|---:|---:|---|",
+        &errors,
     );
 }

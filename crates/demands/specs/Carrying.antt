@@ -15,8 +15,9 @@ use Rattle.rules.specs.Refusals.{JudgeRefused}
 use Rattle.rules.specs.Demands.{Answer}
 use Rattle.rules.specs.Demands.Answer.{refused, answered}
 use Rattle.rules.specs.Shortfalls.{broken-short}
-use Rattle.rules.specs.Before.{withoutShortfall, rulingWithoutShortfall}
+use Rattle.rules.specs.Before.{verdictBefore, rulingBefore}
 use Rattle.rules.specs.Before as Before
+use Rattle.rules.specs.Errors.Figures.{figures-exist}
 use Rattle.rules.specs.Unaltered.{judged-before, judged-now}
 use Rattle.rules.specs.Outcome.{judgeOutcome}
 use Rattle.demands.specs.Answering.{judge-answers}
@@ -35,7 +36,7 @@ module _ {T M e : ℕ} {ns : List Node} {xs : List ℤ} where
   named : {v : Verdict} {i : ℕ} {d : ℤ} → v ≡ Verdict.broken i d → Judged T M e ns xs v → (i < length (rowsOf T M ns)) × (d ≡ shortfall xs (rowAt T M ns i)) × (pos e <ℤ d)
   named f (is-outside h) = let z : _≡_ {A = ℕ} 0 1 = cc in absurd (omega arith)
   named f (is-not-binary p h) = let z : _≡_ {A = ℕ} 0 1 = cc in absurd (omega arith)
-  named f (is-passed p q r) = let z : _≡_ {A = ℕ} 0 1 = cc in absurd (omega arith)
+  named f (is-passed p q r x) = let z : _≡_ {A = ℕ} 0 1 = cc in absurd (omega arith)
   named {i = i} {d} f (is-broken {i = j} p q h) =
       let r = rowAt T M ns j in
       let g : j ≡ i = cc in
@@ -49,16 +50,16 @@ module _ (t m : ℕ) (table : List ℕ) (figures : List ℤ) (tolerance : ℤ) (
     go ruling refl,
     λ x.
         let (none, (ns, e, good, tol, j)) = x in
-        let y = judged-now j in
-        ap rulingWithoutShortfall (judge-answers t m table figures tolerance ruling told (y .0) .1 (none, (ns, e, good, tol, y .1))) ∙ ap answered (y .2),
+        let y = judged-now (figures-exist t m e ns (good .nodes)) j in
+        ap rulingBefore (judge-answers t m table figures tolerance ruling told (y .0) .1 (none, (ns, e, good, tol, y .1))) ∙ ap answered (y .2),
   )
     where
-      go : (r : Answer Verdict) → ruling ≡ r → rulingWithoutShortfall r ≡ answered u →
+      go : (r : Answer Verdict) → ruling ≡ r → rulingBefore r ≡ answered u →
           None (JudgeRefused t m table figures tolerance) × ((ns : List Node) × (e : ℕ) × Good m table ns × (tolerance ≡ pos e) × Before.Judged t m e ns figures u)
       go (refused k) r f = let z : _≡_ {A = ℕ} 0 1 = cc in absurd (omega arith)
       go (answered v) r f =
           let (none, (ns, e, good, tol, j)) = judge-answers t m table figures tolerance ruling told v .0 r in
-          let g : withoutShortfall v ≡ u = cc in
+          let g : verdictBefore v ≡ u = cc in
           (none, (ns, e, good, tol, rw g at (judged-before j)))
 
   pub carries-shortfall : CarriesShortfall t m table figures tolerance ruling

@@ -4,6 +4,7 @@ pub mod Heights
 pub mod Words
 pub mod Demand3
 pub mod Passed
+pub mod Trust
 pub mod Shortfall
 pub mod RowSum
 pub mod Page

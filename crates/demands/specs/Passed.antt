@@ -13,6 +13,7 @@ use Rattle.rules.specs.Table.{Node, Good, ruleAt, root}
 use Rattle.rules.specs.Truth.{Holds, endless}
 use Rattle.rules.specs.Rows.{Relation, Row, valueAt, sumOf, atomVariable, slack, rowsOf}
 use Rattle.rules.specs.Rows.Relation.{at-least, equal}
+use Rattle.rules.specs.ErrorFigure.{ErrorFigures}
 use Rattle.rules.specs.Judge.{None, Verdict, Judged}
 use Rattle.rules.specs.Refusals.{RunGood, JudgeRefused}
 use Rattle.rules.specs.Demands.{Answer}
@@ -34,8 +35,8 @@ pub record Passes (T M e : ℕ) (ns : List Node) (figures : List ℤ) : Type 0 w
 -- the judge passes exactly these figures
 abbrev pub PassedIff : Type 0
 PassedIff =
-    (T M e : ℕ) (ns : List Node) (figures : List ℤ) →
-    Judged T M e ns figures (Verdict.passed (length (rowsOf T M ns))) ↔ Passes T M e ns figures
+    (T M e : ℕ) (ns : List Node) (figures : List ℤ) (error : ℕ → ℕ) → ErrorFigures T M e ns error →
+    Judged T M e ns figures (Verdict.passed (length (rowsOf T M ns)) (error (slack T M (root ns) 1))) ↔ Passes T M e ns figures
 
 -- the run of the atoms, and what the figures say of it
 pub record TrulyMet (T M : ℕ) (ns : List Node) (figures : List ℤ) : Type 0 where
@@ -49,19 +50,20 @@ pub record TrulyMet (T M : ℕ) (ns : List Node) (figures : List ℤ) : Type 0 w
 -- figures passed with tolerance 0 are the truth, and the rule is met
 abbrev pub PassedIsTrue : Type 0
 PassedIsTrue =
-    (T M : ℕ) (table : List ℕ) (ns : List Node) (figures : List ℤ) (n : ℕ) → 1 ≤ T → Good M table ns → length figures ≡ (M + length ns) * T →
-    Judged T M 0 ns figures (Verdict.passed n) → TrulyMet T M ns figures
+    (T M : ℕ) (table : List ℕ) (ns : List Node) (figures : List ℤ) (n f : ℕ) → 1 ≤ T → Good M table ns → length figures ≡ (M + length ns) * T →
+    Judged T M 0 ns figures (Verdict.passed n f) → TrulyMet T M ns figures
 
 -- ---- of a ruling that meets the judge's contract
 
 -- the judge passes exactly where nothing refuses and every limit, every row and every atom is right within the tolerance
 abbrev pub PassedMeans : (t m : ℕ) (table : List ℕ) (figures : List ℤ) (tolerance : ℤ) (ruling : Answer Verdict) → Type 0
 PassedMeans t m table figures tolerance ruling =
-    (n : ℕ) → (ruling ≡ answered (Verdict.passed n)) ↔
+    (n f : ℕ) → (ruling ≡ answered (Verdict.passed n f)) ↔
     (None (JudgeRefused t m table figures tolerance) ×
-    ((ns : List Node) × (e : ℕ) × Good m table ns × (tolerance ≡ pos e) × (n ≡ length (rowsOf t m ns)) × Passes t m e ns figures))
+    ((ns : List Node) × (e : ℕ) × (error : ℕ → ℕ) × Good m table ns × (tolerance ≡ pos e) × ErrorFigures t m e ns error ×
+    (n ≡ length (rowsOf t m ns)) × (f ≡ error (slack t m (root ns) 1)) × Passes t m e ns figures))
 
 -- figures passed with tolerance 0: the bridge from the judge to the rule
 abbrev pub PassedAtZero : (t m : ℕ) (table : List ℕ) (figures : List ℤ) (tolerance : ℤ) (ruling : Answer Verdict) → Type 0
 PassedAtZero t m table figures tolerance ruling =
-    (n : ℕ) → tolerance ≡ pos 0 → ruling ≡ answered (Verdict.passed n) → (ns : List Node) × Good m table ns × TrulyMet t m ns figures
+    (n f : ℕ) → tolerance ≡ pos 0 → ruling ≡ answered (Verdict.passed n f) → (ns : List Node) × Good m table ns × TrulyMet t m ns figures

@@ -3,26 +3,28 @@ use mathlib.Core.Path.{_≡_, refl, sym, ap, subst, _∙_}
 use mathlib.Core.Bool.{Bool, true, false}
 use mathlib.Core.Logic.{_↔_, _⊎_, inl, inr, ⊎-elim}
 use mathlib.Core.List.{List, [], _∷_, _++_}
-use Prim.Native.Nat.{ℕ, zero, suc, _+_, _-_, _*_, _/_, _%_, _^_, _≤_, _<_}
+use Prim.Native.Nat.{ℕ, zero, suc, _+_, _-_, _*_, _/_, _%_, _≤_, _<_}
 use native.Mathlib.Decide.{decLt, ℕ-discrete}
-use native.Mathlib.Nat.{eq-or-lt-of-le, pow-suc, pow-zero, mul-add-div-right, mul-add-mod-self-right, div-eq-of-lt, mod-eq-of-lt, div-lt-iff-lt-mul, mod-lt, div-add-mod', mul-le-mul-right, mul-assoc}
+use native.Mathlib.Nat.{div-lt-iff-lt-mul, mod-lt, div-add-mod'}
 use native.Mathlib.Omega.{arith}
-use lib.Pow.{pow-add, pow-pos}
-use lib.Dec.{eqb, not-T}
+use lib.Dec.{eqb}
 use lib.ListN.{length, getD, take, drop, length-drop, take-append-drop}
 use lib.Seq.{ext-getD, getD-take, getD-drop, length-take-le}
 use lib.IntN.{ℤ, pos, negsuc, negℤ, _+ℤ_, _-ℤ_, _*ℤ_, natAbs, -ℤ-+ℤ-cancel, +ℤ-idl, +ℤ-idr}
-use lib.Signed.{_≤ℤ_, _<ℤ_, ltZ, ltZ-no, clashℤ}
-use Rattle.lists.specs.Every.{Every, every-append}
-use Rattle.lists.specs.Tabulate.{tabulate, length-tabulate, getD-tabulate}
+use lib.Signed.{_≤ℤ_, clashℤ}
+use Rattle.lists.specs.Every.{Every, every-append, at-every}
 use Rattle.rules.specs.Quantities.{bitAt, one}
-use Rattle.rules.specs.Table.{Node, Good}
+use Rattle.rules.specs.Table.{Node, Good, root}
+use Rattle.rules.specs.ErrorFigure.{ErrorFigures}
+use Rattle.rules.specs.Errors.Naturals.{not-below}
+use Rattle.rules.specs.Errors.Passed.{passed-is-near, rounded-run}
 use Rattle.rules.specs.Evaluation.{bitOf}
+use Rattle.rules.specs.RunOfBits.{runOf, run-good, run-bit}
 use Rattle.rules.specs.Rows.{Relation, Row, Meets, MeetsBy, valueAt, sumOf, atomVariable, slack, rowsOf, slackRows, goalRow}
 use Rattle.rules.specs.Rows.Relation.{at-least, equal}
 use Rattle.rules.specs.Judge.{Apart, BrokenBy, None, Verdict, OutsideAt, NotBinaryAt, BrokenAt, Judged}
 use Rattle.rules.specs.Judge.Judged.{is-outside, is-not-binary, is-broken, is-passed}
-use Rattle.rules.specs.Refusals.{RunGood, TableRefused, JudgeRefused}
+use Rattle.rules.specs.Refusals.{TableRefused, JudgeRefused}
 use Rattle.rules.specs.Demands.{Fits, OnlyTheTruth}
 use Rattle.rules.specs.Solution.Truths.{place-lt}
 use Rattle.rules.specs.Exactness.Tests.{at-least as bounded}
@@ -30,12 +32,10 @@ use Rattle.rules.specs.Theorems.{only-the-truth}
 use Rattle.rules.specs.Outcome.{judgeOutcome}
 use Rattle.rules.specs.Demands.{Answer}
 use Rattle.demands.specs.Answering.{judge-answers}
+use Rattle.demands.specs.Trust.{PassedNear}
 use Rattle.demands.specs.Passed.{HoldsBy, RowHolds, Passes, PassedIff, TrulyMet, PassedIsTrue, PassedMeans, PassedAtZero}
 
 -- ---- orders that are refuted
-
-not-below : (a b : ℤ) → (a <ℤ b → ⊥) → b ≤ℤ a
-not-below a b f = ltZ-no (not-T (ltZ a b) (λ t. f (record { lt = t })))
 
 not-apart : (e : ℕ) (b x : ℤ) → (Apart e b x → ⊥) → natAbs (x -ℤ b) ≤ e
 not-apart e b x f = bounded e (natAbs (x -ℤ b)) f
@@ -45,10 +45,6 @@ holds-iff at-least e b s = (not-below s (b -ℤ pos e), λ h k. clashℤ k h)
 holds-iff equal e b s = (not-apart e b s, λ h k. omega arith)
 
 -- ---- every element of a list, by its index
-
-at-every {ℓ} : {A : Type ℓ} (P : A → Type 0) (d : A) (l : List A) → ((i : ℕ) → i < length l → P (getD l i d)) → Every P l
-at-every P d [] h = tt
-at-every P d (a ∷ l) h = (h 0 (omega arith), at-every P d l (λ i u. h (suc i) (omega arith)))
 
 every-at {ℓ} : {A : Type ℓ} (P : A → Type 0) (d : A) (l : List A) → Every P l → (i : ℕ) → i < length l → P (getD l i d)
 every-at P d [] h i u = absurd (omega arith)
@@ -77,11 +73,11 @@ module _ (T M e : ℕ) (ns : List Node) (xs : List ℤ) where
       at-every (RowHolds e xs) (goalRow T M ns) (rowsOf T M ns)
       (λ i u. holds-iff (row i .relation) e (row i .right *ℤ pos one) (sumOf xs (row i .terms)) .0 (λ k. h i (u, k)))
 
-  passes : {v : Verdict} (n : ℕ) → v ≡ Verdict.passed n → Judged T M e ns xs v → Passes T M e ns xs
-  passes n f (is-outside h) = let z : _≡_ {A = ℕ} 0 1 = cc in absurd (omega arith)
-  passes n f (is-not-binary p h) = let z : _≡_ {A = ℕ} 0 1 = cc in absurd (omega arith)
-  passes n f (is-broken p q h) = let z : _≡_ {A = ℕ} 0 1 = cc in absurd (omega arith)
-  passes n f (is-passed p q r) = record { limits = inside p; binary = binary q; rows = hold r }
+  passes : {v : Verdict} (n f : ℕ) → v ≡ Verdict.passed n f → Judged T M e ns xs v → Passes T M e ns xs
+  passes n k f (is-outside h) = let z : _≡_ {A = ℕ} 0 1 = cc in absurd (omega arith)
+  passes n k f (is-not-binary p h) = let z : _≡_ {A = ℕ} 0 1 = cc in absurd (omega arith)
+  passes n k f (is-broken p q h) = let z : _≡_ {A = ℕ} 0 1 = cc in absurd (omega arith)
+  passes n k f (is-passed p q r x) = record { limits = inside p; binary = binary q; rows = hold r }
 
   not-outside : Passes T M e ns xs → None (OutsideAt T M e ns xs)
   not-outside p v (u, inl k) = clashℤ k (p .limits v u .0)
@@ -95,39 +91,10 @@ module _ (T M e : ℕ) (ns : List Node) (xs : List ℤ) where
       holds-iff (row i .relation) e (row i .right *ℤ pos one) (sumOf xs (row i .terms)) .1 (every-at (RowHolds e xs) (goalRow T M ns) (rowsOf T M ns) (p .rows) i u) k
 
 pub passed-iff : PassedIff
-passed-iff T M e ns xs = (passes T M e ns xs (length (rowsOf T M ns)) refl, λ p. is-passed (not-outside T M e ns xs p) (all-binary T M e ns xs p) (none-broken T M e ns xs p))
-
--- ---- a number from its bits
-
-abbrev number : (ℕ → ℕ) → ℕ → ℕ
-number b zero = 0
-number b (suc k) = b k * 2 ^ k + number b k
-
-module _ (b : ℕ → ℕ) (small : (k : ℕ) → b k < 2) where
-  number-lt : (k : ℕ) → number b k < 2 ^ k
-  number-lt zero = rw (pow-zero 2) (omega arith)
-  number-lt (suc k) = rw (pow-suc 2 k) (omega (arith, number-lt k, mul-le-mul-right (2 ^ k) (small k)))
-
-  -- the highest bit, and a lower one, which the higher part leaves as it is
-  top-bit : (k : ℕ) → number b (suc k) / 2 ^ k % 2 ≡ b k
-  top-bit k =
-      ap (λ (x : ℕ). x % 2) (mul-add-div-right {m = 2 ^ k} (pow-pos k) (b k) (number b k) ∙ omega (arith, div-eq-of-lt (number-lt k))) ∙ mod-eq-of-lt (small k)
-
-  low-bit : (a k : ℕ) → a < k → number b (suc k) / 2 ^ a % 2 ≡ number b k / 2 ^ a % 2
-  low-bit a k l =
-      let d : ℕ = k - suc a in
-      let z : 2 ^ k ≡ 2 ^ d * 2 * 2 ^ a = ap (λ (x : ℕ). 2 ^ x) (omega arith) ∙ pow-add 2 (suc d) a ∙ ap (λ (x : ℕ). x * 2 ^ a) (pow-suc 2 d) in
-      let f : number b (suc k) ≡ b k * (2 ^ d * 2) * 2 ^ a + number b k =
-      ap (λ (x : ℕ). b k * x + number b k) z ∙ ap (λ (x : ℕ). x + number b k) (sym (mul-assoc (b k) (2 ^ d * 2) (2 ^ a))) in
-      ap (λ (x : ℕ). x / 2 ^ a % 2) f
-      ∙ ap (λ (x : ℕ). x % 2) (mul-add-div-right {m = 2 ^ a} (pow-pos a) (b k * (2 ^ d * 2)) (number b k))
-      ∙ ap (λ (x : ℕ). (x + number b k / 2 ^ a) % 2) (sym (mul-assoc (b k) (2 ^ d) 2))
-      ∙ mul-add-mod-self-right (b k * 2 ^ d) 2 (number b k / 2 ^ a)
-
-  number-bit : (a k : ℕ) → a < k → number b k / 2 ^ a % 2 ≡ b a
-  number-bit a zero h = absurd (omega arith)
-  number-bit a (suc k) h =
-      ⊎-elim (λ e. let z : a ≡ k = omega arith in rw z (top-bit k)) (λ l. low-bit a k (omega arith) ∙ number-bit a k (omega arith)) (eq-or-lt-of-le h)
+passed-iff T M e ns xs figure figures = (
+  passes T M e ns xs (length (rowsOf T M ns)) (figure (slack T M (root ns) 1)) refl,
+  λ p. is-passed (not-outside T M e ns xs p) (all-binary T M e ns xs p) (none-broken T M e ns xs p) figures,
+)
 
 -- ---- the run that the atoms make
 
@@ -144,26 +111,11 @@ isOne-small : (z : ℤ) → isOne z < 2
 isOne-small (pos n) = one-small (eqb n one)
 isOne-small (negsuc n) = omega arith
 
-abbrev atomBits : (T : ℕ) → List ℤ → ℕ → ℕ → ℕ
-atomBits T xs i a = isOne (valueAt xs (a * T + i))
+abbrev atomBits : (T : ℕ) → List ℤ → (t a : ℕ) → ℕ
+atomBits T xs t a = isOne (valueAt xs (atomVariable T a t))
 
-abbrev runOf : (T M : ℕ) → List ℤ → List ℕ
-runOf T M xs = tabulate T (λ i. number (atomBits T xs i) M)
-
-run-at : (T M : ℕ) (xs : List ℤ) (i : ℕ) → i < T → getD (runOf T M xs) i 0 ≡ number (atomBits T xs i) M
-run-at T M xs i h = getD-tabulate T (λ i. number (atomBits T xs i) M) i 0 h
-
-run-good : (T M : ℕ) (xs : List ℤ) → RunGood T M (runOf T M xs)
-run-good T M xs =
-    let long = length-tabulate T (λ i. number (atomBits T xs i) M) in
-    record {
-      numbers = long;
-      bits = λ i h. rw (run-at T M xs i (omega arith)) (number-lt (atomBits T xs i) (λ k. isOne-small (valueAt xs (k * T + i))) M);
-    }
-
-bit-is : (T M : ℕ) (xs : List ℤ) (a t : ℕ) → a < M → 1 ≤ t → t ≤ T → bitAt (runOf T M xs) t a ≡ isOne (valueAt xs (atomVariable T a t))
-bit-is T M xs a t h l u =
-    ap (λ (x : ℕ). x / 2 ^ a % 2) (run-at T M xs (t - 1) (omega arith)) ∙ number-bit (atomBits T xs (t - 1)) (λ k. isOne-small (valueAt xs (k * T + (t - 1)))) a M h
+atoms-small : (T : ℕ) (xs : List ℤ) (t a : ℕ) → atomBits T xs t a < 2
+atoms-small T xs t a = isOne-small (valueAt xs (atomVariable T a t))
 
 same-at : (z b : ℤ) → natAbs (z -ℤ b) ≤ 0 → z ≡ b
 same-at z b h = sym (-ℤ-+ℤ-cancel z b) ∙ ap (λ (x : ℤ). x +ℤ b) (zero-abs (z -ℤ b) h) ∙ +ℤ-idl b
@@ -193,14 +145,15 @@ module _ (T M : ℕ) (table : List ℕ) (ns : List Node) (xs : List ℤ) (0<T : 
   A = M * T
 
   abbrev run : List ℕ
-  run = runOf T M xs
+  run = runOf T M (atomBits T xs) (atoms-small T xs)
 
   abbrev only : OnlyTheTruth T M one run ns (slackRows T M ns) (goalRow T M ns)
   only = only-the-truth T M one run table ns good 0<T (omega arith)
 
   atoms : (a t : ℕ) → a < M → 1 ≤ t → t ≤ T → valueAt xs (atomVariable T a t) ≡ pos (bitAt run t a * one)
   atoms a t h l u =
-      atom-is (valueAt xs (atomVariable T a t)) (p .binary (atomVariable T a t) (place-lt T M a t h l u)) ∙ ap (λ (b : ℕ). pos (b * one)) (sym (bit-is T M xs a t h l u))
+      atom-is (valueAt xs (atomVariable T a t)) (p .binary (atomVariable T a t) (place-lt T M a t h l u))
+      ∙ ap (λ (b : ℕ). pos (b * one)) (sym (run-bit T M (atomBits T xs) (atoms-small T xs) a t h l u))
 
   A≤ : A ≤ length xs
   A≤ = omega (arith, count)
@@ -248,7 +201,7 @@ module _ (T M : ℕ) (table : List ℕ) (ns : List Node) (xs : List ℤ) (0<T : 
   truly-met : TrulyMet T M ns xs
   truly-met = record {
     run = run;
-    run-good = run-good T M xs;
+    run-good = run-good T M (atomBits T xs) (atoms-small T xs);
     atoms = atoms;
     ones = λ n t h l u x. slack-is n t ∙ only .one n t h l u x;
     zeros = λ n t h l u x. slack-is n t ∙ only .zero n t h l u x;
@@ -256,42 +209,69 @@ module _ (T M : ℕ) (table : List ℕ) (ns : List Node) (xs : List ℤ) (0<T : 
   }
 
 pub passed-is-true : PassedIsTrue
-passed-is-true T M table ns xs n 0<T good count j = truly-met T M table ns xs 0<T good count (passes T M 0 ns xs n refl j)
+passed-is-true T M table ns xs n f 0<T good count j = truly-met T M table ns xs 0<T good count (passes T M 0 ns xs n f refl j)
 
 -- ---- of a ruling
 
-count-is : {T M e n : ℕ} {ns : List Node} {xs : List ℤ} {v : Verdict} → v ≡ Verdict.passed n → Judged T M e ns xs v → n ≡ length (rowsOf T M ns)
-count-is f (is-outside h) = let z : _≡_ {A = ℕ} 0 1 = cc in absurd (omega arith)
-count-is f (is-not-binary p h) = let z : _≡_ {A = ℕ} 0 1 = cc in absurd (omega arith)
-count-is f (is-broken p q h) = let z : _≡_ {A = ℕ} 0 1 = cc in absurd (omega arith)
-count-is f (is-passed p q r) = cc
+-- what passed carries
+record Carried (T M e : ℕ) (ns : List Node) (n f : ℕ) : Type 0 where
+  figure : ℕ → ℕ
+  figures : ErrorFigures T M e ns figure
+  count : n ≡ length (rowsOf T M ns)
+  root-is : f ≡ figure (slack T M (root ns) 1)
+
+carried : {T M e n k : ℕ} {ns : List Node} {xs : List ℤ} {v : Verdict} → v ≡ Verdict.passed n k → Judged T M e ns xs v → Carried T M e ns n k
+carried f (is-outside h) = let z : _≡_ {A = ℕ} 0 1 = cc in absurd (omega arith)
+carried f (is-not-binary p h) = let z : _≡_ {A = ℕ} 0 1 = cc in absurd (omega arith)
+carried f (is-broken p q h) = let z : _≡_ {A = ℕ} 0 1 = cc in absurd (omega arith)
+carried f (is-passed {error} p q r x) = record { figure = error; figures = x; count = cc; root-is = cc }
 
 module _ (t m : ℕ) (table : List ℕ) (figures : List ℤ) (tolerance : ℤ) (ruling : Answer Verdict) (told : ruling ≡ judgeOutcome t m table figures tolerance) where
   pub passed-means : PassedMeans t m table figures tolerance ruling
-  passed-means n = (
+  passed-means n k = (
     λ f.
-        let x = judge-answers t m table figures tolerance ruling told (Verdict.passed n) .0 f in
-        let j = x .1 .4 in
-        (x .0, (x .1 .0, x .1 .1, x .1 .2, x .1 .3, count-is refl j, passes t m (x .1 .1) (x .1 .0) figures n refl j)),
+        let (none, (ns, e, good, tol, j)) = judge-answers t m table figures tolerance ruling told (Verdict.passed n k) .0 f in
+        let c = carried refl j in
+        (none, (ns, e, c .figure, good, tol, c .figures, c .count, c .root-is, passes t m e ns figures n k refl j)),
     λ x.
-        let (ns, e, good, tol, count, p) = x .1 in
-        judge-answers t m table figures tolerance ruling told (Verdict.passed n) .1 (x .0, (ns, e, good, tol, rw count (passed-iff t m e ns figures .1 p))),
+        let (ns, e, figure, good, tol, counted, count, root-is, p) = x .1 in
+        judge-answers t m table figures tolerance ruling told (Verdict.passed n k) .1
+        (x .0, (ns, e, good, tol, rw (count, root-is) (passed-iff t m e ns figures figure counted .1 p))),
   )
 
+  slots : None (JudgeRefused t m table figures tolerance) → 1 ≤ t
+  slots none = bounded t 1 (λ h. none 1 (JudgeRefused.table-refused (TableRefused.slots (λ s. omega (arith, s .0)))))
+
+  counted : (ns : List Node) → None (JudgeRefused t m table figures tolerance) → Good m table ns → Dec (length figures ≡ (m + length ns) * t) →
+      length figures ≡ (m + length ns) * t
+  counted ns none good (yes h) = h
+  counted ns none good (no h) = absurd (none 9 (JudgeRefused.miscounted good h))
+
   pub passed-at-zero : PassedAtZero t m table figures tolerance ruling
-  passed-at-zero n zero-is f =
-      let x = judge-answers t m table figures tolerance ruling told (Verdict.passed n) .0 f in
+  passed-at-zero n k zero-is f =
+      let x = judge-answers t m table figures tolerance ruling told (Verdict.passed n k) .0 f in
       let ns = x .1 .0 in
       let z : x .1 .1 ≡ 0 = ap natAbs (sym (x .1 .3) ∙ zero-is) in (
         ns,
         x .1 .2,
-        passed-is-true t m table ns figures n (slots (x .0)) (x .1 .2) (counted ns (x .0) (x .1 .2) (ℕ-discrete (length figures) ((m + length ns) * t)))
-            (subst (λ (e : ℕ). Judged t m e ns figures (Verdict.passed n)) z (x .1 .4)),
+        passed-is-true t m table ns figures n k (slots (x .0)) (x .1 .2) (counted ns (x .0) (x .1 .2) (ℕ-discrete (length figures) ((m + length ns) * t)))
+            (subst (λ (e : ℕ). Judged t m e ns figures (Verdict.passed n k)) z (x .1 .4)),
       )
-    where
-      slots : None (JudgeRefused t m table figures tolerance) → 1 ≤ t
-      slots none = bounded t 1 (λ h. none 1 (JudgeRefused.table-refused (TableRefused.slots (λ s. omega (arith, s .0)))))
 
-      counted : (ns : List Node) → None (JudgeRefused t m table figures tolerance) → Good m table ns → Dec (length figures ≡ (m + length ns) * t) → length figures ≡ (m + length ns) * t
-      counted ns none good (yes h) = h
-      counted ns none good (no h) = absurd (none 9 (JudgeRefused.miscounted good h))
+  pub passed-near : PassedNear t m table figures tolerance ruling
+  passed-near n k f =
+      let (none, (ns, e, good, tol, j)) = judge-answers t m table figures tolerance ruling told (Verdict.passed n k) .0 f in
+      let c = carried refl j in
+      let r = rounded-run t m figures in
+      let long = counted ns none good (ℕ-discrete (length figures) ((m + length ns) * t)) in (
+        ns,
+        e,
+        c .figure,
+        r .0,
+        good,
+        tol,
+        c .figures,
+        c .root-is,
+        r .1,
+        passed-is-near t m e n k table ns figures (c .figure) (r .0) (slots none) good long (c .figures) (r .1) j,
+      )

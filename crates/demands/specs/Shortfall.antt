@@ -12,7 +12,7 @@ use Rattle.rules.specs.Judge.{Broken, shortfall, None, Verdict, rowAt}
 use Rattle.rules.specs.Refusals.{JudgeRefused}
 use Rattle.rules.specs.Demands.{Answer}
 use Rattle.rules.specs.Demands.Answer.{answered}
-use Rattle.rules.specs.Before.{rulingWithoutShortfall}
+use Rattle.rules.specs.Before.{rulingBefore}
 use Rattle.rules.specs.Before as Before
 
 -- a row is broken exactly where its shortfall is above the tolerance, and it is then above 0, the goal row's too
@@ -23,11 +23,11 @@ BrokenIsShort =
 
 -- ---- of a ruling that meets the judge's contract
 
--- "Which verdict is given does not alter": without the shortfall, the ruling has the verdict of before exactly where document 01 gives it.
+-- "Which verdict is given does not alter": without shortfall and error figure, the ruling has the verdict of before exactly where document 01 gives it.
 -- Where the judge refuses is demand 1, as before.
 abbrev pub SameVerdict : (t m : ℕ) (table : List ℕ) (figures : List ℤ) (tolerance : ℤ) (ruling : Answer Verdict) → Type 0
 SameVerdict t m table figures tolerance ruling =
-    (u : Before.Verdict) → (rulingWithoutShortfall ruling ≡ answered u) ↔
+    (u : Before.Verdict) → (rulingBefore ruling ≡ answered u) ↔
     (None (JudgeRefused t m table figures tolerance) × ((ns : List Node) × (e : ℕ) × Good m table ns × (tolerance ≡ pos e) × Before.Judged t m e ns figures u))
 
 -- "The verdict broken then carries the shortfall in millionths", that of the row it names: above the tolerance, and so above 0

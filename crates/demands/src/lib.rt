@@ -10,6 +10,7 @@ ghost use Rattle.demands.specs.Heights.{ReaderHeights};
 ghost use Rattle.demands.specs.Words.{SaysBytes};
 ghost use Rattle.demands.specs.Demand3.{Demanded};
 ghost use Rattle.demands.specs.Passed.{PassedMeans, PassedAtZero};
+ghost use Rattle.demands.specs.Trust.{PassedNear};
 ghost use Rattle.demands.specs.Shortfall.{SameVerdict, CarriesShortfall};
 ghost use Rattle.demands.specs.RowSum.{PositiveFirst, SummedVerdict};
 ghost use Rattle.demands.specs.Page.{PageRefuses, PageAnswers, PageMeans};
@@ -59,6 +60,7 @@ pub fn judge_figures(table: &[u8], t: usize, m: usize, figures: &[i32], e: i32) 
     ensures { λ r. ⌜ JudgeAnswers t m (now (table .entry)) (now (figures .entry)) e (ruled r) ⌝ }
     ensures { λ r. ⌜ PassedMeans t m (now (table .entry)) (now (figures .entry)) e (ruled r) ⌝ }
     ensures { λ r. ⌜ PassedAtZero t m (now (table .entry)) (now (figures .entry)) e (ruled r) ⌝ }
+    ensures { λ r. ⌜ PassedNear t m (now (table .entry)) (now (figures .entry)) e (ruled r) ⌝ }
     ensures { λ r. ⌜ SameVerdict t m (now (table .entry)) (now (figures .entry)) e (ruled r) ⌝ }
     ensures { λ r. ⌜ CarriesShortfall t m (now (table .entry)) (now (figures .entry)) e (ruled r) ⌝ }
     ensures { λ r. ⌜ SummedVerdict t m (now (table .entry)) (now (figures .entry)) e (ruled r) ⌝ }

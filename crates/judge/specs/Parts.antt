@@ -1,5 +1,5 @@
 -- The verdict, from its end.
-use mathlib.Core.Path.{_≡_, refl, sym, ap, _∙_}
+use mathlib.Core.Path.{_≡_, refl, sym, ap, ap₂, _∙_}
 use mathlib.Core.List.{List}
 use mathlib.Core.Option.{Option, none, some}
 use Prim.Native.Nat.{ℕ, _*_}
@@ -12,6 +12,7 @@ use Rattle.rules.specs.Rows.{goalRow, rowsOf}
 use Rattle.rules.specs.Judge as Judge
 use Rattle.rules.specs.Judge.Verdict.{outside, not-binary, broken, passed}
 use Rattle.rules.specs.Judge.{shortfall}
+use Rattle.rules.specs.Errors.Figures.{rootError}
 use Rattle.rules.specs.Verdicts.{orElse, firstOutside, firstNotBinary, firstBroken, brokenAt, verdict}
 use Rattle.slotcheck.specs.declared.Search.{Search}
 use Rattle.slotcheck.specs.declared.Search.the-variants.{Clear, Broken}
@@ -21,7 +22,7 @@ use Rattle.limits.specs.Tests.{outsideAt, notBinaryAt}
 
 module _ (T M e : ℕ) (ns : List Node) (xs : List ℤ) where
   unfoldable pub rowsVerdict : Judge.Verdict
-  rowsVerdict = orElse (firstBroken T M e ns xs) (brokenAt T M e ns xs) (passed (length (rowsOf T M ns)))
+  rowsVerdict = orElse (firstBroken T M e ns xs) (brokenAt T M e ns xs) (passed (length (rowsOf T M ns)) (rootError T e ns))
 
   unfoldable pub atomsVerdict : Judge.Verdict
   atomsVerdict = orElse (firstNotBinary T M e ns xs) not-binary rowsVerdict
@@ -37,11 +38,11 @@ module _ (T M e : ℕ) (ns : List Node) (xs : List ℤ) where
   unfolding rowsVerdict
   broken-verdict i d p = rw (broken-is (Broken d i) p) (ap (broken i) (shortfall-of e (shortfall xs) (goalRow T M ns) (rowsOf T M ns) i d (sym p)))
 
-  pub clear-verdict : (n : ℕ) → Clear n ≡ tested e (shortfall xs) (Clear 0) (rowsOf T M ns) → passed n ≡ rowsVerdict
+  pub clear-verdict : (n f : ℕ) → Clear n ≡ tested e (shortfall xs) (Clear 0) (rowsOf T M ns) → f ≡ rootError T e ns → passed n f ≡ rowsVerdict
   unfolding rowsVerdict
-  clear-verdict n p =
+  clear-verdict n f p q =
       rw (broken-is (Clear n) p)
-      (ap passed (all-clear e (shortfall xs) (rowsOf T M ns) 0 n (sym p) ∙ zero-add (length (rowsOf T M ns))))
+      (ap₂ passed (all-clear e (shortfall xs) (rowsOf T M ns) 0 n (sym p) ∙ zero-add (length (rowsOf T M ns))) q)
 
   pub atoms-found : (k v : ℕ) → k ≡ M * T → first (notBinaryAt e xs) k 0 ≡ some v → not-binary v ≡ atomsVerdict
   unfolding atomsVerdict

@@ -13,7 +13,7 @@ abbrev pub verdictOf : Verdict → Judge.Verdict
 verdictOf (Outside v) = outside v
 verdictOf (NotBinary v) = not-binary v
 verdictOf (Broken i d) = broken i d
-verdictOf (Passed n) = passed n
+verdictOf (Passed n error) = passed n error
 
 abbrev pub ruled : Ruling → Answer Judge.Verdict
 ruled (Refused r) = refused (numberOf r)

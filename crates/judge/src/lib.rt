@@ -21,8 +21,8 @@ pub enum Verdict {
     NotBinary(usize),
     // the lowest broken row, and its shortfall in millionths
     Broken(usize, i64),
-    // the row count
-    Passed(usize),
+    // the row count, and the root's error figure at slot 1
+    Passed(usize, u32),
 }
 
 pub enum Ruling {
@@ -38,7 +38,7 @@ fn rows_verdict(table: &[u8], n: usize, t: usize, m: usize, figures: &[i32], e: 
     let rows = search::test_all(table, n, t, m, figures, e);
     match rows {
         Search::Broken(shortfall, i) => Verdict::Broken(i, shortfall),
-        Search::Clear(i) => Verdict::Passed(i),
+        Search::Clear(i) => Verdict::Passed(i, errors::root_figure(table, n, t, m, e)),
     }
 }
 

@@ -20,7 +20,9 @@ const LARGEST: usize = 4194304;
 
 const MOST_WORDS: usize = 512;
 
-// The most figures of a window's row.
+// The most figures of a table, and of a window's row.
+const FIGURES: usize = 9216;
+
 const SLOTS: usize = 64;
 
 // The length of rowlist's page.
@@ -111,6 +113,18 @@ fn judge(list: &[usize; NUMBERS], table: &[u8]) {
     show::ruling(judge::judge(table, list[1], list[2], &figures[4..end], e));
 }
 
+fn judge_in(list: &[usize; NUMBERS], table: &[u8], space: &mut [i32]) {
+    let n = cases::counted(list, space);
+    let e = cases::signed(list[3]);
+    show::ruling(judge::judge(table, list[1], list[2], &space[0..n], e));
+}
+
+// counted T M E and pairs of a count and a figure:TABLE
+fn judge_counted(list: &[usize; NUMBERS], table: &[u8]) {
+    let mut space = [0i32; FIGURES];
+    judge_in(list, table, &mut space);
+}
+
 // list:INPUT, what rowlist prints
 fn list_rows(input: &[u8]) {
     let mut page = [FILL; LISTING];
@@ -195,6 +209,7 @@ fn total(list: &[usize; NUMBERS]) {
 
 fn call_with(call: u8, list: &[usize; NUMBERS], bytes: &[u8]) {
     match call {
+        b'c' => judge_counted(list, bytes),
         b'e' => evaluate(list, bytes),
         b'f' => first(list),
         b'j' => judge(list, bytes),
@@ -215,7 +230,7 @@ fn run(line: &[u8], call: u8) {
 
 // Prints a line and runs its case; a line with `#` is a note and is printed alone.
 pub fn run_line(line: &[u8]) {
-    show::line(line);
+    show::case(line);
     if line.len() == 0 {
         return;
     }

@@ -1,4 +1,5 @@
 // A case: the name of a call, numbers with a space before each, and after a colon the bytes of a text or a table.
+ghost use mathlib.Core.Path.{_≡_};
 ghost use Prim.Native.Nat.{_≤_, _<_};
 ghost use lib.ListN.{length};
 
@@ -194,4 +195,36 @@ pub fn end(list: &[usize; NUMBERS], from: usize) -> usize
         return from;
     }
     if last < NUMBERS { last + 1 } else { NUMBERS }
+}
+
+// Puts a figure `count` times, as far as there is room; the result is where the next one goes.
+fn put_figures(into: &mut [i32], from: usize, count: usize, figure: i32) -> usize
+    requires { ⌜ from ≤ length (now into) ⌝ }
+    ensures { λ r. ⌜ (r ≤ length (now (into .exit))) × (length (now (into .exit)) ≡ length (now (into .entry))) ⌝ }
+{
+    let mut n = from;
+    let mut left = count;
+    while 0 < left {
+        if n == into.len() {
+            return n;
+        }
+        into[n] = figure;
+        n += 1;
+        left -= 1;
+    }
+    n
+}
+
+// Figures that are said as pairs of a count and a figure, from place 4 on; the result is how many.
+pub fn counted(list: &[usize; NUMBERS], into: &mut [i32]) -> usize
+    ensures { λ r. ⌜ r ≤ length (now (into .exit)) ⌝ }
+{
+    let end = end(list, 4);
+    let mut n: usize = 0;
+    let mut i: usize = 5;
+    while i < end {
+        n = put_figures(into, n, list[i - 1], signed(list[i]));
+        i += 2;
+    }
+    n
 }

@@ -65,7 +65,10 @@ fn verdict(verdict: Verdict) {
             number(b"broken ", row);
             shortfall(d);
         }
-        Verdict::Passed(n) => number(b"passed ", n),
+        Verdict::Passed(n, error) => {
+            number(b"passed ", n);
+            number(b" error ", error as usize);
+        }
     }
 }
 
@@ -131,6 +134,12 @@ fn part(bytes: &[u8], is_text: bool) {
     } else {
         hexadecimal(bytes);
     }
+}
+
+// The line of a case likewise.
+pub fn case(line: &[u8]) {
+    part(line, true);
+    text(b"\n");
 }
 
 // What a buffer holds, the fill at its end as `~` and its length.

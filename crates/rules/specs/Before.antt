@@ -1,4 +1,4 @@
--- The judge's verdict as it was before request N1, without a shortfall, and the evaluator's bytes as they were before request N5.
+-- The judge's verdict as it was before requests N1 and N7, without shortfall and error figure, and the evaluator's bytes as they were before request N5.
 -- Unaltered.antt proves that verdict and truth stay.
 use mathlib.Core.Path.{_≡_}
 use mathlib.Core.List.{List}
@@ -30,13 +30,13 @@ module _ (T M e : ℕ) (ns : List Node) (xs : List ℤ) where
     is-broken : {i : ℕ} → None (OutsideAt T M e ns xs) → None (NotBinaryAt T M e ns xs) → Lowest (BrokenAt T M e ns xs) i → Judged (Verdict.broken i)
     is-passed : None (OutsideAt T M e ns xs) → None (NotBinaryAt T M e ns xs) → None (BrokenAt T M e ns xs) → Judged (Verdict.passed (length (rowsOf T M ns)))
 
--- a verdict, and what the judge answers, without the shortfall
-abbrev pub withoutShortfall : Now.Verdict → Verdict
-withoutShortfall (Now.Verdict.outside v) = Verdict.outside v
-withoutShortfall (Now.Verdict.not-binary v) = Verdict.not-binary v
-withoutShortfall (Now.Verdict.broken i d) = Verdict.broken i
-withoutShortfall (Now.Verdict.passed n) = Verdict.passed n
+-- a verdict, and what the judge answers, without the shortfall of request N1 and the error figure of request N7
+abbrev pub verdictBefore : Now.Verdict → Verdict
+verdictBefore (Now.Verdict.outside v) = Verdict.outside v
+verdictBefore (Now.Verdict.not-binary v) = Verdict.not-binary v
+verdictBefore (Now.Verdict.broken i d) = Verdict.broken i
+verdictBefore (Now.Verdict.passed n f) = Verdict.passed n
 
-abbrev pub rulingWithoutShortfall : Answer Now.Verdict → Answer Verdict
-rulingWithoutShortfall (refused k) = refused k
-rulingWithoutShortfall (answered v) = answered (withoutShortfall v)
+abbrev pub rulingBefore : Answer Now.Verdict → Answer Verdict
+rulingBefore (refused k) = refused k
+rulingBefore (answered v) = answered (verdictBefore v)

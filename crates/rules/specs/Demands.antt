@@ -1,20 +1,23 @@
 -- The three demands, as statements about any functions that stand for what the calls answer and write.
 -- Theorems.antt proves them of the very functions that the calls' contracts cite.
 use mathlib.Core.Path.{_≡_}
+use mathlib.Core.Bool.{cond}
 use mathlib.Core.Logic.{_↔_}
 use mathlib.Core.List.{List, [], _∷_, _++_}
 use mathlib.Core.Option.{Option, none, some}
 use Prim.Native.Nat.{ℕ, _+_, _-_, _*_, _^_, _≤_, _<_}
+use lib.Dec.{ltb}
 use lib.ListN.{length, getD}
-use lib.IntN.{ℤ, pos}
+use lib.IntN.{ℤ, pos, _-ℤ_, natAbs}
 use lib.Signed.{_≤ℤ_}
 use Rattle.lists.specs.Every.{Every}
-use Rattle.rules.specs.Quantities.{bitAt, SlotsAllowed}
+use Rattle.rules.specs.Quantities.{bitAt, one, SlotsAllowed}
 use Rattle.rules.specs.Rule.{Rule, size, height}
 use Rattle.rules.specs.Grammar.{Says}
 use Rattle.rules.specs.Table.{Node, Good, tableBytes, nodesOf, ruleAt, root}
 use Rattle.rules.specs.Truth.{Holds, endless, TruthBit, slotBit, TruthWords, SlotSet}
-use Rattle.rules.specs.Rows.{Row, Meets, valueAt, atomVariable, rowsOf, rowsBytes, rowsIn}
+use Rattle.rules.specs.Rows.{Row, Meets, valueAt, atomVariable, slack, rowsOf, rowsBytes, rowsIn}
+use Rattle.rules.specs.ErrorFigure.{ErrorFigures}
 use Rattle.rules.specs.Judge.{Lowest, None, Verdict, Judged}
 use Rattle.rules.specs.Refusals.{Wins, RunGood, TextRefused, ReadRefused, EvaluateRefused, RowsRefused, JudgeRefused}
 
@@ -130,3 +133,40 @@ Demand3 read rows evaluate =
     (rows T M table room₂ ≡ answered (wrote count written)) ×
     (evaluate T M table run room₃ ≡ answered (wrote answer truth)) ×
     Demand3At T M D run p table count written answer truth)
+
+-- ---- request N7: figures that are nearly right
+
+-- "the run made by rounding each atom to the nearer of 0 and 1,000,000"
+pub record Rounded (T M : ℕ) (figures : List ℤ) (run : List ℕ) : Type 0 where
+  pub run-good : RunGood T M run
+  pub at : (a t : ℕ) → a < M → 1 ≤ t → t ≤ T →
+      let x = valueAt figures (atomVariable T a t) in bitAt run t a ≡ cond (ltb (natAbs (x -ℤ pos one)) (natAbs (x -ℤ pos 0))) 1 0
+
+abbrev pub trustLimit : ℕ
+trustLimit = 500000
+
+-- `error` gives the error figures, `carried` is the one that passed carries, and `run` is the rounded run
+pub record NearTruth (T M : ℕ) (ns : List Node) (figures : List ℤ) (error : ℕ → ℕ) (carried : ℕ) (run : List ℕ) : Type 0 where
+  -- "Each slack is within its own figure of the truth, wherever that figure is below 1,000,000."
+  pub within : (n t b : ℕ) → n < length ns → 1 ≤ t → t ≤ T → error (slack T M n t) < one →
+      TruthBit (Holds (endless T run) (ruleAt ns n) t) b → natAbs (valueAt figures (slack T M n t) -ℤ pos (b * one)) ≤ error (slack T M n t)
+  -- "Passed carries the root's figure at slot 1. When it is below 500,000, the run .. must satisfy the rule at slot 1."
+  pub satisfied : carried < trustLimit → Holds (endless T run) (ruleAt ns (root ns)) 1
+
+-- of every good table, T, M, tolerance and figures that the judge passes, and every run that is the rounded one
+abbrev pub PassedIsNear : Type 0
+PassedIsNear =
+    (T M e count carried : ℕ) (table : List ℕ) (ns : List Node) (figures : List ℤ) (error : ℕ → ℕ) (run : List ℕ) → 1 ≤ T → Good M table ns →
+    length figures ≡ (M + length ns) * T → ErrorFigures T M e ns error → Rounded T M figures run →
+    Judged T M e ns figures (Verdict.passed count carried) → NearTruth T M ns figures error carried run
+
+-- any figures can be rounded
+abbrev pub RoundedRun : Type 0
+RoundedRun = (T M : ℕ) (figures : List ℤ) → (run : List ℕ) × Rounded T M figures run
+
+-- a good table has error figures, one of each variable
+abbrev pub OneFigureEach : Type 0
+OneFigureEach =
+    (T M e : ℕ) (table : List ℕ) (ns : List Node) → Good M table ns → 1 ≤ T →
+    ((error : ℕ → ℕ) × ErrorFigures T M e ns error) ×
+    ((f g : ℕ → ℕ) → ErrorFigures T M e ns f → ErrorFigures T M e ns g → (v : ℕ) → v < (M + length ns) * T → f v ≡ g v)

@@ -6,9 +6,10 @@ use lib.ListN.{length, getD}
 use lib.IntN.{ℤ, pos, negℤ, _-ℤ_, _*ℤ_, natAbs}
 use lib.Signed.{_<ℤ_}
 use Rattle.rules.specs.Quantities.{one}
-use Rattle.rules.specs.Table.{Node}
-use Rattle.rules.specs.Rows.{Relation, Row, valueAt, sumOf, rowsOf, goalRow}
+use Rattle.rules.specs.Table.{Node, root}
+use Rattle.rules.specs.Rows.{Relation, Row, valueAt, sumOf, slack, rowsOf, goalRow}
 use Rattle.rules.specs.Rows.Relation.{at-least, equal}
+use Rattle.rules.specs.ErrorFigure.{ErrorFigures}
 
 -- more than e from b
 abbrev pub Apart : (e : ℕ) → (b x : ℤ) → Type 0
@@ -50,7 +51,7 @@ None P = (k : ℕ) → P k → ⊥
 pub data Verdict : Type 0 where
   outside not-binary : ℕ → Verdict
   broken : (row : ℕ) (shortfall : ℤ) → Verdict
-  passed : ℕ → Verdict
+  passed : (rows error : ℕ) → Verdict
 
 -- row i of a table's rows
 abbrev pub rowAt : (T M : ℕ) → List Node → ℕ → Row
@@ -68,8 +69,10 @@ module _ (T M e : ℕ) (ns : List Node) (xs : List ℤ) where
 
   -- "Its verdict is the first of: outside, with the lowest variable ..; not binary, with the lowest atom variable ..;
   -- broken, with the lowest row number; passed, with the row count." Request N1: "The verdict broken then carries the shortfall".
+  -- Request N7: "Passed carries the root's figure at slot 1."
   pub data Judged : Verdict → Type 0 where
     is-outside : {v : ℕ} → Lowest OutsideAt v → Judged (Verdict.outside v)
     is-not-binary : {v : ℕ} → None OutsideAt → Lowest NotBinaryAt v → Judged (Verdict.not-binary v)
     is-broken : {i : ℕ} → None OutsideAt → None NotBinaryAt → Lowest BrokenAt i → Judged (Verdict.broken i (shortfall xs (rowAt T M ns i)))
-    is-passed : None OutsideAt → None NotBinaryAt → None BrokenAt → Judged (Verdict.passed (length (rowsOf T M ns)))
+    is-passed : {error : ℕ → ℕ} → None OutsideAt → None NotBinaryAt → None BrokenAt → ErrorFigures T M e ns error →
+        Judged (Verdict.passed (length (rowsOf T M ns)) (error (slack T M (root ns) 1)))

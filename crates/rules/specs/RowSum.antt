@@ -6,8 +6,9 @@ use lib.ListN.{length}
 use lib.IntN.{ℤ, pos, _+ℤ_, _*ℤ_}
 use lib.Signed.{ltZ}
 use Rattle.rules.specs.Quantities.{one}
-use Rattle.rules.specs.Table.{Node}
-use Rattle.rules.specs.Rows.{Term, Row, valueAt, rowsOf}
+use Rattle.rules.specs.Table.{Node, root}
+use Rattle.rules.specs.Rows.{Term, Row, valueAt, slack, rowsOf}
+use Rattle.rules.specs.ErrorFigure.{ErrorFigures}
 use Rattle.rules.specs.Judge.{BrokenBy, shortfallBy, Lowest, None, Verdict, rowAt, OutsideAt, NotBinaryAt}
 
 -- "the positive terms (those with a positive coefficient, whatever the figure)"
@@ -55,4 +56,5 @@ module _ (T M e : ℕ) (ns : List Node) (xs : List ℤ) where
     is-outside : {v : ℕ} → Lowest (OutsideAt T M e ns xs) v → Judged (Verdict.outside v)
     is-not-binary : {v : ℕ} → None (OutsideAt T M e ns xs) → Lowest (NotBinaryAt T M e ns xs) v → Judged (Verdict.not-binary v)
     is-broken : {i : ℕ} → None (OutsideAt T M e ns xs) → None (NotBinaryAt T M e ns xs) → Lowest BrokenAt i → Judged (Verdict.broken i (shortfall xs (rowAt T M ns i)))
-    is-passed : None (OutsideAt T M e ns xs) → None (NotBinaryAt T M e ns xs) → None BrokenAt → Judged (Verdict.passed (length (rowsOf T M ns)))
+    is-passed : {error : ℕ → ℕ} → None (OutsideAt T M e ns xs) → None (NotBinaryAt T M e ns xs) → None BrokenAt → ErrorFigures T M e ns error →
+        Judged (Verdict.passed (length (rowsOf T M ns)) (error (slack T M (root ns) 1)))

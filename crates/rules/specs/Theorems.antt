@@ -4,6 +4,7 @@ use Prim.Native.Nat.{ℕ, _≤_}
 use Rattle.rules.specs.Table.{Node, Good}
 use Rattle.rules.specs.Rows.{slackRows, goalRow}
 use Rattle.rules.specs.Demands.{ReaderExact, OneReading, HeightsRight, EvaluatorExact, FirstSlotExact, RowsExact, JudgeExact, OnlyTheTruth, Demand3}
+use Rattle.rules.specs.Demands.{PassedIsNear, RoundedRun, OneFigureEach}
 use Rattle.rules.specs.Outcome.{readOutcome, evaluateOutcome, rowsOutcome, judgeOutcome}
 use Rattle.rules.specs.TableTest
 use Rattle.rules.specs.Words
@@ -14,6 +15,8 @@ use Rattle.rules.specs.Exactness.Rows
 use Rattle.rules.specs.Exactness.Judge
 use Rattle.rules.specs.Solution.Truths
 use Rattle.rules.specs.Solution.Bytes
+use Rattle.rules.specs.Errors.Figures
+use Rattle.rules.specs.Errors.Passed
 
 -- Demands 1 and 2 of each call: the lowest refusal that applies, and else exactly what document 01 says.
 pub reader-exact : ReaderExact readOutcome
@@ -44,3 +47,15 @@ only-the-truth T M D run table ns good 0<T 0<D = Truths.only-the-truth T M D run
 -- .. and for every text that gives no ground to refuse, about the bytes that reader, row writer and evaluator write.
 pub demand3 : Demand3 readOutcome rowsOutcome evaluateOutcome
 demand3 = Bytes.demand3
+
+-- Request N7: figures that the judge passes are near the truth on the rounded run, which there is; and the error figures are one for each variable.
+pub passed-is-near : PassedIsNear
+passed-is-near = Passed.passed-is-near
+
+pub rounded-run : RoundedRun
+rounded-run = Passed.rounded-run
+
+pub one-figure-each : OneFigureEach
+one-figure-each T M e table ns good 0<T =
+    let nodes = good .nodes in
+    ((Figures.figureOf T M e ns nodes, Figures.figures-exist T M e ns nodes), Figures.one-figure T M e ns nodes 0<T)

@@ -11,8 +11,9 @@ use Rattle.rules.specs.Table.{Node, ruleAt}
 use Rattle.rules.specs.Truth.{Holds, endless, TruthBit, slotBit, TruthWords}
 use Rattle.rules.specs.Rows.{Row}
 use Rattle.rules.specs.Judge.{BrokenBy, shortfallBy, Lowest, None, rowAt}
+use Rattle.rules.specs.ErrorFigure.{ErrorFigures}
 use Rattle.rules.specs.Judge as Now
-use Rattle.rules.specs.Before.{TruthBytes, Verdict, Judged, withoutShortfall}
+use Rattle.rules.specs.Before.{TruthBytes, Verdict, Judged, verdictBefore}
 use Rattle.rules.specs.Exactness.Evaluate.{bit-one}
 use Rattle.rules.specs.Solution.Truths.{place-div, place-mod, place-lt}
 use Rattle.rules.specs.RowSum as Summed
@@ -21,17 +22,18 @@ use Rattle.rules.specs.RowSumLaws.{whole-is}
 -- ---- request N1, "Which verdict is given does not alter": without its shortfall, the verdict is the one of before
 
 module _ {T M e : ℕ} {ns : List Node} {xs : List ℤ} where
-  pub judged-before : {v : Now.Verdict} → Now.Judged T M e ns xs v → Judged T M e ns xs (withoutShortfall v)
+  pub judged-before : {v : Now.Verdict} → Now.Judged T M e ns xs v → Judged T M e ns xs (verdictBefore v)
   judged-before (Now.Judged.is-outside h) = Judged.is-outside h
   judged-before (Now.Judged.is-not-binary p h) = Judged.is-not-binary p h
   judged-before (Now.Judged.is-broken p q h) = Judged.is-broken p q h
-  judged-before (Now.Judged.is-passed p q r) = Judged.is-passed p q r
+  judged-before (Now.Judged.is-passed p q r f) = Judged.is-passed p q r
 
-  pub judged-now : {u : Verdict} → Judged T M e ns xs u → (v : Now.Verdict) × Now.Judged T M e ns xs v × (withoutShortfall v ≡ u)
-  judged-now (Judged.is-outside h) = (_, Now.Judged.is-outside h, refl)
-  judged-now (Judged.is-not-binary p h) = (_, Now.Judged.is-not-binary p h, refl)
-  judged-now (Judged.is-broken p q h) = (_, Now.Judged.is-broken p q h, refl)
-  judged-now (Judged.is-passed p q r) = (_, Now.Judged.is-passed p q r, refl)
+  pub judged-now : {error : ℕ → ℕ} → ErrorFigures T M e ns error → {u : Verdict} → Judged T M e ns xs u →
+      (v : Now.Verdict) × Now.Judged T M e ns xs v × (verdictBefore v ≡ u)
+  judged-now f (Judged.is-outside h) = (_, Now.Judged.is-outside h, refl)
+  judged-now f (Judged.is-not-binary p h) = (_, Now.Judged.is-not-binary p h, refl)
+  judged-now f (Judged.is-broken p q h) = (_, Now.Judged.is-broken p q h, refl)
+  judged-now f (Judged.is-passed p q r) = (_, Now.Judged.is-passed p q r f, refl)
 
 -- ---- request N3: with the second number of the row sum for a row's sum, the verdict is the same, its shortfall too
 
@@ -62,13 +64,13 @@ module _ (T M e : ℕ) (ns : List Node) (xs : List ℤ) where
   summed-now (Summed.Judged.is-outside h) = Now.Judged.is-outside h
   summed-now (Summed.Judged.is-not-binary p h) = Now.Judged.is-not-binary p h
   summed-now (Summed.Judged.is-broken {i} p q h) = subst (Now.Judged T M e ns xs) (sym (same-verdict i)) (Now.Judged.is-broken p q (lowest-same same-at h))
-  summed-now (Summed.Judged.is-passed p q r) = Now.Judged.is-passed p q (none-same same-at r)
+  summed-now (Summed.Judged.is-passed p q r f) = Now.Judged.is-passed p q (none-same same-at r) f
 
   now-summed : {v : Now.Verdict} → Now.Judged T M e ns xs v → Summed.Judged T M e ns xs v
   now-summed (Now.Judged.is-outside h) = Summed.Judged.is-outside h
   now-summed (Now.Judged.is-not-binary p h) = Summed.Judged.is-not-binary p h
   now-summed (Now.Judged.is-broken {i} p q h) = subst (Summed.Judged T M e ns xs) (same-verdict i) (Summed.Judged.is-broken p q (lowest-same (λ k. Iff·symm (same-at k)) h))
-  now-summed (Now.Judged.is-passed p q r) = Summed.Judged.is-passed p q (none-same (λ k. Iff·symm (same-at k)) r)
+  now-summed (Now.Judged.is-passed p q r f) = Summed.Judged.is-passed p q (none-same (λ k. Iff·symm (same-at k)) r) f
 
   pub judged-summed : (v : Now.Verdict) → Summed.Judged T M e ns xs v ↔ Now.Judged T M e ns xs v
   judged-summed v = (summed-now, now-summed)

@@ -1,10 +1,10 @@
 -- The verdict, computed: the first variable outside, the first atom variable that is not binary, the first broken row. It is the verdict of Judge.antt.
-use mathlib.Core.Path.{_≡_, refl, ap}
+use mathlib.Core.Path.{_≡_, refl, ap, subst}
 use mathlib.Core.Bool.{Bool, _&&_, _||_}
 use mathlib.Core.Logic.{_↔_, Iff·trans, inl, inr, ⊎-elim}
 use mathlib.Core.List.{List}
 use mathlib.Core.Option.{Option, none, some}
-use Prim.Native.Nat.{ℕ, _+_, _*_, _<_}
+use Prim.Native.Nat.{ℕ, _+_, _*_, _≤_, _<_}
 use native.Mathlib.Omega.{arith}
 use native.Mathlib.Decide.{decLt}
 use lib.Dec.{T as Is, ltb, ltb→lt, lt→ltb}
@@ -15,11 +15,13 @@ use Rattle.lists.specs.Tests.{or-cases, or-left, or-right, and-left, and-right,
 use Rattle.lists.specs.First.{first, first-found, Found}
 use Rattle.rules.specs.Quantities.{one}
 use Rattle.rules.specs.Table.{Node}
+use Rattle.rules.specs.TableRules.{NodesGood}
 use Rattle.rules.specs.Rows.{Row, valueAt, rowsOf}
 use Rattle.rules.specs.Judge.{Apart, Outside, NotBinary, Broken, shortfall, Lowest, None, Verdict, rowAt, OutsideAt, NotBinaryAt, BrokenAt, Judged}
 use Rattle.rules.specs.Judge.Verdict.{outside, not-binary, broken, passed}
 use Rattle.rules.specs.Judge.Judged.{is-outside, is-not-binary, is-broken, is-passed}
 use Rattle.rules.specs.Shortfalls.{broken-short}
+use Rattle.rules.specs.Errors.Figures.{rootError, figureOf, figures-exist, root-figure}
 
 -- ---- the tests of one figure and of one row
 
@@ -85,7 +87,7 @@ module _ (T M e : ℕ) (ns : List Node) (xs : List ℤ) where
   brokenAt i = broken i (shortfall xs (rowAt T M ns i))
 
   unfoldable pub verdict : Verdict
-  verdict = orElse firstOutside outside (orElse firstNotBinary not-binary (orElse firstBroken brokenAt (passed (length (rowsOf T M ns)))))
+  verdict = orElse firstOutside outside (orElse firstNotBinary not-binary (orElse firstBroken brokenAt (passed (length (rowsOf T M ns)) (rootError T e ns))))
 
 -- ---- it is the verdict
 
@@ -140,26 +142,35 @@ module _ (T M e : ℕ) (ns : List Node) (xs : List ℤ) where
       (λ i. let iff = broken-iff e xs (rowAt T M ns i) in (λ h. (h .0, iff .0 (h .1)), λ h. (h .0, iff .1 (h .1))))
       (firstBroken T M e ns xs) (first-found (λ i. isBroken e xs (rowAt T M ns i)) (length (rowsOf T M ns)) 0)
 
-  pub verdict-judged : Judged T M e ns xs (verdict T M e ns xs)
-  unfolding verdict
-  verdict-judged = go (firstOutside T M e ns xs) (firstNotBinary T M e ns xs) (firstBroken T M e ns xs) outside-found not-binary-found broken-found
-    where
-      go : (a b c : Option ℕ) → Search P₁ a → Search P₂ b → Search P₃ c →
-          Judged T M e ns xs (orElse a outside (orElse b not-binary (orElse c (brokenAt T M e ns xs) (passed (length (rowsOf T M ns))))))
-      go (some v) b c p q r = is-outside p
-      go none (some v) c p q r = is-not-binary p q
-      go none none (some i) p q r = is-broken p q r
-      go none none none p q r = is-passed p q r
-
   no-outside : None P₁ → firstOutside T M e ns xs ≡ none
   no-outside h = search-none P₁ (firstOutside T M e ns xs) outside-found h
 
   no-not-binary : None P₂ → firstNotBinary T M e ns xs ≡ none
   no-not-binary h = search-none P₂ (firstNotBinary T M e ns xs) not-binary-found h
 
-  pub judged-verdict : {v : Verdict} → Judged T M e ns xs v → verdict T M e ns xs ≡ v
-  unfolding verdict
-  judged-verdict (is-outside {v} h) = rw (search-lowest P₁ (firstOutside T M e ns xs) v outside-found h) refl
-  judged-verdict (is-not-binary {v} p h) = rw (no-outside p, search-lowest P₂ (firstNotBinary T M e ns xs) v not-binary-found h) refl
-  judged-verdict (is-broken {i} p q h) = rw (no-outside p, no-not-binary q, search-lowest P₃ (firstBroken T M e ns xs) i broken-found h) refl
-  judged-verdict (is-passed p q r) = rw (no-outside p, no-not-binary q, search-none P₃ (firstBroken T M e ns xs) broken-found r) refl
+  -- of a table whose nodes are good, which has one error figure for each variable
+  module _ (good : NodesGood M ns) (0<N : 1 ≤ length ns) (0<T : 1 ≤ T) where
+    all-hold : None P₁ → None P₂ → None P₃ → Judged T M e ns xs (passed (length (rowsOf T M ns)) (rootError T e ns))
+    all-hold p q r =
+        let figures = figures-exist T M e ns good in
+        subst (λ (k : ℕ). Judged T M e ns xs (passed (length (rowsOf T M ns)) k)) (root-figure T M e ns good (figureOf T M e ns good) figures 0<N 0<T)
+        (is-passed p q r figures)
+
+    pub verdict-judged : Judged T M e ns xs (verdict T M e ns xs)
+    unfolding verdict
+    verdict-judged = go (firstOutside T M e ns xs) (firstNotBinary T M e ns xs) (firstBroken T M e ns xs) outside-found not-binary-found broken-found
+      where
+        go : (a b c : Option ℕ) → Search P₁ a → Search P₂ b → Search P₃ c →
+            Judged T M e ns xs (orElse a outside (orElse b not-binary (orElse c (brokenAt T M e ns xs) (passed (length (rowsOf T M ns)) (rootError T e ns)))))
+        go (some v) b c p q r = is-outside p
+        go none (some v) c p q r = is-not-binary p q
+        go none none (some i) p q r = is-broken p q r
+        go none none none p q r = all-hold p q r
+
+    pub judged-verdict : {v : Verdict} → Judged T M e ns xs v → verdict T M e ns xs ≡ v
+    unfolding verdict
+    judged-verdict (is-outside {v} h) = rw (search-lowest P₁ (firstOutside T M e ns xs) v outside-found h) refl
+    judged-verdict (is-not-binary {v} p h) = rw (no-outside p, search-lowest P₂ (firstNotBinary T M e ns xs) v not-binary-found h) refl
+    judged-verdict (is-broken {i} p q h) = rw (no-outside p, no-not-binary q, search-lowest P₃ (firstBroken T M e ns xs) i broken-found h) refl
+    judged-verdict (is-passed {error} p q r figures) =
+        rw (no-outside p, no-not-binary q, search-none P₃ (firstBroken T M e ns xs) broken-found r, root-figure T M e ns good error figures 0<N 0<T) refl

@@ -78,7 +78,7 @@ judged-small {T} {M} {ns = ns} h m k c (is-outside x) =
     omega (arith, x .holds .0, mul-le-mul few h)
 judged-small {T} {M} h m k c (is-not-binary p x) = omega (arith, x .holds .0, mul-le-mul m h)
 judged-small {T} {M} {ns = ns} h m k c (is-broken p q x) = omega (arith, x .holds .0, rows-few T M ns h k)
-judged-small {T} {M} {ns = ns} h m k c (is-passed p q r) = rows-few T M ns h k
+judged-small {T} {M} {ns = ns} h m k c (is-passed p q r f) = rows-few T M ns h k
 
 pub judge-fits : (t m : ℕ) (table : List ℕ) (figures : List ℤ) (tolerance : ℤ) → VerdictFits (judgeOutcome t m table figures tolerance)
 judge-fits t m table figures tolerance = go (judgeOutcome t m table figures tolerance) refl

@@ -11,7 +11,7 @@ use Rattle.sepia.specs.declared.SepiaVerdict.{SepiaVerdict}
 
 -- rises with each change of the boundary: 1 as first offered, 2 with request N1, 3 with N2, 4 with N4, 5 with N6, 6 with N5
 abbrev pub version : ℕ
-version = 6
+version = 7
 
 -- refusal 0: value is the result
 abbrev pub inC : Answer ℕ → SepiaAnswer
@@ -33,24 +33,31 @@ abbrev pub verdictNumber : Verdict → ℕ
 verdictNumber (outside v) = 0
 verdictNumber (not-binary v) = 1
 verdictNumber (broken i d) = 2
-verdictNumber (passed n) = 3
+verdictNumber (passed n f) = 3
 
 abbrev pub verdictValue : Verdict → ℕ
 verdictValue (outside v) = v
 verdictValue (not-binary v) = v
 verdictValue (broken i d) = i
-verdictValue (passed n) = n
+verdictValue (passed n f) = n
 
 -- the shortfall of a broken row, and 0 for other verdicts
 abbrev pub verdictShortfall : Verdict → ℤ
 verdictShortfall (outside v) = pos 0
 verdictShortfall (not-binary v) = pos 0
 verdictShortfall (broken i d) = d
-verdictShortfall (passed n) = pos 0
+verdictShortfall (passed n f) = pos 0
+
+-- the root's error figure at slot 1 where the figures passed, and 0 for other verdicts
+abbrev pub verdictError : Verdict → ℕ
+verdictError (outside v) = 0
+verdictError (not-binary v) = 0
+verdictError (broken i d) = 0
+verdictError (passed n f) = f
 
 abbrev pub verdictInC : Answer Verdict → SepiaVerdict
-verdictInC (refused k) = record { refusal = k; verdict = 0; value = 0; shortfall = pos 0 }
-verdictInC (answered v) = record { refusal = 0; verdict = verdictNumber v; value = verdictValue v; shortfall = verdictShortfall v }
+verdictInC (refused k) = record { refusal = k; verdict = 0; value = 0; error = 0; shortfall = pos 0 }
+verdictInC (answered v) = record { refusal = 0; verdict = verdictNumber v; value = verdictValue v; error = verdictError v; shortfall = verdictShortfall v }
 
 abbrev pub VerdictFits : Answer Verdict → Type 0
 VerdictFits (refused k) = Unit {0}

@@ -6,7 +6,7 @@ ghost use Rattle.rules.specs.Words.{firstSlot};
 ghost use Rattle.answers.specs.Told.{told};
 ghost use Rattle.mps.specs.Outcome.{pageOutcome};
 ghost use Rattle.judge.specs.Ruled.{ruled, verdictOf};
-ghost use Rattle.sepia.specs.Boundary.{version, inC, Fits, slotInC, verdictNumber, verdictValue, verdictShortfall, verdictInC, VerdictFits};
+ghost use Rattle.sepia.specs.Boundary.{version, inC, Fits, slotInC, verdictNumber, verdictValue, verdictShortfall, verdictError, verdictInC, VerdictFits};
 use answers::Answer;
 use judge::Ruling;
 use judge::Verdict;
@@ -17,7 +17,7 @@ use words::FirstSlot;
 pub extern "C" fn sepia_version() -> u32
     ensures { λ r. ⌜ r ≡ version ⌝ }
 {
-    6
+    7
 }
 
 // A refusal's number, or 0 and the result.
@@ -96,12 +96,13 @@ pub extern "C" fn sepia_mps(table: &[u8], t: usize, m: usize, out: &mut [u8]) ->
     plain(pages::mps_page(table, t, m, out))
 }
 
-// A refusal's number; or 0, the verdict's number, its value and its shortfall.
+// A refusal's number; or 0, the verdict's number, its value, its error figure and its shortfall.
 #[repr(C)]
 pub struct SepiaVerdict {
     pub refusal: u32,
     pub verdict: u32,
     pub value: u32,
+    pub error: u32,
     pub shortfall: i64,
 }
 
@@ -112,7 +113,7 @@ fn verdict_number(verdict: Verdict) -> u32
         Verdict::Outside(_) => 0,
         Verdict::NotBinary(_) => 1,
         Verdict::Broken(_, _) => 2,
-        Verdict::Passed(_) => 3,
+        Verdict::Passed(_, _) => 3,
     }
 }
 
@@ -123,7 +124,7 @@ fn verdict_value(verdict: Verdict) -> usize
         Verdict::Outside(v) => v,
         Verdict::NotBinary(v) => v,
         Verdict::Broken(i, _) => i,
-        Verdict::Passed(n) => n,
+        Verdict::Passed(n, _) => n,
     }
 }
 
@@ -134,7 +135,18 @@ fn verdict_shortfall(verdict: Verdict) -> i64
         Verdict::Outside(_) => 0,
         Verdict::NotBinary(_) => 0,
         Verdict::Broken(_, shortfall) => shortfall,
-        Verdict::Passed(_) => 0,
+        Verdict::Passed(_, _) => 0,
+    }
+}
+
+fn verdict_error(verdict: Verdict) -> u32
+    ensures { λ r. ⌜ r ≡ verdictError (verdictOf verdict) ⌝ }
+{
+    match verdict {
+        Verdict::Outside(_) => 0,
+        Verdict::NotBinary(_) => 0,
+        Verdict::Broken(_, _) => 0,
+        Verdict::Passed(_, error) => error,
     }
 }
 
@@ -147,12 +159,14 @@ fn plain_verdict(ruling: Ruling) -> SepiaVerdict
             refusal: answers::number(r),
             verdict: 0,
             value: 0,
+            error: 0,
             shortfall: 0,
         },
         Ruling::Judged(v) => SepiaVerdict {
             refusal: 0,
             verdict: verdict_number(v),
             value: verdict_value(v) as u32,
+            error: verdict_error(v),
             shortfall: verdict_shortfall(v),
         },
     }

@@ -136,7 +136,8 @@ fn is_atom(kind: Kind) -> bool
     }
 }
 
-fn is_binary(kind: Kind) -> bool
+// Whether a node of this kind has two parts.
+pub fn is_binary(kind: Kind) -> bool
     ensures { λ r. ⌜ r ≡ isBinary kind ⌝ }
 {
     match kind {

@@ -35,6 +35,7 @@ pub record Few (w : Looks) : Type 0 where
 pub record Looking (T t a b : ℕ) (w : Looks) : Type 0 where
   pub is : (p : ℕ) → variables w p ≡ map (λ s. p + (s - 1)) (windowSlots T t a b)
   pub are-few : Few w
+  pub inside : w .first + w .count ≤ T
 
 pub looking : (T t a b : ℕ) (w : Looks) → a ≤ b → 1 ≤ T → T ≤ 64 → 1 ≤ t → w .first + 1 ≡ slotOf T (t + a) → w .first + w .count ≡ slotOf T (t + b) → Looking T t a b w
 unfolding variables
@@ -46,6 +47,7 @@ looking T t a b w h 0<T T≤64 0<t e f =
           ∙ map-tabulate (λ s. p + (s - 1)) (w .count) (λ i. w .first + 1 + i)
           ∙ tabulate-same (w .count) (λ i. p + (w .first + 1 + i - 1)) (variableAt w p) (λ i g. omega arith));
       are-few = record { some = omega arith; few = omega arith; places = λ i g. omega arith };
+      inside = omega arith;
     }
 
 pub count-is : {T t a b : ℕ} {w : Looks} → Looking T t a b w → w .count ≡ length (windowSlots T t a b)

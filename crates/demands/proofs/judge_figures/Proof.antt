@@ -5,7 +5,7 @@ use Rattle.rules.specs.Outcome.{judgeOutcome}
 use Rattle.judge.specs.Ruled.{ruled}
 use Rattle.demands.specs.Refusing.{judge-refuses}
 use Rattle.demands.specs.Answering.{judge-answers}
-use Rattle.demands.specs.Passing.{passed-means, passed-at-zero}
+use Rattle.demands.specs.Passing.{passed-means, passed-at-zero, passed-near}
 use Rattle.demands.specs.Carrying.{same-verdict, carries-shortfall}
 use Rattle.demands.specs.Summing.{summed-verdict}
 use borrow.Author.Needs.{needs}
@@ -21,8 +21,29 @@ returns c =
     let a = s .args in
     let k = c .judge in
     let told = k .ensures ∙ ap (judgeOutcome (a .t) (a .m) (a .table .now) (a .figures .now)) (toZ-ofZ (s .fits .e)) in
-    let r = ruled (k .result) in
-    (judge-refuses (a .t) (a .m) (a .table .now) (a .figures .now) (a .e) r told, (judge-answers (a .t) (a .m) (a .table .now) (a .figures .now) (a .e) r told, (passed-means (a .t) (a .m) (a .table .now) (a .figures .now) (a .e) r told, (passed-at-zero (a .t) (a .m) (a .table .now) (a .figures .now) (a .e) r told, (same-verdict (a .t) (a .m) (a .table .now) (a .figures .now) (a .e) r told, (carries-shortfall (a .t) (a .m) (a .table .now) (a .figures .now) (a .e) r told, summed-verdict (a .t) (a .m) (a .table .now) (a .figures .now) (a .e) r told))))))
+    let r = ruled (k .result) in (
+      judge-refuses (a .t) (a .m) (a .table .now) (a .figures .now) (a .e) r told,
+      (
+        judge-answers (a .t) (a .m) (a .table .now) (a .figures .now) (a .e) r told,
+        (
+          passed-means (a .t) (a .m) (a .table .now) (a .figures .now) (a .e) r told,
+          (
+            passed-at-zero (a .t) (a .m) (a .table .now) (a .figures .now) (a .e) r told,
+            (
+              passed-near (a .t) (a .m) (a .table .now) (a .figures .now) (a .e) r told,
+              (
+                same-verdict (a .t) (a .m) (a .table .now) (a .figures .now) (a .e) r told,
+                (
+                  carries-shortfall (a .t) (a .m) (a .table .now) (a .figures .now)
+                      (a .e) r told,
+                  summed-verdict (a .t) (a .m) (a .table .now) (a .figures .now) (a .e) r told,
+                ),
+              ),
+            ),
+          ),
+        ),
+      ),
+    )
 
 pub judge-figures-spec : {M : Type 1} → statement M
 judge-figures-spec = tie.close (tie.spec judge-requires returns)

@@ -22,9 +22,13 @@ returns c =
     let found = c .before .rows .given in
     ap (broken (found .0 .1 .0)) (toZ-ofZ {w = w64} {z = found .0 .0} (search needs)) ∙ broken-verdict _ _ _ _ _ _ _ (sym (found .1) ∙ c .before .before .before .test-all .ensures)
 
+root-figure-requires : tie.Need-root-figure-requires
+root-figure-requires c κs = search needs
+
 returns-2 : tie.Need-returns-2
-returns-2 c = clear-verdict _ _ _ _ _ _ (sym (c .before .rows2 .given .1) ∙ c .before .before .before .test-all .ensures)
+returns-2 c =
+    clear-verdict _ _ _ _ _ _ _ (sym (c .before .before .rows2 .given .1) ∙ c .before .before .before .before .test-all .ensures) (c .root-figure .ensures)
 
 pub rows-verdict-spec : {M : Type 1} → statement M
 rows-verdict-spec =
-    tie.close (tie.spec test-all-requires enum-known-rows enum-known-rows-2 returns returns-2)
+    tie.close (tie.spec test-all-requires enum-known-rows enum-known-rows-2 root-figure-requires returns returns-2)

@@ -43,18 +43,18 @@ module _ (T M : ℕ) (table : List ℕ) (figures : List ℤ) (tolerance : ℤ) w
 
   module _ (g : Good M table (nodesIn table)) (low : From (JudgeRefused T M table figures tolerance) JudgeIs (place 8))
       (n : (ns : List Node) → Good M table ns → length figures ≡ (M + length ns) * T) where
-    tolerance-exact : (z : ℤ) → tolerance ≡ z →
+    tolerance-exact : 1 ≤ T → (z : ℤ) → tolerance ≡ z →
         Exact (JudgeRefused T M table figures tolerance) JudgeIs (withTolerance z (λ e. answered (verdict T M e (nodesIn table) figures)))
-    tolerance-exact (negsuc d) e =
+    tolerance-exact 0<T (negsuc d) e =
         refuse (JudgeRefused T M table figures tolerance) JudgeIs 10 (λ j x. judge-from (place 10) low (λ h. n) (λ h. absurd (omega arith)) (omega arith) j x .0)
         (JudgeRefused.tolerance-bad (λ c h f. pos-ne-negsuc c d (sym f ∙ e)))
-    tolerance-exact (pos c) e =
+    tolerance-exact 0<T (pos c) e =
         rung (JudgeRefused T M table figures tolerance) JudgeIs (leb c 1000) 10 _ (λ j x. judge-from (place 10) low (λ h. n) (λ h. absurd (omega arith)) (omega arith) j x .0)
         (λ f. JudgeRefused.tolerance-bad (λ d h i. omega (arith, leb-false c 1000 f, ap natAbs (sym e ∙ i))))
         (λ t. exact-answered (JudgeRefused T M table figures tolerance) JudgeIs (verdict T M c (nodesIn table) figures)
         (λ j x. let z = judge-from 12 low (λ h. n) (λ h. (c, leb-true c 1000 t, e)) (omega arith) j x in omega (arith, z))
-        (nodesIn table, c, g, e, verdict-judged T M c (nodesIn table) figures)
-        (λ v i. judged-verdict T M c (nodesIn table) figures
+        (nodesIn table, c, g, e, verdict-judged T M c (nodesIn table) figures (g .nodes) (g .some) 0<T)
+        (λ v i. judged-verdict T M c (nodesIn table) figures (g .nodes) (g .some) 0<T
         (subst (λ (l : List Node). Judged T M c l figures v) (good-nodes M table (i .0) (i .2))
         (subst (λ (d : ℕ). Judged T M d (i .0) figures v) (ap natAbs (sym (i .3) ∙ e)) (i .4)))))
 
@@ -69,4 +69,4 @@ judge-exact T M table figures tolerance =
     (λ j x. judge-from T M table figures tolerance (place 9) low (λ h. absurd (omega arith)) (λ h. absurd (omega arith)) (omega arith) j x .0)
     (λ e. JudgeRefused.miscounted g (eqb-false (length figures) ((M + length (nodesIn table)) * T) e))
     (λ e. tolerance-exact T M table figures tolerance g low
-    (of-nodes T M table (λ ns. length figures ≡ (M + length ns) * T) (eqb-true (length figures) ((M + length (nodesIn table)) * T) e)) tolerance refl))
+    (of-nodes T M table (λ ns. length figures ≡ (M + length ns) * T) (eqb-true (length figures) ((M + length (nodesIn table)) * T) e)) (s .0) tolerance refl))

@@ -7,7 +7,7 @@ use Prim.Native.Nat.{ℕ, zero, suc, _+_, _-_, _*_, _≤_, _<_}
 use native.Mathlib.Omega.{arith}
 use lib.Dec.{ltb}
 use lib.ListN.{length}
-use lib.IntN.{ℤ, pos, negsuc, negℤ}
+use lib.IntN.{pos, negℤ}
 use Rattle.lists.specs.Every.{Every, every-append}
 use Rattle.lists.specs.Passing.{someOf, everyOf, every-passing, passing-some}
 use Rattle.rules.specs.Rule.{Unary, Binary, Window}
@@ -95,11 +95,11 @@ every-map {ℓ} : {A : Type ℓ} (Q : A → Type 0) (f : ℕ → A) (R : ℕ →
 every-map Q f R e [] = (λ h. tt, λ h. tt)
 every-map Q f R e (s ∷ ss) = (λ h. (e s .0 (h .0), every-map Q f R e ss .0 (h .1)), λ h. (e s .1 (h .0), every-map Q f R e ss .1 (h .1)))
 
-up-neg : (m : ℕ) → up (negℤ (pos m)) ≡ 0
+pub up-neg : (m : ℕ) → up (negℤ (pos m)) ≡ 0
 up-neg zero = refl
 up-neg (suc m) = refl
 
-down-neg : (m : ℕ) → down (negℤ (pos m)) ≡ m
+pub down-neg : (m : ℕ) → down (negℤ (pos m)) ≡ m
 down-neg zero = refl
 down-neg (suc m) = refl
 

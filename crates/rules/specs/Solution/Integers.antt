@@ -24,11 +24,11 @@ diff-sub m n = go (ltb m n) refl
     go true e = omega (arith, ltb→lt m n (rw e tt))
     go false e = omega (arith, nltb→le m n (rw e tt))
 
-diff-neg : (m : ℕ) → Diff (negℤ (pos m)) 0 m
+pub diff-neg : (m : ℕ) → Diff (negℤ (pos m)) 0 m
 diff-neg zero = omega arith
 diff-neg (suc m) = omega arith
 
-diff-move : (z : ℤ) (a b c d : ℕ) → a + d ≡ c + b → Diff z a b → Diff z c d
+pub diff-move : (z : ℤ) (a b c d : ℕ) → a + d ≡ c + b → Diff z a b → Diff z c d
 diff-move (pos m) a b c d e h = omega arith
 diff-move (negsuc m) a b c d e h = omega arith
 

@@ -37,7 +37,7 @@ pub record System (X : Type 0) (D A count : ℕ) (atoms : List ℤ) (rows : List
       ((z : X) → slack z → rank z < rank x → y (A + place z) ≡ scale D (want z)) → Every (Met D y) (own x) ↔ (y (A + place x) ≡ scale D (want x))
 
 -- induction over anything that has a rank
-by-rank : {X : Type 0} (rank : X → ℕ) (Ok : X → Type 0) → ((v : X) → ((u : X) → rank u < rank v → Ok u) → Ok v) → (v : X) → Ok v
+pub by-rank : {X : Type 0} (rank : X → ℕ) (Ok : X → Type 0) → ((v : X) → ((u : X) → rank u < rank v → Ok u) → Ok v) → (v : X) → Ok v
 by-rank {X} rank Ok step v = go (suc (rank v)) v (omega arith)
   where
     go : (k : ℕ) (v : X) → rank v < k → Ok v

@@ -13,9 +13,10 @@ use borrow.Author.Needs.{needs}
 use Rattle.sepia.proofs.plain_verdict.Statement.{statement}
 use Rattle.sepia.proofs.plain_verdict.Tie as tie
 
-same : {k k′ v v′ : ℕ} {d d′ : ℤ} → k ≡ k′ → v ≡ v′ → d ≡ d′ →
-    _≡_ {A = SepiaVerdict} (record { refusal = 0; verdict = k; value = v; shortfall = d }) (record { refusal = 0; verdict = k′; value = v′; shortfall = d′ })
-same e f g = rw (e, f, g) refl
+same : {k k′ v v′ f f′ : ℕ} {d d′ : ℤ} → k ≡ k′ → v ≡ v′ → f ≡ f′ → d ≡ d′ →
+    _≡_ {A = SepiaVerdict} (record { refusal = 0; verdict = k; value = v; error = f; shortfall = d })
+    (record { refusal = 0; verdict = k′; value = v′; error = f′; shortfall = d′ })
+same e f g h = rw (e, f, g, h) refl
 
 enum-known-ruling : tie.Need-enum-known-ruling
 enum-known-ruling c = search needs
@@ -37,19 +38,24 @@ cast-t8 c =
     let h = subst (λ (x : Ruling). VerdictFits (ruled x)) (c .before .before .before .ruling2 .given .1) (c .before .before .before .before .before .pre) in
     record { fits = omega (arith, h, c .verdict-value .ensures) }
 
+verdict-error-requires : tie.Need-verdict-error-requires
+verdict-error-requires c κs = search needs
+
 verdict-shortfall-requires : tie.Need-verdict-shortfall-requires
 verdict-shortfall-requires c κs = search needs
 
 returns : tie.Need-returns
 returns c =
-    ap (λ (k : ℕ). let r : SepiaVerdict = record { refusal = k; verdict = 0; value = 0; shortfall = pos 0 } in r) (c .number .ensures)
+    ap (λ (k : ℕ). let r : SepiaVerdict = record { refusal = k; verdict = 0; value = 0; error = 0; shortfall = pos 0 } in r) (c .number .ensures)
     ∙ ap (λ (x : Ruling). verdictInC (ruled x)) (sym (c .before .before .ruling .given .1))
 
 returns-2 : tie.Need-returns-2
 returns-2 c =
-    let value = c .before in
+    let error = c .before in
+    let value = error .before in
     let number = value .before in
-    same (number .verdict-number .ensures) (value .verdict-value .ensures) (toZ-ofZ {w = w64} {z = c .verdict-shortfall .result} (search needs) ∙ c .verdict-shortfall .ensures)
+    same (number .verdict-number .ensures) (value .verdict-value .ensures) (error .verdict-error .ensures)
+    (toZ-ofZ {w = w64} {z = c .verdict-shortfall .result} (search needs) ∙ c .verdict-shortfall .ensures)
     ∙ ap (λ (x : Ruling). verdictInC (ruled x)) (sym (number .before .before .ruling2 .given .1))
 
 pub plain-verdict-spec : {M : Type 1} → statement M
@@ -62,6 +68,7 @@ plain-verdict-spec =
     verdict-number-requires
     verdict-value-requires
     cast-t8
+    verdict-error-requires
     verdict-shortfall-requires
     returns
     returns-2)

@@ -1,0 +1,4 @@
+pub mod Worked
+pub mod Window
+pub mod Count
+pub mod Known
