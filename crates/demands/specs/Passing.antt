@@ -1,6 +1,6 @@
 -- Proofs of what a passed verdict means.
 use mathlib.Core.Path.{_≡_, refl, sym, ap, subst, _∙_}
-use mathlib.Core.Bool.{Bool, true, false}
+use mathlib.Core.Bool.{Bool, false}
 use mathlib.Core.Logic.{_↔_, _⊎_, inl, inr, ⊎-elim}
 use mathlib.Core.List.{List, [], _∷_, _++_}
 use Prim.Native.Nat.{ℕ, zero, suc, _+_, _-_, _*_, _/_, _%_, _≤_, _<_}
@@ -98,24 +98,12 @@ passed-iff T M e ns xs figure figures = (
 
 -- ---- the run that the atoms make
 
--- 1 where a figure is one
-abbrev isOne : ℤ → ℕ
-isOne (pos n) = bitOf (eqb n one)
-isOne (negsuc n) = 0
+abbrev isOne : ℤ → Bool
+isOne (pos n) = eqb n one
+isOne (negsuc n) = false
 
-one-small : (b : Bool) → bitOf b < 2
-one-small true = omega arith
-one-small false = omega arith
-
-isOne-small : (z : ℤ) → isOne z < 2
-isOne-small (pos n) = one-small (eqb n one)
-isOne-small (negsuc n) = omega arith
-
-abbrev atomBits : (T : ℕ) → List ℤ → (t a : ℕ) → ℕ
-atomBits T xs t a = isOne (valueAt xs (atomVariable T a t))
-
-atoms-small : (T : ℕ) (xs : List ℤ) (t a : ℕ) → atomBits T xs t a < 2
-atoms-small T xs t a = isOne-small (valueAt xs (atomVariable T a t))
+abbrev atomsOn : (T : ℕ) → List ℤ → (t a : ℕ) → Bool
+atomsOn T xs t a = isOne (valueAt xs (atomVariable T a t))
 
 same-at : (z b : ℤ) → natAbs (z -ℤ b) ≤ 0 → z ≡ b
 same-at z b h = sym (-ℤ-+ℤ-cancel z b) ∙ ap (λ (x : ℤ). x +ℤ b) (zero-abs (z -ℤ b) h) ∙ +ℤ-idl b
@@ -125,7 +113,7 @@ same-at z b h = sym (-ℤ-+ℤ-cancel z b) ∙ ap (λ (x : ℤ). x +ℤ b) (zero
     zero-abs (negsuc n) h = absurd (omega arith)
 
 -- a figure that is 0 or one
-atom-is : (z : ℤ) → (natAbs (z -ℤ pos 0) ≤ 0) ⊎ (natAbs (z -ℤ pos one) ≤ 0) → z ≡ pos (isOne z * one)
+atom-is : (z : ℤ) → (natAbs (z -ℤ pos 0) ≤ 0) ⊎ (natAbs (z -ℤ pos one) ≤ 0) → z ≡ pos (bitOf (isOne z) * one)
 atom-is z (inl h) = let e = same-at z (pos 0) h in rw e refl
 atom-is z (inr h) = let e = same-at z (pos one) h in rw e refl
 
@@ -145,7 +133,7 @@ module _ (T M : ℕ) (table : List ℕ) (ns : List Node) (xs : List ℤ) (0<T : 
   A = M * T
 
   abbrev run : List ℕ
-  run = runOf T M (atomBits T xs) (atoms-small T xs)
+  run = runOf T M (atomsOn T xs)
 
   abbrev only : OnlyTheTruth T M one run ns (slackRows T M ns) (goalRow T M ns)
   only = only-the-truth T M one run table ns good 0<T (omega arith)
@@ -153,7 +141,7 @@ module _ (T M : ℕ) (table : List ℕ) (ns : List Node) (xs : List ℤ) (0<T : 
   atoms : (a t : ℕ) → a < M → 1 ≤ t → t ≤ T → valueAt xs (atomVariable T a t) ≡ pos (bitAt run t a * one)
   atoms a t h l u =
       atom-is (valueAt xs (atomVariable T a t)) (p .binary (atomVariable T a t) (place-lt T M a t h l u))
-      ∙ ap (λ (b : ℕ). pos (b * one)) (sym (run-bit T M (atomBits T xs) (atoms-small T xs) a t h l u))
+      ∙ ap (λ (b : ℕ). pos (b * one)) (sym (run-bit T M (atomsOn T xs) a t h l u))
 
   A≤ : A ≤ length xs
   A≤ = omega (arith, count)
@@ -201,7 +189,7 @@ module _ (T M : ℕ) (table : List ℕ) (ns : List Node) (xs : List ℤ) (0<T : 
   truly-met : TrulyMet T M ns xs
   truly-met = record {
     run = run;
-    run-good = run-good T M (atomBits T xs) (atoms-small T xs);
+    run-good = run-good T M (atomsOn T xs);
     atoms = atoms;
     ones = λ n t h l u x. slack-is n t ∙ only .one n t h l u x;
     zeros = λ n t h l u x. slack-is n t ∙ only .zero n t h l u x;

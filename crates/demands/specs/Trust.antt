@@ -1,4 +1,4 @@
--- Request N7: what the figure that passed carries says of the rule, where the tolerance is not 0.
+-- Request N7: what the error figure that passed carries says of the rule, whatever the tolerance.
 use mathlib.Core.Path.{_≡_}
 use mathlib.Core.List.{List}
 use Prim.Native.Nat.{ℕ}

@@ -54,7 +54,8 @@ pub fn write_rows(table: &[u8], t: usize, m: usize, out: &mut [u8]) -> Answer
     rows::write_rows(table, t, m, out)
 }
 
-// Demands 1 and 2 of the judge, what a passed verdict means, what a broken one carries, and the verdict by row sums.
+// Demands 1 and 2 of the judge, what a passed verdict means and its error figure promises, what a broken one carries, and the
+// verdict by row sums.
 pub fn judge_figures(table: &[u8], t: usize, m: usize, figures: &[i32], e: i32) -> Ruling
     ensures { λ r. ⌜ JudgeRefuses t m (now (table .entry)) (now (figures .entry)) e (ruled r) ⌝ }
     ensures { λ r. ⌜ JudgeAnswers t m (now (table .entry)) (now (figures .entry)) e (ruled r) ⌝ }

@@ -21,7 +21,7 @@ ghost use Rattle.errors.specs.Count.{countingOf, figureNow, figureAtom, 
 ghost use Rattle.errors.specs.Known.{Known, Countable};
 
 // What a node counts beside e.
-pub enum Counting {
+enum Counting {
     // its atom's variable
     Atom,
     // its parts at the slot

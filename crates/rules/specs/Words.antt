@@ -36,12 +36,12 @@ first-bit w = ap (λ (x : ℕ). x % 2) (div-one w)
 pub later-bit : (w i : ℕ) → w / 2 ^ suc i % 2 ≡ w / 2 / 2 ^ i % 2
 later-bit w i = ap (λ (x : ℕ). x % 2) (ap (λ (x : ℕ). w / x) (pow-succ' 2 i) ∙ sym (div-div-eq-div-mul w 2 (2 ^ i)))
 
-word-low : (f : ℕ → Bool) (k t : ℕ) → wordFrom f k t < 2 ^ k
+pub word-low : (f : ℕ → Bool) (k t : ℕ) → wordFrom f k t < 2 ^ k
 unfolding wordFrom
 word-low f zero t = omega arith
 word-low f (suc k) t = omega (arith, bit-low (f t), word-low f k (t + 1), pow-succ' 2 k)
 
-word-bit : (f : ℕ → Bool) (k t i : ℕ) → i < k → wordFrom f k t / 2 ^ i % 2 ≡ bitOf (f (t + i))
+pub word-bit : (f : ℕ → Bool) (k t i : ℕ) → i < k → wordFrom f k t / 2 ^ i % 2 ≡ bitOf (f (t + i))
 unfolding wordFrom
 word-bit f zero t i h = absurd (omega arith)
 word-bit f (suc k) t zero h =

@@ -17,6 +17,7 @@ use Rattle.rules.specs.Table.{Node, NodeGood, nodeAt}
 use Rattle.rules.specs.Table.Node.{atom, unary, binary, windowed}
 use Rattle.rules.specs.TableRules.{NodesGood}
 use Rattle.rules.specs.Rows.{slack, atomVariable, unaryRows, binaryRows, inWindow, windowSlots, rowsAt}
+use Rattle.rules.specs.Solution.Families.{every-map}
 use Rattle.rules.specs.Solution.Truths.{place-lt}
 use Rattle.rules.specs.ErrorFigure.{others, ErrorFigures}
 use Rattle.rules.specs.Errors.Sums.{sumOver}
@@ -56,10 +57,6 @@ module _ (Q : ℕ → Type 0) (p P′ : ℕ) (here : Q p) where
   binary-all q there until true g = (here, (there, (g refl, tt)))
   binary-all q there until false g = (there, tt)
 
-every-map : (Q : ℕ → Type 0) (v : ℕ → ℕ) (ss : List ℕ) → Every (λ s. Q (v s)) ss → Every Q (map v ss)
-every-map Q v [] h = tt
-every-map Q v (s ∷ ss) h = (h .0, every-map Q v ss (h .1))
-
 -- what holds of a window's slots
 pub window-all : (Q : ℕ → Type 0) (T t a b : ℕ) → ((s : ℕ) → 1 ≤ s → s ≤ T → Q s) → Every Q (windowSlots T t a b)
 window-all Q T t a b f = every-passing (inWindow T t a b) Q T 1 (λ s l h x. f s l (omega arith))
@@ -73,7 +70,8 @@ parts-all Q T M n t l u atoms below next (unary o c) h = unary-all Q (slack T M 
 parts-all Q T M n t l u atoms below next (binary o p q) h =
     binary-all Q (slack T M p t) (slack T M n (t + 1)) (below p t (h .0) l u) (slack T M q t) (below q t (h .1) l u) o (ltb t T) next
 parts-all Q T M n t l u atoms below next (windowed w a b c) h =
-    every-map Q (slack T M c) (windowSlots T t a b) (window-all (λ s. Q (slack T M c s)) T t a b (λ s i j. below c s (h .0) i j))
+    every-map Q (slack T M c) (λ s. Q (slack T M c s)) (λ s. (λ q. q, λ q. q)) (windowSlots T t a b) .1
+    (window-all (λ s. Q (slack T M c s)) T t a b (λ s i j. below c s (h .0) i j))
 
 -- ---- counting
 

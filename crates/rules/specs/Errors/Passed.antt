@@ -13,7 +13,7 @@ use Rattle.rules.specs.Quantities.{one}
 use Rattle.rules.specs.Table.{Node, nodeAt, ruleAt, root}
 use Rattle.rules.specs.TableRules.{NodesGood}
 use Rattle.rules.specs.Truth.{Holds, endless, TruthBit}
-use Rattle.rules.specs.Evaluation.{bitSet, truth, truth-holds, truth-now}
+use Rattle.rules.specs.Evaluation.{bitOf, bitSet, truth, truth-holds, truth-now}
 use Rattle.rules.specs.Rows.{valueAt, atomVariable, slack, rowsOf, slackRows, goalRow}
 use Rattle.rules.specs.Judge.{None, OutsideAt, NotBinaryAt, BrokenAt}
 use Rattle.rules.specs.Judge.Judged.{is-passed}
@@ -129,15 +129,15 @@ passed-is-near T M e count carried table ns xs f run 0<T good length-is figures 
 
 -- ---- figures can always be rounded
 
-abbrev roundedBit : (T : ℕ) → List ℤ → (t a : ℕ) → ℕ
-roundedBit T xs t a = let x = valueAt xs (atomVariable T a t) in cond (ltb (natAbs (x -ℤ pos one)) (natAbs (x -ℤ pos 0))) 1 0
+abbrev nearerOne : (T : ℕ) → List ℤ → (t a : ℕ) → Bool
+nearerOne T xs t a = let x = valueAt xs (atomVariable T a t) in ltb (natAbs (x -ℤ pos one)) (natAbs (x -ℤ pos 0))
 
 pub rounded-run : RoundedRun
-rounded-run T M xs = (runOf T M (roundedBit T xs) small, record { run-good = run-good T M (roundedBit T xs) small; at = run-bit T M (roundedBit T xs) small })
+rounded-run T M xs = (runOf T M on, record { run-good = run-good T M on; at = λ a t h l u. run-bit T M on a t h l u ∙ as-number (on t a) })
   where
-    bit-small : (b : Bool) → cond b 1 0 < 2
-    bit-small true = omega arith
-    bit-small false = omega arith
+    on : ℕ → ℕ → Bool
+    on = nearerOne T xs
 
-    small : (t a : ℕ) → roundedBit T xs t a < 2
-    small t a = let x = valueAt xs (atomVariable T a t) in bit-small (ltb (natAbs (x -ℤ pos one)) (natAbs (x -ℤ pos 0)))
+    as-number : (b : Bool) → bitOf b ≡ cond b 1 0
+    as-number true = refl
+    as-number false = refl

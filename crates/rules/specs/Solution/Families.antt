@@ -91,7 +91,7 @@ module _ (D : ℕ) (y : ℕ → ℕ) (P p q P′ : ℕ) (top : y P ≤ D) (b c d
 
 -- ---- windows, for all widths together
 
-every-map {ℓ} : {A : Type ℓ} (Q : A → Type 0) (f : ℕ → A) (R : ℕ → Type 0) → ((s : ℕ) → Q (f s) ↔ R s) → (ss : List ℕ) → Every Q (map f ss) ↔ Every R ss
+pub every-map {ℓ} : {A : Type ℓ} (Q : A → Type 0) (f : ℕ → A) (R : ℕ → Type 0) → ((s : ℕ) → Q (f s) ↔ R s) → (ss : List ℕ) → Every Q (map f ss) ↔ Every R ss
 every-map Q f R e [] = (λ h. tt, λ h. tt)
 every-map Q f R e (s ∷ ss) = (λ h. (e s .0 (h .0), every-map Q f R e ss .0 (h .1)), λ h. (e s .1 (h .0), every-map Q f R e ss .1 (h .1)))
 
