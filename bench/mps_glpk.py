@@ -29,7 +29,7 @@ LEAST = 2_000_000  # nanoseconds that one timing takes at least
 DECK = 1  # GLP_MPS_DECK, the fixed columns
 OFF = 0  # GLP_OFF
 NODE_BYTES = 8
-ROOM = 25_000_000  # more than the bytes of any page
+ROOM = 49_000_000  # more than the bytes of any page
 SMALL = b"a0Ua1"
 MEDIUM = b"G(a0&!a1>F(a2|a3))&(a4Ua5)Ua2>F(a3&a5)"
 MIXED = b"G(a0&!a1>F[0,5](a2|a3))&G[1,12](a4>F[2,9]a5)&a4Ua2>F[3,20](a3|F[0,63]G[0,4]!a1)"
@@ -65,7 +65,7 @@ def load_sepia(folder):
     sepia = ctypes.CDLL(str(shared))
     bytes_in, bytes_out, size = ctypes.c_char_p, ctypes.c_void_p, ctypes.c_size_t
     sepia.sepia_read.argtypes = [bytes_in, size, size, bytes_out, size]
-    sepia.sepia_mps.argtypes = [bytes_in, size, size, size, bytes_out, size]
+    sepia.sepia_mps.argtypes = [bytes_in, size, size, size, size, bytes_out, size]
     sepia.sepia_read.restype = sepia.sepia_mps.restype = Answer
     return sepia
 
@@ -128,11 +128,11 @@ def measure(sides, rounds):
     return times
 
 
-def compare(sepia, glpk, folder, table, t, m, rounds):
+def compare(sepia, glpk, folder, table, t, m, l, rounds):
     """A line of the printed table: bytes of both pages, microseconds of the three sides, GLPK over the other two."""
     out = ctypes.create_string_buffer(ROOM)
     own, others = os.path.join(folder, "own.mps"), os.path.join(folder, "glpk.mps").encode()
-    call = lambda: sepia.sepia_mps(table, len(table), t, m, out, ROOM)
+    call = lambda: sepia.sepia_mps(table, len(table), t, m, l, out, ROOM)
     call_and_file = lambda: write_file(own, memoryview(out)[: call().value])
     length = call().result()
     call_and_file()
@@ -162,15 +162,19 @@ def main():
         print()
         print("| input | bytes | GLPK's bytes | page | page and file | GLPK to file | over page | over page and file |")
         print("|---|---:|---:|---:|---:|---:|---:|---:|")
-        for name, table, t, m in (
-            ("small", read(sepia, SMALL, 2), 8, 2),
-            ("medium", read(sepia, MEDIUM, 6), 32, 6),
-            ("largest", LARGEST, 64, 16),
-            ("medium with windows", read(sepia, MIXED, 6), 32, 6),
-            ("largest with windows", LARGEST_WINDOWS, 64, 16),
+        for name, table, t, m, l in (
+            ("small", read(sepia, SMALL, 2), 8, 2, 8),
+            ("medium", read(sepia, MEDIUM, 6), 32, 6, 32),
+            ("largest", LARGEST, 64, 16, 64),
+            ("medium with windows", read(sepia, MIXED, 6), 32, 6, 32),
+            ("largest with windows", LARGEST_WINDOWS, 64, 16, 64),
+            ("medium, looped", read(sepia, MEDIUM, 6), 32, 6, 16),
+            ("largest, looped", LARGEST, 64, 16, 1),
+            ("medium with windows, looped", read(sepia, MIXED, 6), 32, 6, 16),
+            ("largest with windows, looped", LARGEST_WINDOWS, 64, 16, 1),
         ):
-            line = compare(sepia, glpk, files, table, t, m, rounds)
-            print(f"| {name}: {len(table) // NODE_BYTES} nodes, T {t}, M {m} | {line} |", flush=True)
+            line = compare(sepia, glpk, files, table, t, m, l, rounds)
+            print(f"| {name}: {len(table) // NODE_BYTES} nodes, T {t}, M {m}, L {l} | {line} |", flush=True)
 
 
 if __name__ == "__main__":

@@ -1,8 +1,19 @@
 /* Bastersepia: timing rules as solver rows. Link with libsepia.a (rt staticlib sepia).
  *
  * Every call copes with every input. On a refusal nothing in a lent buffer changes; on success what stands past the output stays as it was.
- * Where several refusals apply, the first in this order is given: 1, 2, 3, 4, 5, 12, 6, 7, 8, 9, 10, 11. Pointers must be valid for the
+ * Where several refusals apply, the first in this order is given: 1, 2, 13, 3, 4, 5, 12, 6, 7, 8, 9, 10, 11. Pointers must be valid for the
  * lengths given with them, and a buffer that is written must overlap nothing else that is passed.
+ *
+ * The calls on a table take the number of slots t, the number of atoms m, and the loop slot l: a run goes on for ever, and after slot t comes
+ * slot l again. With l equal to t the last slot stands for good; a plan that comes round as a whole has l equal to 1.
+ *
+ * Variables, where N is the node count and s a slot, from 1:
+ *   atom a       a*t + s - 1
+ *   node n       (m + n)*t + s - 1, a slack
+ *   V of a node  (m + N + j)*t + s - 1, a slack, only where l is below t, of the nodes of kinds 6, 7 and 8 (F, G and U without a window): j
+ *                counts these nodes from 0, in node order. Its truth at s is that of the node's F, G or U over the slots s to t alone, its parts
+ *                having their truth on the run that loops
+ * So there are (m + N)*t variables where l is t, and t more for each node of kinds 6, 7 and 8 where l is below t; at most 17,344.
  */
 #ifndef SEPIA_H
 #define SEPIA_H
@@ -22,8 +33,9 @@ extern "C" {
  *   5  node records of 8 bytes, with the node's height; refusal 7 also when a height is wrong
  *   6  sepia_evaluate writes a word for each node in place of a byte for each node and slot, and its refusal 11 counts words;
  *      sepia_first_slot
- *   7  a passed verdict carries its error figure, in what was padding */
-#define SEPIA_VERSION 7
+ *   7  a passed verdict carries its error figure, in what was padding
+ *   8  sepia_evaluate, sepia_rows, sepia_mps and sepia_judge take the loop slot l after m; refusal 13 */
+#define SEPIA_VERSION 8
 
 /* The version of the library; to be compared with SEPIA_VERSION. */
 uint32_t sepia_version(void);
@@ -39,10 +51,11 @@ enum {
     SEPIA_NODES = 6,       /* read: over 128 nodes */
     SEPIA_TABLE = 7,       /* all but read: the table is not good; also when a height is wrong, be it of a node that the root does not use */
     SEPIA_RUN = 8,         /* evaluate: the run is not T numbers, or a bit at M or above is set */
-    SEPIA_FIGURES = 9,     /* judge: the figures are not (M + N)*T */
+    SEPIA_FIGURES = 9,     /* judge: the figures are not as many as the variables, see above */
     SEPIA_TOLERANCE = 10,  /* judge: the tolerance is not 0 to 1,000 */
     SEPIA_ROOM = 11,       /* read, evaluate, rows, mps: the output buffer is shorter than the output; evaluate counts words, the others bytes */
-    SEPIA_WINDOW = 12      /* read: a window F[a,b] or G[a,b] with a above b or b above 63; comes after 5 and before 6 */
+    SEPIA_WINDOW = 12,     /* read: a window F[a,b] or G[a,b] with a above b or b above 63; comes after 5 and before 6 */
+    SEPIA_LOOP = 13        /* all but read: L not 1 to T; comes after 2 and before 3 */
 };
 
 /* refusal 0: value is the result. Otherwise value is 0. */
@@ -61,7 +74,7 @@ enum {
 
 /* refusal 0: verdict and its value. Otherwise both are 0.
  * error is in millionths, at most 1,000,000, for SEPIA_PASSED: how far the root's figure at slot 1 may be from the truth over the run made by
- * rounding each atom to the nearer of 0 and 1,000,000. It follows from the table, T and e alone, and is 0 when e is.
+ * rounding each atom to the nearer of 0 and 1,000,000, which loops to slot L. It follows from the table, T, L and e alone, and is 0 when e is.
  *   below 500,000    that run satisfies the rule at slot 1
  *   below 1,000,000  the root's figure at slot 1 is within error of 1,000,000 where that run satisfies the rule there, and of 0 where it does not
  *   1,000,000        the count stops here, and nothing is said: evaluate that run
@@ -82,29 +95,31 @@ typedef struct {
  * filled in here, and the other calls refuse a table in which one is wrong. A table has at most 128 nodes, 1,024 bytes. */
 sepia_answer sepia_read(const uint8_t *text, size_t text_len, size_t m, uint8_t *out, size_t out_len);
 
-/* Evaluates a table over a run of t numbers, bit a of each the truth of atom a; after slot t the run repeats slot t for good.
+/* Evaluates a table over a run of t numbers, bit a of each the truth of atom a; after slot t comes slot l again.
  * Writes one word for each node, in node order: bit s - 1 (value 2 to the power s - 1) is the node's truth at slot s, and the bits above
  * bit t - 1 are 0. The root's word is the last. out_words counts words; a table takes as many as it has nodes, at most 128.
- * The result is the root's truth at slot 1. */
-sepia_answer sepia_evaluate(const uint8_t *table, size_t table_len, size_t t, size_t m, const uint16_t *run, size_t run_len,
+ * V has no words. The result is the root's truth at slot 1. */
+sepia_answer sepia_evaluate(const uint8_t *table, size_t table_len, size_t t, size_t m, size_t l, const uint16_t *run, size_t run_len,
                             uint64_t *out, size_t out_words);
 
 /* The first slot with a set bit in a word, 1 to 64, or 0 when there is none: of a node's word, the first slot at which the node holds.
  * Takes any word and refuses none. */
 uint32_t sepia_first_slot(uint64_t word);
 
-/* Writes a table's rows. The result is the row count.
- * A row ends after its last term: 5 bytes and 3 for each term, at most 65 terms. A table has at most 272,353 rows, 3,763,976 bytes. */
-sepia_answer sepia_rows(const uint8_t *table, size_t table_len, size_t t, size_t m, uint8_t *out, size_t out_len);
+/* Writes a table's rows. The result is the row count. Where l is below t, a node's V rows, by slot, come before its own.
+ * A row ends after its last term: 5 bytes and 3 for each term, at most 65 terms. A table has at most 528,385 rows, 7,348,424 bytes; where l is t
+ * at most 272,353 rows, 3,763,976 bytes. */
+sepia_answer sepia_rows(const uint8_t *table, size_t table_len, size_t t, size_t m, size_t l, uint8_t *out, size_t out_len);
 
-/* Writes a table's rows as a fixed-column MPS page, with a bound for each variable: BV for atoms, UP 1 for slacks.
- * The result is the page's length in bytes, at most 24,984,950. */
-sepia_answer sepia_mps(const uint8_t *table, size_t table_len, size_t t, size_t m, uint8_t *out, size_t out_len);
+/* Writes a table's rows as a fixed-column MPS page, with a bound for each variable: BV for atoms, UP 1 for slacks, V among them.
+ * The result is the page's length in bytes, at most 48,544,593; where l is t at most 24,984,950. */
+sepia_answer sepia_mps(const uint8_t *table, size_t table_len, size_t t, size_t m, size_t l, uint8_t *out, size_t out_len);
 
-/* Judges a solver's figures, in millionths, one for each variable, with tolerance e. Nothing that is lent is written: where figures pass, the
- * error figures are worked out on the stack, of which the call then takes up to 72 KB (up to 5 KB with at most 256 nodes times slots).
- * Otherwise it takes up to 5 KB. */
-sepia_verdict sepia_judge(const uint8_t *table, size_t table_len, size_t t, size_t m, const int32_t *figures, size_t figures_len, int32_t e);
+/* Judges a solver's figures, in millionths, one for each variable, V among them, with tolerance e. Nothing that is lent is written: where
+ * figures pass, the error figures are worked out on the stack, of which the call then takes up to 72 KB (up to 5 KB with at most 256 nodes times
+ * slots). Otherwise it takes up to 5 KB. */
+sepia_verdict sepia_judge(const uint8_t *table, size_t table_len, size_t t, size_t m, size_t l, const int32_t *figures, size_t figures_len,
+                          int32_t e);
 
 #ifdef __cplusplus
 }

@@ -8,7 +8,7 @@ What is expected is written down below, comes from SPIN (tests/spin.txt) or is w
 (tests/paper.py); nothing of it comes from the program. Tables, truths, rows, refusals and verdicts that are written down
 must also be what the paper's words give; of a truth, its bytes and its words (request N5) must say the same for every node
 and slot; what request N7 promises of figures that pass must be so. A new call has a function here that writes its case and
-what must be printed.
+what must be printed. The loop slot L is T where none is given.
 """
 
 import itertools
@@ -20,12 +20,12 @@ from data_file import TOP, write_or_check
 HEAD = """\
 Cases made by tests/known_lines.py. A line is a call, numbers, and after a colon bytes; % and two digits stand for a byte.
   read ROOM M:TEXT
-  evaluate ROOM T M RUN..:TABLE
+  evaluate ROOM T M L RUN..:TABLE
   first WORD (the first slot of a word)
-  write ROOM T M:TABLE
-  mps ROOM T M:TABLE
-  judge T M E FIGURES..:TABLE
-  counted T M E COUNT FIGURE..:TABLE (the judge, on many figures: each stands COUNT times)
+  write ROOM T M L:TABLE
+  mps ROOM T M L:TABLE
+  judge T M L E FIGURES..:TABLE
+  counted T M L E COUNT FIGURE..:TABLE (the judge, on many figures: each stands COUNT times)
   list:INPUT (what rowlist prints, in a buffer of 184,000 bytes without a guard)
   sum X Y C V.. (the row sum of terms of coefficient C and variable V, over the figures X and Y)
   total W X FIGURES.. (the row sum of a window's last row, F's where W is 1 and otherwise G's: the node has the figure X,
@@ -44,7 +44,7 @@ GUARD = 8
 MOST_WORDS = 512
 LISTING = 184000
 LONG = 1000
-FIGURES = 1020  # the most numbers of a judge case behind E
+FIGURES = 1019  # the most numbers of a judge case behind E
 FEW = 200  # as many figures stand one by one
 NAMES = {"n": "value", "v": "value", "r": "refused", "o": "outside", "b": "not binary", "k": "broken", "p": "passed"}
 SECOND = {"k": "shortfall", "p": "error"}
@@ -161,24 +161,28 @@ def as_text(truths):
     return " ".join("".join(str(int(holds)) for holds in of_node) for of_node in truths)
 
 
-def evaluate(t, m, room, answer, run, truth, nodes):
+def evaluate(t, m, room, answer, run, truth, nodes, l=None):
     """The truth is a row of 0 and 1 for each node, in node order, slot 1 first. It is what the bytes of the scope paper said,
     and the words must say the same."""
     old = bytes(int(bit) for bit in truth.replace(" ", ""))
-    found = paper.evaluation(t, m, nodes, run, room)
+    found = paper.evaluation(t, m, nodes, run, room, l)
     if isinstance(found, int):
         assert answer == f"r{found}" and not old
         found = []
     else:
-        assert old == paper.truth_bytes(paper.run_truth(paper.nodes_in(nodes), m, run)) and paper.same_truth(old, found, t)
+        assert old == paper.truth_bytes(paper.run_truth(paper.nodes_in(nodes), m, run, l)) and paper.same_truth(old, found, t)
         assert answer == f"v{old[-t]}" == f"v{found[-1] % 2}"
-    case("evaluate", [room, t, m, *run], nodes, said(answer), *lent_words(room, found))
+    case("evaluate", [room, t, m, loop_slot(t, l), *run], nodes, said(answer), *lent_words(room, found))
 
 
-def evaluate_of_paper(t, m, run, nodes, more=0):
+def loop_slot(t, l):
+    return t if l is None else l
+
+
+def evaluate_of_paper(t, m, run, nodes, more=0, l=None):
     """The truth of the paper's words, in a buffer of one word for each node, and more."""
-    truths = paper.run_truth(paper.nodes_in(nodes), m, run)
-    evaluate(t, m, len(truths) + more, f"v{int(truths[-1][0])}", run, as_text(truths), nodes)
+    truths = paper.run_truth(paper.nodes_in(nodes), m, run, l)
+    evaluate(t, m, len(truths) + more, f"v{int(truths[-1][0])}", run, as_text(truths), nodes, l)
 
 
 def first_slot(word, slot):
@@ -197,67 +201,76 @@ def row_bytes(found):
     return sum(len(paper.record(row)) for row in found)
 
 
-def rows(t, m, room, answer, expected, nodes):
+def rows(t, m, room, answer, expected, nodes, l=None):
     """The rows expected, as rowlist prints them."""
     expected = [row(text) for text in expected]
-    refusal = paper.refusal(t, m, nodes)
+    refusal = paper.refusal(t, m, nodes, l)
     if refusal is not None:
         assert answer == f"r{refusal}" and not expected
     else:
-        found = paper.rows(paper.nodes_in(nodes), t, m)
+        found = paper.rows(paper.nodes_in(nodes), t, m, l)
         fits = row_bytes(found) <= room
         assert answer == (f"n{len(found)}" if fits else "r11") and expected == (found if fits else [])
-    case("write", [room, t, m], nodes, said(answer), lent(room, b"".join(map(paper.record, expected))))
+    case("write", [room, t, m, loop_slot(t, l)], nodes, said(answer), lent(room, b"".join(map(paper.record, expected))))
 
 
-def judge(t, m, e, figures, answer, nodes):
-    refusal = paper.refusal(t, m, nodes)
-    if refusal is None and len(figures) != (m + len(nodes) // RECORD) * t:
-        refusal = 9
-    if refusal is None and not 0 <= e <= 1000:
-        refusal = 10
-    assert said(answer) == (f"refused {refusal}" if refusal is not None else paper.verdict(paper.nodes_in(nodes), t, m, figures, e))
+def judge(t, m, e, figures, answer, nodes, l=None):
+    found = paper.judgement(t, m, nodes, figures, e, l)
+    assert said(answer) == (f"refused {found}" if isinstance(found, int) else found)
     if answer[0] == "p":
-        promised(t, m, e, figures, paper.nodes_in(nodes))
+        promised(t, m, e, figures, paper.nodes_in(nodes), l)
     runs = [(len(list(run)), figure) for figure, run in itertools.groupby(figures)]
     numbers = [number for run in runs for number in run]
     call, numbers = ("counted", numbers) if len(numbers) < len(figures) > FEW else ("judge", figures)
     assert len(numbers) <= FIGURES
-    case(call, [t, m, e, *numbers], nodes, said(answer))
+    case(call, [t, m, loop_slot(t, l), e, *numbers], nodes, said(answer))
 
 
-def judge_of_paper(t, m, e, figures, nodes):
+def judge_of_paper(t, m, e, figures, nodes, l=None):
     """The verdict of the paper's words, on figures that are as many as they must be."""
-    verdict = paper.verdict(nodes, t, m, figures, e)
+    verdict = paper.verdict(nodes, t, m, figures, e, l)
     letter = next(letter for letter, name in NAMES.items() if letter in "obkp" and verdict.startswith(name))
     numbers = [word for word in verdict.split() if word.isdecimal()]
-    judge(t, m, e, figures, letter + ",".join(numbers), paper.table(nodes))
+    judge(t, m, e, figures, letter + ",".join(numbers), paper.table(nodes), l)
     return verdict
 
 
-def promised(t, m, e, figures, nodes):
+def promised(t, m, e, figures, nodes, l=None):
     """What request N7 says of figures that pass: each slack is within its error figure of the truth on the rounded run, where
     that is below 1,000,000, and below 500,000 at the root the rule holds at slot 1."""
-    truths = paper.truth(nodes, paper.rounded(t, m, figures))
-    errors = paper.error_figures(nodes, t, m, e)[m * t :]
+    truths = paper.slack_truth(nodes, paper.rounded(t, m, figures), l)
+    errors = paper.error_figures(nodes, t, m, e, l)[m * t :]
     for error, figure, holds in zip(errors, figures[m * t :], itertools.chain(*truths), strict=True):
         assert error == ONE or error < ONE and abs(figure - ONE * holds) <= error
-    assert errors[-t] >= 500000 or truths[-1][0]
+    root = len(nodes) - 1
+    assert errors[root * t] >= 500000 or truths[root][0]
 
 
-def page_of(nodes, t, m):
-    return paper.expected_page(paper.expected_model(nodes, t, m))
+def page_of(nodes, t, m, l=None):
+    return paper.expected_page(paper.expected_model(nodes, t, m, l))
 
 
-def mps(t, m, room, answer, page, nodes):
+def mps(t, m, room, answer, page, nodes, l=None):
     """A short page must also be that of the paper's words; long ones are taken from there."""
-    refusal = paper.refusal(t, m, nodes)
+    refusal = paper.refusal(t, m, nodes, l)
     if answer[0] == "r":
         assert answer == ("r11" if refusal is None else f"r{refusal}") and not page
     else:
         assert answer == f"n{len(page)}" and refusal is None
-        assert len(page) > LONG or page == page_of(paper.nodes_in(nodes), t, m)
-    case("mps", [room, t, m], nodes, said(answer), lent(room, page.encode(), text=True))
+        assert len(page) > LONG or page == page_of(paper.nodes_in(nodes), t, m, l)
+    case("mps", [room, t, m, loop_slot(t, l)], nodes, said(answer), lent(room, page.encode(), text=True))
+
+
+def mps_of_paper(t, m, nodes, l=None, more=0):
+    """The page of the paper's words, in a buffer as long as it, and more."""
+    page = page_of(nodes, t, m, l)
+    mps(t, m, len(page) + more, f"n{len(page)}", page, paper.table(nodes), l)
+
+
+def rows_of_paper(t, m, nodes, l=None, more=0):
+    """The rows of the paper's words likewise."""
+    found = paper.rows(nodes, t, m, l)
+    rows(t, m, row_bytes(found) + more, f"n{len(found)}", [paper.row_text(row) for row in found], paper.table(nodes), l)
 
 
 def rowlist(given, printed):
@@ -1131,16 +1144,16 @@ LONGEST = (
 )
 
 
-def exact(t, m, run, nodes):
-    """The figures of a run, and of the truth of the nodes over it."""
-    atoms = [number >> atom & 1 for atom in range(m) for number in run]
-    return [ONE * int(bit) for bit in itertools.chain(atoms, *paper.run_truth(nodes, m, run))]
+def exact(m, run, nodes, l=None):
+    """The figures of a run, and of the truth of the slacks over it."""
+    atoms = paper.run_atoms(m, run)
+    return [ONE * int(bit) for bit in itertools.chain(*atoms, *paper.slack_truth(nodes, atoms, l))]
 
 
-def passes(t, m, e, run, error, records):
+def passes(t, m, e, run, error, records, l=None):
     """The figures of a run, and of the truth over it, pass with this error figure."""
     nodes = paper.nodes_in(records)
-    judge(t, m, e, exact(t, m, run, nodes), f"p{len(paper.rows(nodes, t, m))},{error}", records)
+    judge(t, m, e, exact(m, run, nodes, l), f"p{len(paper.rows(nodes, t, m, l))},{error}", records, l)
 
 
 def rule(postfix):
@@ -1366,6 +1379,22 @@ def reach(found, t, m, e, figures, variable, way):
     return min(ends)
 
 
+def put_off(rng, t, m, e, nodes, run, l=None):
+    """Each figure in turn put off as far as the others let it, or less; and then one put one further."""
+    if not paper.run_truth(nodes, m, run, l)[-1][0]:
+        nodes.append((2, len(nodes) - 1, 0, 0, 0))
+    figures, found = exact(m, run, nodes, l), paper.rows(nodes, t, m, l)
+    of_rows = [[row for row in found if variable in (other for _, other in row[2])] for variable in range(len(figures))]
+    for variable in rng.sample(range(len(figures)), len(figures)):
+        way = rng.choice((1, -1))
+        most = reach(of_rows[variable], t, m, e, figures, variable, way)
+        figures[variable] += way * rng.choice((most, most, rng.randint(0, most)))
+    assert judge_of_paper(t, m, e, figures, nodes, l).startswith("passed")
+    variable, way = rng.randrange(len(figures)), rng.choice((1, -1))
+    figures[variable] += way * (reach(of_rows[variable], t, m, e, figures, variable, way) + 1)
+    assert not judge_of_paper(t, m, e, figures, nodes, l).startswith("passed")
+
+
 def judging_by_chance():
     say("Of the request's words: tables and runs of chance, each figure in turn put off as far as the others let it, or less; they pass,\n"
         "and with one figure put one further they do not")
@@ -1373,18 +1402,7 @@ def judging_by_chance():
     for _ in range(50):
         t, m, e = rng.choice((1, 2, 3, 5, 8)), rng.choice((1, 2, 3, 16)), rng.choice((1, 2, 10, 100, 500, 999, 1000))
         nodes, run = chance_nodes(rng, rng.randint(2, 12), m), [rng.getrandbits(m) for _ in range(t)]
-        if not paper.run_truth(nodes, m, run)[-1][0]:
-            nodes.append((2, len(nodes) - 1, 0, 0, 0))
-        figures, found = exact(t, m, run, nodes), paper.rows(nodes, t, m)
-        of_rows = [[row for row in found if variable in (other for _, other in row[2])] for variable in range(len(figures))]
-        for variable in rng.sample(range(len(figures)), len(figures)):
-            way = rng.choice((1, -1))
-            most = reach(of_rows[variable], t, m, e, figures, variable, way)
-            figures[variable] += way * rng.choice((most, most, rng.randint(0, most)))
-        assert judge_of_paper(t, m, e, figures, nodes).startswith("passed")
-        variable, way = rng.randrange(len(figures)), rng.choice((1, -1))
-        figures[variable] += way * (reach(of_rows[variable], t, m, e, figures, variable, way) + 1)
-        assert not judge_of_paper(t, m, e, figures, nodes).startswith("passed")
+        put_off(rng, t, m, e, nodes, run)
 
 
 def tested(is_good, m, nodes, calls="ewmj"):
@@ -1625,15 +1643,394 @@ def window_total(is_within, x, *figures):
     case("total", [int(is_within), x, *figures], None, "positive {} whole {}".format(*sums))
 
 
+# A table of every kind over two atoms, with windows; the root is `!` of until.
+EVERY = table(
+    (1, 0, 0), (1, 1, 0), (3, 0, 1), (4, 0, 1), (5, 0, 1), (6, 0, 0), (7, 3, 0), (8, 0, 1), (9, 0, 0, 0, 1), (10, 3, 0, 1, 2), (2, 7, 0),
+)
+
+
+def for_each_loop(t, m, run, records, *truths):
+    """The truths of a table over a run, for each L from 1 to T."""
+    for l, truth in enumerate(truths, 1):
+        answer = truth.split()[-1][0]
+        evaluate(t, m, len(records) // RECORD, f"v{answer}", run, truth, records, l)
+    assert l == t
+
+
+def looping_truths():
+    say("By hand from the request (N8): after T comes L again. T 2 with L 1 and with L 2, where all is as it was")
+    for_each_loop(2, 2, [2, 1], UNTIL, "01 10 11", "01 10 10")
+    for_each_loop(2, 2, [1, 1], UNTIL, "11 00 00", "11 00 00")
+    for_each_loop(2, 2, [2, 0], F_A1, "10 11", "10 10")
+    for_each_loop(2, 2, [0, 1], G_A0, "01 00", "01 01")
+    for_each_loop(2, 1, [1, 0], GF_A0, "10 11 11", "10 10 00")
+    for_each_loop(2, 1, [0, 1], FG_A0, "01 00 00", "01 01 11")
+    say("By hand: T 3 with L 1, 2 and 3; T 1, where L is 1 alone")
+    for_each_loop(3, 2, [2, 0, 0], F_A1, "100 111", "100 100", "100 100")
+    for_each_loop(3, 2, [0, 2, 0], F_A1, "010 111", "010 111", "010 110")
+    for_each_loop(3, 1, [0, 1, 1], G_A0, "011 000", "011 011", "011 011")
+    for_each_loop(3, 1, [1, 0, 1], G_A0, "101 000", "101 000", "101 001")
+    for_each_loop(3, 2, [2, 1, 1], UNTIL, "011 100 111", "011 100 100", "011 100 100")
+    for_each_loop(3, 2, [1, 2, 1], UNTIL, "101 010 111", "101 010 111", "101 010 110")
+    for_each_loop(3, 2, [0, 2, 1], UNTIL, "001 010 010", "001 010 011", "001 010 010")
+    for_each_loop(3, 2, [1, 1, 1], UNTIL, "111 000 000", "111 000 000", "111 000 000")
+    for_each_loop(3, 2, [0, 1, 3], IMPLIES, "011 001 101", "011 001 101", "011 001 101")
+    for_each_loop(3, 1, [1, 0, 0], GF_A0, "100 111 111", "100 100 000", "100 100 000")
+    for_each_loop(3, 1, [0, 0, 1], FG_A0, "001 000 000", "001 000 000", "001 001 111")
+    for_each_loop(1, 2, [1], UNTIL, "1 0 0")
+    say("By hand: windows wrap the same way, some more than once; [0,63] looks at each slot once")
+    for_each_loop(2, 1, [1, 0], window("F", 0, 1), "10 11", "10 10")
+    for_each_loop(2, 1, [0, 1], window("G", 0, 1), "01 00", "01 01")
+    for_each_loop(2, 1, [1, 0], window("F", 1, 1), "10 01", "10 00")
+    for_each_loop(2, 1, [1, 0], window("G", 63, 63), "10 01", "10 00")
+    for_each_loop(3, 1, [1, 0, 0], window("F", 1, 2), "100 011", "100 000", "100 000")
+    for_each_loop(3, 1, [0, 1, 1], window("G", 1, 2), "011 100", "011 111", "011 111")
+    for_each_loop(3, 1, [0, 1, 0], window("F", 5, 5), "010 001", "010 101", "010 000")
+    for_each_loop(3, 1, [0, 1, 0], window("F", 0, 63), "010 111", "010 111", "010 110")
+    for_each_loop(4, 1, [0, 0, 1, 1], window("G", 0, 63), "0011 0000", "0011 0000", "0011 0011", "0011 0011")
+    evaluate(5, 1, 2, "v0", [0, 1, 0, 0, 0], "01000 00100", window("F", 63, 63), 2)
+    say("Of the paper's words: a table of every kind, for each L with T 2 to 5")
+    rng = random.Random(8)
+    for t in range(2, 6):
+        for l in range(1, t):
+            evaluate_of_paper(t, 2, [rng.getrandbits(2) for _ in range(t)], EVERY, l=l)
+    say("By hand: T 64 with L 1, 2, 32 and 63: `Fa1` where a1 holds at one slot, within the loop and before it")
+    for l in 1, 2, 32, 63:
+        for slot in sorted({1, l - 1, l, 64} - {0}):
+            alone = "0" * (slot - 1) + "1" + "0" * (64 - slot)
+            truth = "1" * 64 if slot >= l else "1" * slot + "0" * (64 - slot)
+            evaluate(64, 2, 2, "v1", [2 * int(bit) for bit in alone], alone + truth, F_A1, l)
+    say("Of the paper's words: T 64, every kind, and windows that look far")
+    far = table((1, 0, 0), (1, 1, 0), (9, 0, 0, 63, 63), (10, 1, 0, 40, 63), (9, 1, 0, 31, 32), (10, 0, 0, 0, 5), (8, 5, 4), (7, 3, 0))
+    for l in 1, 2, 32, 63:
+        evaluate_of_paper(64, 2, [rng.choice((1, 1, 1, 3, 2, 0)) for _ in range(64)], EVERY, l=l)
+        evaluate_of_paper(64, 2, [rng.choice((3, 3, 3, 3, 3, 3, 2, 1, 0)) for _ in range(64)], far, l=l)
+
+
+def each_refused(t, m, l, nodes, *answers):
+    """Evaluator, row writer, page and judge where all that is checked later is wrong: the run and the buffer, the figures and e."""
+    answers = answers * 4 if len(answers) == 1 else answers
+    evaluate(t, m, 0, answers[0], [], "", nodes, l)
+    rows(t, m, 0, answers[1], [], nodes, l)
+    mps(t, m, 0, answers[2], "", nodes, l)
+    judge(t, m, -1, [], answers[3], nodes, l)
+
+
+def refusing_loops():
+    say("The request (N8): 13 when L is not 1 to T; after 1 and 2, before all others")
+    for t, l in (1, 0), (1, 2), (2, 0), (2, 3), (63, 64), (64, 0), (64, 65):
+        each_refused(t, 1, l, ATOM, "r13")
+    for l in 257, 65537, 2**32 + 1, 2**63 + 1, 2**64 - 2, 2**64 - 1:
+        each_refused(2, 1, l, ATOM, "r13")
+    for nodes in b"", table((1, 1, 0)), with_height(UNTIL, 2, 0), window("F", 1, 0):
+        each_refused(2, 1, 3, nodes, "r13")
+        each_refused(2, 1, 1, nodes, "r7")
+    for t, m, l in (0, 1, 0), (0, 0, 1), (65, 1, 66), (65, 17, 0), (2**32 + 2, 1, 3):
+        each_refused(t, m, l, ATOM, "r1")
+    for m, l in (0, 0), (17, 3), (0, 1), (2**32 + 1, 3):
+        each_refused(2, m, l, b"", "r2")
+    say("By hand: with L from 1 to T each call gets to its next refusal")
+    for t, l in (1, 1), (2, 1), (2, 2), (64, 1), (64, 64):
+        each_refused(t, 1, l, G_A0, "r8", "r11", "r11", "r9")
+    evaluate(2, 1, 2, "r8", [0], "", G_A0, 1)
+    evaluate(2, 1, 2, "r8", [0, 2], "", G_A0, 1)
+    evaluate(2, 1, 1, "r11", [0, 0], "", G_A0, 1)
+    evaluate(2, 1, 3, "v0", [0, 0], "00 00", G_A0, 1)
+
+
+# The rows of `Fa0`, `Ga0` and `a0Ua1` with T 2 and L 1, M 1 and for until 2: the atoms' nodes, V at both slots, P at both, the goal.
+ATOM_ROWS = ["= 0 +2 -0", "= 0 +3 -1"]
+LOOPED_F = ATOM_ROWS + [
+    ">= 0 +6 -2", ">= 0 +6 -7", ">= 0 +2 +7 -6", "= 0 +7 -3",
+    ">= 0 +4 -2", ">= 0 +4 -5", ">= 0 +2 +5 -4", ">= 0 +5 -3", ">= 0 +5 -6", ">= 0 +3 +6 -5", "= 1 +4",
+]
+LOOPED_G = ATOM_ROWS + [
+    ">= 0 +2 -6", ">= 0 +7 -6", ">= -1 +6 -2 -7", "= 0 +7 -3",
+    ">= 0 +2 -4", ">= 0 +5 -4", ">= -1 +4 -2 -5", ">= 0 +3 -5", ">= 0 +6 -5", ">= -1 +5 -3 -6", "= 1 +4",
+]
+LOOPED_UNTIL = ["= 0 +4 -0", "= 0 +5 -1", "= 0 +6 -2", "= 0 +7 -3"] + [
+    ">= 0 +10 -6", ">= 0 +4 +6 -10", ">= 0 +6 +11 -10", ">= -1 +10 -4 -11", "= 0 +11 -7",
+    ">= 0 +8 -6", ">= 0 +4 +6 -8", ">= 0 +6 +9 -8", ">= -1 +8 -4 -9",
+    ">= 0 +9 -7", ">= 0 +5 +7 -9", ">= 0 +7 +10 -9", ">= -1 +9 -5 -10", "= 1 +8",
+]
+F_A0 = table((1, 0, 0), (6, 0, 0))
+
+
+def looping_rows():
+    say("By hand from the request (N8): F, G and U with T 2 and L 1: the rows of V, by slot, then those of P; the buffer")
+    rows(2, 1, 149, "n13", LOOPED_F, F_A0, 1)
+    rows(2, 1, 150, "n13", LOOPED_F, F_A0, 1)
+    for room in 148, 77, 0:
+        rows(2, 1, room, "r11", [], F_A0, 1)
+    rows(2, 1, 149, "n13", LOOPED_G, G_A0, 1)
+    rows(2, 2, 222, "n18", LOOPED_UNTIL, UNTIL, 1)
+    rows(2, 2, 221, "r11", [], UNTIL, 1)
+    rows(2, 1, 77, "n7", ATOM_ROWS + [">= 0 +4 -2", ">= 0 +4 -5", ">= 0 +2 +5 -4", "= 0 +5 -3", "= 1 +4"], F_A0, 2)
+    rows(1, 1, 30, "n3", ["= 0 +1 -0", "= 0 +2 -1", "= 1 +2"], F_A0, 1)
+    say("By hand: left equal to right, T 2 and L 1; T 3, where P' of P at T is V at L; V has no gaps: in `F!Ga0` it is that of G, then of F")
+    rows(2, 1, 200, "n16", ATOM_ROWS + [
+        ">= 0 +6 -2", ">= 0 +2 +2 -6", ">= 0 +2 +7 -6", ">= -1 +6 -2 -7", "= 0 +7 -3",
+        ">= 0 +4 -2", ">= 0 +2 +2 -4", ">= 0 +2 +5 -4", ">= -1 +4 -2 -5",
+        ">= 0 +5 -3", ">= 0 +3 +3 -5", ">= 0 +3 +6 -5", ">= -1 +5 -3 -6", "= 1 +4",
+    ], table((1, 0, 0), (8, 0, 0)), 1)
+    for l, after in (1, 9), (2, 10):
+        rows(3, 1, 232, "n20", [
+            "= 0 +3 -0", "= 0 +4 -1", "= 0 +5 -2",
+            ">= 0 +9 -3", ">= 0 +9 -10", ">= 0 +3 +10 -9", ">= 0 +10 -4", ">= 0 +10 -11", ">= 0 +4 +11 -10", "= 0 +11 -5",
+            ">= 0 +6 -3", ">= 0 +6 -7", ">= 0 +3 +7 -6", ">= 0 +7 -4", ">= 0 +7 -8", ">= 0 +4 +8 -7",
+            ">= 0 +8 -5", f">= 0 +8 -{after}", f">= 0 +5 +{after} -8", "= 1 +6",
+        ], F_A0, l)
+    rows(2, 1, 290, "n25", ATOM_ROWS + [
+        ">= 0 +2 -10", ">= 0 +11 -10", ">= -1 +10 -2 -11", "= 0 +11 -3",
+        ">= 0 +2 -4", ">= 0 +5 -4", ">= -1 +4 -2 -5", ">= 0 +3 -5", ">= 0 +10 -5", ">= -1 +5 -3 -10",
+        "= 1 +6 +4", "= 1 +7 +5",
+        ">= 0 +12 -6", ">= 0 +12 -13", ">= 0 +6 +13 -12", "= 0 +13 -7",
+        ">= 0 +8 -6", ">= 0 +8 -9", ">= 0 +6 +9 -8", ">= 0 +9 -7", ">= 0 +9 -12", ">= 0 +7 +12 -9", "= 1 +8",
+    ], rule("a0 G ! F"), 1)
+    looping_window_rows()
+    say("Of the paper's words: rows of every kind, and of a table that does not use all its parts; small T, and T 64")
+    unused = nodes_of("a0 F G") + [(8, 2, 1, 0, 0), (1, 1, 0, 0, 0), (2, 4, 0, 0, 0)]
+    for t, l in (3, 1), (3, 2), (4, 1), (4, 2), (4, 3), (64, 1), (64, 2), (64, 32), (64, 63):
+        rows_of_paper(t, 2, paper.nodes_in(EVERY), l)
+    for t, l in (4, 1), (5, 2), (64, 2), (64, 32):
+        rows_of_paper(t, 16, unused, l, more=1)
+
+
+def looping_window_rows():
+    say("By hand: wrapped windows by slot number, [0,1] at T with L 1 has slot 1, then T; windows have no V")
+    within = [">= 0 +4 -2", ">= 0 +4 -3", ">= 0 +2 +3 -4", ">= 0 +5 -2", ">= 0 +5 -3", ">= 0 +2 +3 -5", "= 1 +4"]
+    throughout = [">= 0 +2 -4", ">= 0 +3 -4", ">= -1 +4 -2 -3", ">= 0 +2 -5", ">= 0 +3 -5", ">= -1 +5 -2 -3", "= 1 +4"]
+    rows(2, 1, 102, "n9", ATOM_ROWS + within, window("F", 0, 1), 1)
+    rows(2, 1, 101, "r11", [], window("F", 0, 1), 1)
+    rows(2, 1, 102, "n9", ATOM_ROWS + within, window("F", 62, 63), 1)
+    rows(2, 1, 102, "n9", ATOM_ROWS + throughout, window("G", 0, 63), 1)
+    ones = [">= 0 +4 -3", ">= 0 +3 -4", ">= 0 +5 -2", ">= 0 +2 -5", "= 1 +4"]
+    rows(2, 1, 74, "n7", ATOM_ROWS + ones, window("F", 1, 1), 1)
+    rows(2, 1, 74, "n7", ATOM_ROWS + ones, window("F", 63, 63), 1)
+    atom = ["= 0 +3 -0", "= 0 +4 -1", "= 0 +5 -2"]
+    pair = [">= 0 +4 -{0}", ">= 0 +5 -{0}", ">= -1 +{0} -4 -5"]
+    rows(3, 1, 149, "n13", atom + [row.format(own) for own in (6, 7, 8) for row in pair] + ["= 1 +6"], window("G", 1, 2), 2)
+    rows(3, 1, 163, "n14", atom + [">= 0 +3 -6", ">= 0 +4 -6", ">= 0 +5 -6", ">= -2 +6 -3 -4 -5"] +
+         [row.format(own) for own in (7, 8) for row in pair] + ["= 1 +6"], window("G", 0, 63), 2)
+    rows(3, 1, 107, "n10", atom + [
+        ">= 0 +6 -4", ">= 0 +4 -6", ">= 0 +7 -5", ">= 0 +5 -7", ">= 0 +8 -4", ">= 0 +4 -8", "= 1 +6",
+    ], window("F", 5, 5), 2)
+    say("Of the paper's words: windows with T 5 and 64")
+    for rule, t, l in (
+        ("a0 F[63,63]", 5, 2), ("a0 G[3,6]", 5, 4), ("a0 F[2,3] G[1,4]", 5, 3), ("a0 G[0,63]", 64, 1), ("a0 F[0,63]", 64, 63),
+        ("a0 F[1,40]", 64, 32), ("a0 G[60,63] F[5,5]", 64, 2), ("a0 F G[2,9] a0 F[1,1] U", 6, 4),
+    ):
+        rows_of_paper(t, 1, nodes_of(rule), l)
+
+
+def looping_pages():
+    say("By hand from the request (N8): a page in full, `Fa0` with T 2, M 1 and L 1, where X6 and X7 are V; the buffer")
+    columns = (
+        "X0 R0 -1, X1 R1 -1, X2 R0 1, X2 R2 -1, X2 R4 1, X2 R6 -1, X2 R8 1, X3 R1 1, X3 R5 -1, X3 R9 -1, X3 R11 1, "
+        "X4 R6 1, X4 R7 1, X4 R8 -1, X4 R12 1, X5 R7 -1, X5 R8 1, X5 R9 1, X5 R10 1, X5 R11 -1, "
+        "X6 R2 1, X6 R3 1, X6 R4 -1, X6 R10 -1, X6 R11 1, X7 R3 -1, X7 R4 1, X7 R5 1"
+    )
+    lines = ["NAME", "ROWS", " N  COST", *(f" {kind}  R{number}" for number, kind in enumerate("EEGGGEGGGGGGE")), "COLUMNS"]
+    lines += ["    {:10}{:10}{}".format(*entry.split()) for entry in columns.split(", ")]
+    lines += ["RHS", "    RHS       R12       1", "BOUNDS", " BV BND       X0", " BV BND       X1"]
+    lines += [f" UP BND       X{number}        1" for number in range(2, 8)]
+    page = "".join(line + "\n" for line in [*lines, "ENDATA"])
+    assert page == page_of(paper.nodes_in(F_A0), 2, 1, 1)
+    mps(2, 1, len(page), f"n{len(page)}", page, F_A0, 1)
+    mps(2, 1, len(page) - 1, "r11", "", F_A0, 1)
+    mps(2, 1, len(page_of(paper.nodes_in(F_A0), 2, 1)), "r11", "", F_A0, 1)
+    say("Of the page's words: the others of T 2; `p U p`; windows; every kind, small T, and T 64")
+    for rule, m in ("a0 G", 1), ("a0 a1 U", 2), ("a0 F G", 1), ("a1 G ! F", 3), ("a0 F[0,1]", 1), ("a0 G[63,63]", 1):
+        mps_of_paper(2, m, nodes_of(rule), 1)
+    mps_of_paper(2, 1, [(1, 0, 0, 0, 0), (8, 0, 0, 0, 0)], 1)
+    for rule, t, l in ("a0 G[1,2]", 3, 2), ("a0 F[2,3] G[1,4]", 5, 3), ("a0 G[3,40] F", 64, 32), ("a0 F[63,63] a0 U", 64, 63):
+        mps_of_paper(t, 1, nodes_of(rule), l)
+    for t, l in (3, 1), (3, 2), (4, 1), (4, 2), (4, 3), (64, 1), (64, 2), (64, 32), (64, 63):
+        mps_of_paper(t, 2, paper.nodes_in(EVERY), l, more=1)
+
+
+def looping_judge():
+    say("By hand from the request (N8): `Fa0`, T 2, M 1, L 1: atoms, part, P, V; rows as written above")
+    judge(2, 1, 0, [ONE, 0, ONE, 0, ONE, ONE, ONE, 0], "p13,0", F_A0, 1)
+    judge(2, 1, 0, [0, ONE, 0, ONE, ONE, ONE, ONE, ONE], "p13,0", F_A0, 1)
+    judge(2, 1, 0, [0] * 8, "k12,1000000", F_A0, 1)
+    for place, row in (6, 2), (7, 5), (4, 6), (5, 9):
+        figures = [ONE] * 8
+        figures[place] = 0
+        judge(2, 1, 0, figures, f"k{row},1000000", F_A0, 1)
+    judge(2, 1, 0, [0, ONE, 0, ONE, ONE, ONE, 0, ONE], "k3,1000000", F_A0, 1)
+    judge(2, 1, 0, [ONE, 0, ONE, 0, ONE, 0, ONE, 0], "k10,1000000", F_A0, 1)
+    judge(2, 1, 0, [ONE, 0, ONE, 0, ONE, ONE, ONE, ONE], "k5,1000000", F_A0, 1)
+    judging_circles()
+    judging_seconds()
+    counting_figures()
+    say("By hand: `F[0,1]a0` and `G[0,1]a0`, T 2, M 1, L 1: at T the window looks at both slots")
+    judge(2, 1, 0, [ONE, 0, ONE, 0, ONE, ONE], "p9,0", window("F", 0, 1), 1)
+    judge(2, 1, 0, [ONE, 0, ONE, 0, ONE, 0], "k5,1000000", window("F", 0, 1), 1)
+    judge(2, 1, 0, [0, ONE, 0, ONE, ONE, 0], "k6,1000000", window("F", 0, 1), 1)
+    judge(2, 1, 0, [0, ONE, 0, ONE, 0, ONE], "k3,1000000", window("F", 0, 1), 1)
+    judge(2, 1, 0, [ONE, ONE, ONE, ONE, ONE, 0], "k7,1000000", window("G", 0, 1), 1)
+    judge(2, 1, 0, [0, ONE, 0, ONE, 0, ONE], "k5,1000000", window("G", 0, 1), 1)
+
+
+def judging_circles():
+    say("The request: a circle of ones, each P fed by the next, breaks a row whatever V is; a circle of zeros for G, and one of halves")
+    for v, row in ((0, 0), 11), ((ONE, 0), 4), ((ONE, ONE), 5), ((0, ONE), 3):
+        judge(2, 1, 0, [0, 0, 0, 0, ONE, ONE, *v], f"k{row},1000000", F_A0, 1)
+    for v, row in ((0, 0), 15), ((ONE, 0), 6), ((ONE, ONE), 8):
+        judge(2, 2, 0, [ONE, ONE, 0, 0, ONE, ONE, 0, 0, ONE, ONE, *v], f"k{row},1000000", UNTIL, 1)
+    for v, row in ((ONE, ONE), 11), ((0, ONE), 4), ((0, 0), 5):
+        judge(2, 1, 0, [ONE, ONE, ONE, ONE, 0, 0, *v], f"k{row},1000000", G_A0, 1)
+    judge(2, 1, 0, [0, 0, 0, 0, ONE // 2, ONE // 2, 0, 0], "k11,500000", F_A0, 1)
+    judge(2, 1, 0, [0, 0, 0, 0, ONE // 2, ONE // 2, ONE // 2, ONE // 2], "k5,500000", F_A0, 1)
+
+
+def judging_seconds():
+    say("By hand: `a0Ua1`, met after T; `Ga0`; figures of V outside, which are never not binary; nearly right and shortfalls")
+    met = [0, ONE, ONE, 0, 0, ONE, ONE, 0, ONE, ONE]
+    judge(2, 2, 0, met + [ONE, 0], "p18,0", UNTIL, 1)
+    for v, row in ((0, 0), 4), ((ONE, ONE), 8), ((0, ONE), 4):
+        judge(2, 2, 0, met + [*v], f"k{row},1000000", UNTIL, 1)
+    judge(2, 2, 0, met[:9] + [0, ONE, 0], "k16,1000000", UNTIL, 1)
+    judge(2, 1, 0, [ONE] * 8, "p13,0", G_A0, 1)
+    judge(2, 1, 0, [0, ONE, 0, ONE, 0, ONE, 0, ONE], "k10,1000000", G_A0, 1)
+    judge(2, 1, 0, [0, ONE, 0, ONE, 0, 0, 0, ONE], "k12,1000000", G_A0, 1)
+    for place, figure, e in (6, -1, 0), (7, ONE + 1, 0), (6, ONE + 1001, 1000), (7, -1001, 1000), (7, -(2**31), 1000), (6, 2**31 - 1, 0):
+        figures = [ONE] * 8
+        figures[place] = figure
+        judge(2, 1, e, figures, f"o{place}", F_A0, 1)
+    judge(2, 1, 0, [500000] + [ONE] * 6 + [-1], "o7", F_A0, 1)
+    judge(2, 1, 0, [ONE] * 6 + [500000, ONE], "k2,500000", F_A0, 1)
+    judge(2, 1, 0, [ONE] * 7 + [500000], "k5,500000", F_A0, 1)
+    judge(2, 1, 0, [ONE, 1] + [ONE] * 5 + [500000], "b1", F_A0, 1)
+    judge(2, 1, 1, [ONE] * 6 + [999999, ONE], "p13,12", F_A0, 1)
+    judge(2, 1, 1, [ONE] * 6 + [999999, ONE + 1], "k3,2", F_A0, 1)
+    judge(2, 1, 1, [ONE] * 6 + [999998, ONE], "k2,2", F_A0, 1)
+    judge(2, 1, 1000, [ONE] * 5 + [998999, ONE - 1000, ONE], "k9,1001", F_A0, 1)
+    judge(2, 1, 1000, [ONE] * 5 + [ONE - 1000, ONE + 1000, ONE], "k10,2000", F_A0, 1)
+
+
+def counting_figures():
+    say("By hand: the figure count grows by T for each V, and only where L is below T")
+    for count in 5, 6, 7, 9, 10, 0:
+        judge(2, 1, 0, [ONE] * count, "r9", F_A0, 1)
+    for count, answer in (6, "p7,0"), (8, "r9"), (7, "r9"):
+        judge(2, 1, 0, [ONE] * count, answer, F_A0, 2)
+    for l, count, answer in (
+        (1, 12, "p20,0"), (2, 12, "p20,0"), (1, 9, "r9"), (2, 11, "r9"), (2, 13, "r9"), (1, 15, "r9"), (3, 9, "p11,0"), (3, 12, "r9"),
+    ):
+        judge(3, 1, 0, [ONE] * count, answer, F_A0, l)
+    for count, answer in (12, "p23,0"), (8, "r9"), (10, "r9"), (11, "r9"), (13, "r9"), (14, "r9"):
+        judge(2, 1, 0, [ONE] * count, answer, GF_A0, 1)
+    for count, answer in (6, "p9,0"), (8, "r9"), (4, "r9"):
+        judge(2, 1, 0, [ONE] * count, answer, window("F", 0, 1), 1)
+    judge(2, 1, 1001, [ONE] * 8, "r10", F_A0, 1)
+    judge(2, 1, -1, [ONE] * 8, "r10", F_A0, 1)
+    judge(2, 1, 1001, [ONE] * 6, "r9", F_A0, 1)
+
+
+# As ERRORS, with L before the run: V is worked out from its last slot, then P, which at T counts V at L.
+LOOPED_ERRORS = (
+    (12, 2, 1, [0, 1], F_A0),  # V 3 and 6, P 1 + 2 + 6 and 1 + 2 + 9
+    (6, 2, 2, [0, 1], F_A0),
+    (18, 3, 1, [0, 1, 0], F_A0),  # V 3, 6 and 9, P 12, 15 and 18
+    (15, 3, 2, [0, 1, 0], F_A0),  # P 1 + 2 + 6, 12 and 15
+    (12, 2, 1, [1, 1], G_A0),
+    (384, 64, 1, [1] * 64, G_A0),  # V 192, and 64 times 3
+    (381, 64, 2, [0] * 63 + [1], F_A0),
+    (291, 64, 32, [0] * 63 + [1], F_A0),
+    (198, 64, 63, [1] * 64, G_A0),
+    (18, 2, 1, [1, 2], UNTIL),  # V 3 and 8, P 1 + 2 + 2 + 8 and 18
+    (28, 3, 1, [1, 1, 2], UNTIL),
+    (23, 3, 2, [1, 1, 2], UNTIL),
+    (638, 64, 1, [1] * 63 + [2], UNTIL),  # V 318, and 64 times 5
+    (633, 64, 2, [1] * 63 + [2], UNTIL),
+    (483, 64, 32, [1] * 63 + [2], UNTIL),
+    (328, 64, 63, [1] * 63 + [2], UNTIL),
+    (18, 2, 1, [1, 0], table((1, 0, 0), (8, 0, 0))),  # p twice, in p + p - P
+    (21, 2, 1, [0, 2], rule("a0 ! a1 U")),  # V 3 and 9, P 1 + 3 + 2 + 9 and 21: at T p counts too
+    (46, 2, 1, [1, 0], GF_A0),  # F 12 and 9; V of G 10 and 23, P 1 + 9 + 23 and 1 + 12 + 33
+    (13, 2, 1, [0, 0], rule("a0 F !")),
+    (2, 2, 1, [2, 0], table((1, 0, 0), (6, 0, 0), (7, 1, 0), (1, 1, 0))),  # the root does not use the others
+    (5, 2, 1, [1, 0], window("F", 0, 1)),
+    (6, 2, 1, [1, 0], rule("a0 F[0,1] F[1,1]")),  # F[0,1] 5 at both slots
+    (5, 3, 2, [0, 1, 1], window("G", 1, 63)),  # slots 2 and 3, once each
+    (7, 3, 1, [1, 1, 1], window("G", 1, 63)),
+    (16, 2, 1, [1, 0], rule("a0 F[1,1] F")),  # V 4 and 8, P 12 and 16
+    (22, 2, 1, [1, 0], rule("a0 F F[1,3]")),  # 1 + 12 + 9
+)
+
+
+def looping_errors():
+    say("By hand from the request (N8): the root's error figure at slot 1, V counted from its rows, P at T from p, q and V at L")
+    for times, t, l, run, records in LOOPED_ERRORS:
+        m = max(1, max(run).bit_length(), *(left + 1 for kind, left, *_ in paper.nodes_in(records) if kind == 1))
+        for e in (1,) if t == 64 else (1, 1000):
+            passes(t, m, e, run, times * e, records, l)
+    say("By hand: `GFa0`, T 64, L 1: F at slot t has 192 and 3 for each slot from it, V of G 18592 and P twice that; about 500,000 and the stop")
+    for e, error in (1, 37184), (13, 483392), (14, 520576), (26, 966784), (27, ONE), (1000, ONE), (0, 0):
+        passes(64, 1, e, [0] * 63 + [1], error, GF_A0, 1)
+    say("By hand: until of one part on both sides, 127 times, T 64, M 16: 17,344 figures, of which V has 8,128")
+    for l, e, figures, answer in (
+        (1, 0, [ONE] * 17344, "p64708,0"), (63, 1, [ONE] * 17344, "p64708,1000000"), (1, 0, [ONE] * 17343, "r9"), (63, 0, [ONE] * 9216, "r9"),
+        (1, 0, [ONE] * 17343 + [ONE + 1], "o17343"), (1, 0, [ONE] * 17343 + [0], f"k{64 + 126 * 509 + 252},1000000"),
+    ):
+        judge(64, 16, e, figures, answer, LONGEST[1], l)
+    say("Of the request's words: tables and runs of chance that loop, figures put off as far as the others let them, and one further")
+    rng = random.Random(18)
+    for _ in range(16):
+        t, m, e = rng.choice((2, 3, 3, 4)), rng.choice((1, 1, 2)), rng.choice((1, 10, 100, 999, 1000))
+        nodes, run = chance_nodes(rng, rng.randint(3, 5), m), [rng.getrandbits(m) for _ in range(t)]
+        put_off(rng, t, m, e, [*nodes, (rng.choice((6, 7, 8)), len(nodes) - 1, 0, 0, 0)], run, rng.randrange(1, t))
+    say("Of the paper's words: the rules of every kind and of windows, T 4, M 3, for each L: truths, and the figures that they make")
+    for records in MIXED, WINDOWED:
+        for l, run in (1, [4, 7, 6, 1]), (2, [5, 4, 1, 2]), (3, [1, 4, 3, 0]):
+            evaluate_of_paper(4, 3, run, records, l=l)
+            judge_of_paper(4, 3, 0, exact(3, run, paper.nodes_in(records), l), paper.nodes_in(records), l)
+
+
+def spin_lines():
+    """(T, L or None, M, run, bits, text) of each line of tests/spin.txt."""
+    for line in (TOP / "tests" / "spin.txt").read_text().splitlines():
+        horizon, m, run, bits, words = line.split(" ", 4)
+        t, _, l = horizon.partition(">")
+        yield int(t), int(l) if l else None, int(m), tuple(int(number) for number in run.split(",")), bits, words
+
+
 def of_spin():
     say("From SPIN (tests/spin.txt), the root's truth at the slots asked; the tables, and the other truths, of the paper's words")
-    for line in (TOP / "tests" / "spin.txt").read_text().splitlines():
-        t, m, run, bits, text = line.split(" ", 4)
-        t, m, run, nodes = int(t), int(m), [int(number) for number in run.split(",")], paper.parse(text)
-        case("read", [1024, m], text.encode(), f"value {len(nodes)}", lent(1024, paper.table(nodes)))
-        *parts, root = paper.run_truth(nodes, m, run)
-        root = [int(own if bit == "-" else bit) for own, bit in zip(root, bits)]
-        evaluate(t, m, len(nodes), f"v{root[0]}", run, as_text([*parts, root]), paper.table(nodes))
+    for t, l, m, run, bits, words in spin_lines():
+        if l is None:
+            nodes = paper.parse(words)
+            case("read", [1024, m], words.encode(), f"value {len(nodes)}", lent(1024, paper.table(nodes)))
+            *parts, root = paper.run_truth(nodes, m, run)
+            root = [int(own if bit == "-" else bit) for own, bit in zip(root, bits)]
+            evaluate(t, m, len(nodes), f"v{root[0]}", run, as_text([*parts, root]), paper.table(nodes))
+
+
+def joined(rules):
+    """The nodes of several rules in one table, equal parts once, and the number of each rule's root."""
+    numbers, roots = {}, []
+    for rule in rules:
+        places = []
+        for kind, left, right, a, b in rule:
+            node = (kind, left if kind == 1 else places[left], places[right] if kind in paper.DOUBLE.values() else 0, a, b)
+            places.append(numbers.setdefault(node, len(numbers)))
+        roots.append(places[-1])
+    return list(numbers), roots
+
+
+def of_spin_loops():
+    say("From SPIN, runs that loop to L (request N8): the truth of each rule at all slots; the rules over one run stand in one table, equal\n"
+        "parts once. The tables, and the truths of the other parts, of the paper's words")
+    loops = [line for line in spin_lines() if line[1] is not None]
+    for (t, l, m, run), lines in itertools.groupby(loops, key=lambda line: line[:4]):
+        *_, bits, words = zip(*lines)
+        nodes, roots = joined(map(paper.parse, words))
+        truths = paper.run_truth(nodes, m, run, l)
+        for root, of_root in zip(roots, bits, strict=True):
+            truths[root] = [int(bit) for bit in of_root]
+        evaluate(t, m, len(nodes), f"v{int(truths[-1][0])}", run, as_text(truths), paper.table(nodes), l)
 
 
 def largest():
@@ -1661,6 +2058,20 @@ def largest():
     mps(64, 16, len(page), f"n{len(page)}", page, paper.table(nodes[:22]))
     mps(64, 16, len(page) - 1, "r11", "", paper.table(nodes[:22]))
     mps(64, 16, 4194296, "r11", "", paper.table(nodes))
+
+
+def largest_loops():
+    say("Of the paper's words (request N8): the same of until with L 1 and 63, with a V for each; the page of the first 64 nodes.\n"
+        "Of [0,63] with L 1, where each window looks at all slots, the first 64 nodes: the rows of all 128 are longer than what can be lent")
+    nodes = [(1, 0, 0, 0, 0)] + [(8, child, child, 0, 0) for child in range(127)]
+    for l in 1, 63:
+        rows_of_paper(64, 16, nodes, l)
+    rows(64, 16, 856945, "r11", [], paper.table(nodes), 1)
+    mps_of_paper(64, 16, nodes[:64], 2)
+    nodes = [(1, 15, 0, 0, 0)] + [(10, child, 0, 0, 63) for child in range(127)]
+    rows_of_paper(64, 16, nodes[:64], 1)
+    rows(64, 16, 3645639, "r11", [], paper.table(nodes[:64]), 1)
+    rows(64, 16, 4194296, "r11", [], paper.table(nodes), 1)
 
 
 def summing():
@@ -1709,8 +2120,16 @@ def main():
     judging_near()
     judging_untrue()
     judging_by_chance()
+    looping_truths()
+    refusing_loops()
+    looping_rows()
+    looping_pages()
+    looping_judge()
+    looping_errors()
     of_spin()
+    of_spin_loops()
     largest()
+    largest_loops()
     summing()
     for name, lines in ("stdin", CASES), ("stdout", PRINTED):
         write_or_check(f"crates/known/{name}", "".join(line + "\n" for line in lines))

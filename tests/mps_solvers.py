@@ -1,17 +1,22 @@
 #!/usr/bin/env python3
-"""Holds the pages of the program mpspage to three solvers: GLPK, lp_solve and CBC.
+"""Holds the pages of the program mpspage, or of the library, to three solvers: GLPK, lp_solve and CBC.
 
     python3 tests/mps_solvers.py [--rules N] [--seed S] [--program COMMAND]
+    python3 tests/mps_solvers.py [--rules N] [--seed S] --library LIB.so
 
 Needs glpsol, lp_solve and cbc (Debian's packages glpk-utils, lp-solve and coinor-cbc). Made and tried with
     GLPK 5.0, lp_solve 5.5.2.5, CBC 2.10.8, Python 3.11.7
 
+The program has no loop slot (L is T). With --library the pages come from the C boundary, and L is by chance from 1 to T:
+    rt staticlib sepia
+    gcc -shared -o LIB.so -Wl,--whole-archive target/staticlib/libsepia.a -Wl,--no-whole-archive
+
 For each of N random rules (300, or as asked) of at most 8 atom variables:
   - the rows, the page and the truth are worked out here, from the papers' words and without the toolkit's code;
-  - the page that the program writes must be that page, byte for byte;
+  - the page that is written must be that page, byte for byte;
   - each solver reads the page and writes what it understood: these must be the same rows, limits and whole variables;
-  - each solver solves it: there must be a schedule exactly when some run satisfies the rule at slot 1, and then the
-    solver's atoms must be such a run and each slack the truth of its part.
+  - each solver solves it: there must be a schedule exactly when some run, which loops to L, satisfies the rule at slot 1, and
+    then the solver's atoms must be such a run and each slack the truth of its part, V among them.
 
 CBC's writer leaves out a variable that stands in no row. For CBC such a variable is compared by the counts that it says
 it read and by its place in the solution, and not by its limits.
@@ -20,6 +25,7 @@ The first difference ends the script with 1 and names the rule.
 """
 
 import argparse
+import ctypes
 import gzip
 import itertools
 import math
@@ -32,7 +38,7 @@ import tempfile
 from collections import Counter
 from pathlib import Path
 
-from paper import Model, expected_model, expected_page, parse, truth
+from paper import RECORD, Model, expected_model, expected_page, parse, slack_truth, truth, variable_count
 
 PROGRAM = Path(__file__).resolve().parent.parent / "mpspage"
 CLOSE = 1e-5  # how near a solver's figure must be: lp_solve prints six digits
@@ -40,9 +46,9 @@ CLOSE = 1e-5  # how near a solver's figure must be: lp_solve prints six digits
 # ------------------------------------------------------------------------------------------------------- the rules
 
 
-def satisfiable(nodes, t, m):
+def satisfiable(nodes, t, m, l):
     for bits in itertools.product((False, True), repeat=m * t):
-        if truth(nodes, [bits[a * t : (a + 1) * t] for a in range(m)])[-1][0]:
+        if truth(nodes, [bits[a * t : (a + 1) * t] for a in range(m)], l)[-1][0]:
             return True
     return False
 
@@ -72,8 +78,8 @@ def random_single(rng):
     return f"{operator}[{rng.randint(0, last)},{last}]"
 
 
-def random_case(rng):
-    t = rng.randint(1, 4)
+def random_case(rng, longest):
+    t = rng.randint(1, longest)
     m = rng.randint(1, 8 // t)
     if rng.random() < 0.2:  # no run satisfies these
         part = f"({random_rule(rng, rng.randint(1, 4), m)})"
@@ -84,6 +90,30 @@ def random_case(rng):
     if rng.random() < 0.3:
         text = "".join(token + " " * rng.randint(0, 2) for token in re.findall(r"a?\d+|.", text))
     return t, m, text
+
+
+# ------------------------------------------------------------------------------------------------------- the pages
+
+
+class Answer(ctypes.Structure):
+    _fields_ = (("refusal", ctypes.c_uint32), ("value", ctypes.c_uint32))
+
+
+def program_page(command, t, m, l, text):
+    return subprocess.run(command, input=f"{t} {m}\n{text}\n".encode(), stdout=subprocess.PIPE, check=True).stdout
+
+
+def library_page(library, t, m, l, text):
+    """The page of the table that the library reads, over its C boundary."""
+    size, bytes_of = ctypes.c_size_t, ctypes.c_char_p
+    for call, arguments in (library.sepia_read, (bytes_of, size, size)), (library.sepia_mps, (bytes_of, size, size, size, size)):
+        call.restype, call.argtypes = Answer, (*arguments, bytes_of, size)
+    table, page = (ctypes.create_string_buffer(length) for length in (1024, 1 << 20))
+    read = library.sepia_read(text.encode(), len(text), m, table, len(table))
+    same("the reader's refusal", read.refusal, 0)
+    written = library.sepia_mps(table.raw, RECORD * read.value, t, m, l, page, len(page))
+    same("the page's refusal", written.refusal, 0)
+    return page.raw[: written.value]
 
 
 # ------------------------------------------------------------------------------------------------------- the solvers
@@ -215,57 +245,71 @@ def check_model(solver, found, said, wanted):
         same(f"limits of {variable}", found.limits[variable], limit)
 
 
-def check_values(values, nodes, t, m):
+def check_values(values, nodes, t, m, l):
     """The atoms of a schedule must be a run that satisfies the rule, and the slacks the truth of the parts."""
-    same("variables with a value", sorted(values), sorted(f"X{number}" for number in range((m + len(nodes)) * t)))
+    same("variables with a value", sorted(values), sorted(f"X{number}" for number in range(variable_count(nodes, t, m, l))))
     atoms = [[round(values[f"X{a * t + slot}"]) == 1 for slot in range(t)] for a in range(m)]
-    truths = truth(nodes, atoms)
-    same("the rule holds over the schedule", truths[-1][0], True)
+    truths = slack_truth(nodes, atoms, l)
+    same("the rule holds over the schedule", truths[len(nodes) - 1][0], True)
     for number, of_slots in enumerate(atoms + truths):
         for slot, holds in enumerate(of_slots):
             variable = f"X{number * t + slot}"
             same(f"value {values[variable]} of {variable} is {int(holds)}", abs(values[variable] - holds) < CLOSE, True)
 
 
+def check_page(page, model):
+    wanted = expected_page(model).encode()
+    for number, lines in enumerate(zip(page.splitlines(True), wanted.splitlines(True)), 1):
+        same(f"line {number}", *lines)
+    same("bytes of the page", len(page), len(wanted))
+
+
+def solved(solver, page):
+    with tempfile.TemporaryDirectory() as folder:
+        files = [Path(folder, name) for name in ("page.mps", "back.mps", "solution")]
+        files[0].write_bytes(page)
+        return solver(*files)
+
+
 def main():
-    parser = argparse.ArgumentParser(description="Holds the pages of mpspage to GLPK, lp_solve and CBC.")
+    parser = argparse.ArgumentParser(description="Holds the pages of mpspage, or of the library, to GLPK, lp_solve and CBC.")
     parser.add_argument("--rules", type=int, default=300, metavar="N")
     parser.add_argument("--seed", type=int, default=1, metavar="S")
     parser.add_argument("--program", default=shlex.quote(str(PROGRAM)), metavar="COMMAND")
+    parser.add_argument("--library", dest="built", metavar="LIB.so")
     options = parser.parse_args()
-    program, rng = shlex.split(options.program), random.Random(options.seed)
+    rng = random.Random(options.seed)
+    source, ask = "mpspage", lambda *case: program_page(shlex.split(options.program), *case)
+    if options.built:
+        library = ctypes.CDLL(str(Path(options.built).resolve()))
+        source, ask = "the library", lambda *case: library_page(library, *case)
     counts = {solver: Counter() for solver in SOLVERS}
-    kinds = Counter()
+    kinds, looping = Counter(), 0
     for _ in range(options.rules):
-        t, m, text = random_case(rng)
+        t, m, text = random_case(rng, 6 if options.built else 4)
+        l = rng.randint(1, t) if options.built else t
         nodes = parse(text)
         kinds.update({kind for kind, *_ in nodes})
-        model = expected_model(nodes, t, m)
-        who = "mpspage"
+        looping += l < t
+        model = expected_model(nodes, t, m, l)
+        who = source
         try:
-            asked = f"{t} {m}\n{text}\n".encode()
-            page = subprocess.run(program, input=asked, stdout=subprocess.PIPE, check=True).stdout
-            wanted = expected_page(model).encode()
-            for number, lines in enumerate(zip(page.splitlines(True), wanted.splitlines(True)), 1):
-                same(f"line {number}", *lines)
-            same("bytes of the page", len(page), len(wanted))
-            exists = satisfiable(nodes, t, m)
+            page = ask(t, m, l, text)
+            check_page(page, model)
+            exists = satisfiable(nodes, t, m, l)
             for solver in SOLVERS:
                 who = solver.__name__
-                with tempfile.TemporaryDirectory() as folder:
-                    files = [Path(folder, name) for name in ("page.mps", "back.mps", "solution")]
-                    files[0].write_bytes(page)
-                    found, values, said = solver(*files)
+                found, values, said = solved(solver, page)
                 check_model(solver, found, said, model)
                 same("a schedule is found", values is not None, exists)
                 if values is not None:
-                    check_values(values, nodes, t, m)
+                    check_values(values, nodes, t, m, l)
                 counts[solver]["read"] += 1
                 counts[solver]["found" if exists else "none"] += 1
         except Difference as difference:
-            sys.exit(f"{who} differs for T {t}, M {m}, rule {text!r}: {difference}")
+            sys.exit(f"{who} differs for T {t}, M {m}, L {l}, rule {text!r}: {difference}")
     print(f"seed {options.seed}: {options.rules} rules; " + ", ".join(f"{kinds[n]} with kind {n}" for n in range(1, 11)))
-    print(f"mpspage: {options.rules} pages as expected, byte for byte")
+    print(f"{source}: {options.rules} pages as expected, byte for byte, {looping} with L below T")
     for solver, count in counts.items():
         outcomes = f"{count['found']} schedules found, {count['none']} with none"
         print(f"{solver.__name__}: {count['read']} pages read back, {outcomes}")

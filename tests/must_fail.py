@@ -62,6 +62,13 @@ NAMED = {
         "the root at slot T",
         "1,000,000 for 500,000",
     ),
+    "N8": (
+        "P at T linked straight to P at L",
+        "V rows left out",
+        "V at T instead of at L",
+        "a window's slot counted twice",
+        "13 after 7",
+    ),
 }
 DEMANDS = ("demand 1", "demand 2", "demand 3")
 MOST = 300  # characters of what the prover says

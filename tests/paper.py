@@ -1,4 +1,7 @@
-"""The papers' words in Python, without the toolkit's code: node tables, truth, rows and pages, for the scripts beside it."""
+"""The papers' words in Python, without the toolkit's code: node tables, truth, rows and pages, for the scripts beside it.
+
+Slots count from 1 where they are handed over, as L is, and from 0 within. A function that takes L takes T for it where none is
+given (request N8: with L equal to T everything is as it was)."""
 
 import re
 import sys
@@ -79,38 +82,74 @@ def reading(text, m, room):
     return next((number for number, applies in checks if applies), nodes)
 
 
-def window_slots(t, slot, a, b):
-    """The different slots that a window looks at, lowest first, counted from 0: one after the last counts as the last."""
-    return sorted({min(slot + offset, t - 1) for offset in range(a, b + 1)})
+def slot_at(t, l, time):
+    """The slot of a time: the times up to T are the slots, and after T comes L again."""
+    return time if time < t else l - 1 + (time - t) % (t - l + 1)
 
 
-def truth(nodes, atoms):
-    """For each node its truth at each slot, where atoms[a] has those of atom a. After the last slot nothing changes, so
-    what holds at some or at every later slot is found among the slots up to the last."""
-    slots = range(len(atoms[0]))
+def window_slots(t, l, slot, a, b):
+    """The different slots that a window looks at, lowest first."""
+    return sorted({slot_at(t, l, slot + offset) for offset in range(a, b + 1)})
+
+
+def onwards(kind, p, q, ahead):
+    """The truth of F, G or U at the first of these slots, where the others come after it, in this order."""
+    if kind == EVENTUALLY:
+        return any(p[k] for k in ahead)
+    if kind == ALWAYS:
+        return all(p[k] for k in ahead)
+    return any(q[k] and all(p[j] for j in ahead[:before]) for before, k in enumerate(ahead))
+
+
+def truth(nodes, atoms, l=None):
+    """For each node its truth at each slot of the run that loops to L, where atoms[a] has the truths of atom a. A slot that comes at
+    all comes within 2T times, so what holds at some or at every later time is found among these."""
+    t = len(atoms[0])
+    l = t if l is None else l
+    ahead = [[slot_at(t, l, slot + later) for later in range(2 * t)] for slot in range(t)]
     truths = []
     for kind, left, right, a, b in nodes:
         p = atoms[left] if kind == ATOM else truths[left]
         q = None if kind == ATOM else truths[right]
         holds = {
-            ATOM: lambda t: p[t],
-            NOT: lambda t: not p[t],
-            AND: lambda t: p[t] and q[t],
-            OR: lambda t: p[t] or q[t],
-            IMPLIES: lambda t: not p[t] or q[t],
-            EVENTUALLY: lambda t: any(p[k] for k in slots[t:]),
-            ALWAYS: lambda t: all(p[k] for k in slots[t:]),
-            UNTIL: lambda t: any(q[k] and all(p[j] for j in slots[t:k]) for k in slots[t:]),
-            WITHIN: lambda t: any(p[k] for k in window_slots(len(slots), t, a, b)),
-            THROUGHOUT: lambda t: all(p[k] for k in window_slots(len(slots), t, a, b)),
-        }[kind]
-        truths.append([holds(t) for t in slots])
+            ATOM: lambda s: p[s],
+            NOT: lambda s: not p[s],
+            AND: lambda s: p[s] and q[s],
+            OR: lambda s: p[s] or q[s],
+            IMPLIES: lambda s: not p[s] or q[s],
+            WITHIN: lambda s: any(p[k] for k in window_slots(t, l, s, a, b)),
+            THROUGHOUT: lambda s: all(p[k] for k in window_slots(t, l, s, a, b)),
+        }.get(kind, lambda s: onwards(kind, p, q, ahead[s]))
+        truths.append([holds(slot) for slot in range(t)])
     return truths
 
 
-def run_truth(nodes, m, run):
-    """The truth over a run of numbers, where bit a of a slot's number is that of atom a."""
-    return truth(nodes, [[number >> atom & 1 == 1 for number in run] for atom in range(m)])
+def has_second(kind):
+    """Request N8: whether a node of this kind has a second set of slacks V, where L is below T."""
+    return kind in (EVENTUALLY, ALWAYS, UNTIL)
+
+
+def second_truth(nodes, truths):
+    """For each V, in node order, its truth at each slot t: that of its F, G or U with k kept to the slots t to T, where the parts
+    have these truths."""
+    slots = range(len(truths[0]))
+    own = [(kind, truths[left], truths[right]) for kind, left, right, *_ in nodes if has_second(kind)]
+    return [[onwards(kind, p, q, slots[slot:]) for slot in slots] for kind, p, q in own]
+
+
+def slack_truth(nodes, atoms, l=None):
+    """The truth of the slacks, in the order of their variables: the nodes, and where L is below T each V."""
+    truths = truth(nodes, atoms, l)
+    return truths + second_truth(nodes, truths) if l not in (None, len(atoms[0])) else truths
+
+
+def run_atoms(m, run):
+    """For each atom its truth at each slot of a run of numbers: bit a of a slot's number is that of atom a."""
+    return [[number >> atom & 1 == 1 for number in run] for atom in range(m)]
+
+
+def run_truth(nodes, m, run, l=None):
+    return truth(nodes, run_atoms(m, run), l)
 
 
 def truth_bytes(truths):
@@ -179,24 +218,26 @@ def good(data, m):
     return [record[7] for record in records] == heights(nodes_in(data))
 
 
-def refusal(t, m, data):
+def refusal(t, m, data, l=None):
     """The first of the checks that all calls but read share, or None."""
     if not 1 <= t <= 64:
         return 1
     if not 1 <= m <= 16:
         return 2
+    if l is not None and not 1 <= l <= t:
+        return 13
     return None if good(data, m) else 7
 
 
-def evaluation(t, m, data, run, room):
+def evaluation(t, m, data, run, room, l=None):
     """The evaluator's refusal, the first that applies, or the words; room is counted in words."""
-    found = refusal(t, m, data)
+    found = refusal(t, m, data, l)
     if found is not None:
         return found
     if len(run) != t or any(number >= 2**m for number in run):
         return 8
     nodes = nodes_in(data)
-    return 11 if room < len(nodes) else words(run_truth(nodes, m, run))
+    return 11 if room < len(nodes) else words(run_truth(nodes, m, run, l))
 
 
 # The rows at a slot as the scope paper has them; LAST are those at slot T.
@@ -235,32 +276,49 @@ def row_over(row, variables):
     return relation, right, [(coefficient, variables[place]) for coefficient, place in terms]
 
 
-def rows_at(nodes, t, m, number, slot):
-    """The rows of a node at a slot, as (relation, right side, terms), a term as (coefficient, variable)."""
+def seconds(nodes, t, m, l):
+    """By node that has a V the variable of its V at slot 1: V is numbered on after the nodes, in node order. None where L is T."""
+    owners = [number for number, (kind, *_) in enumerate(nodes) if has_second(kind)]
+    return {} if l in (None, t) else {number: (m + len(nodes) + j) * t for j, number in enumerate(owners)}
+
+
+def variable_count(nodes, t, m, l=None):
+    return (m + len(nodes)) * t + len(seconds(nodes, t, m, l)) * t
+
+
+def slack_rows(nodes, t, m, number, l=None):
+    """The rows of each slack of a node, by its variable: a row as (relation, right side, terms), a term as (coefficient, variable).
+    Those of V, by slot, stand before those of P. V has the rows that P had before request N8; P then has the rows for t < T at
+    every slot, and at T its P' is V at L."""
     kind, left, right, a, b = nodes[number]
-    own = (m + number) * t + slot
+    own, p, q = (m + number) * t, (left if kind == ATOM else m + left) * t, (m + right) * t
     if kind in (WITHIN, THROUGHOUT):
-        return window_rows(kind, own, [(m + left) * t + s for s in window_slots(t, slot, a, b)])
-    p = (left if kind == ATOM else m + left) * t + slot
-    variables = {"P": own, "P'": own + 1, "p": p, "q": (m + right) * t + slot}
-    return [row_over(row, variables) for row in (ROWS if slot < t - 1 else LAST)[kind].split("; ")]
+        looked_at = [window_slots(t, t if l is None else l, slot, a, b) for slot in range(t)]
+        return {own + slot: window_rows(kind, own + slot, [p + s for s in slots]) for slot, slots in enumerate(looked_at)}
+    second = seconds(nodes, t, m, l).get(number)
+    found = {}
+    for first, after_last in [(own, None)] if second is None else [(second, None), (own, second + l - 1)]:
+        for slot in range(t):
+            after = first + slot + 1 if slot < t - 1 else after_last
+            variables = {"P": first + slot, "P'": after, "p": p + slot, "q": q + slot}
+            found[first + slot] = [row_over(row, variables) for row in (LAST if after is None else ROWS)[kind].split("; ")]
+    return found
 
 
-def rows(nodes, t, m):
+def rows(nodes, t, m, l=None):
     """All rows, in the order of the paper."""
-    found = [row for number in range(len(nodes)) for slot in range(t) for row in rows_at(nodes, t, m, number, slot)]
-    return [*found, row_over("P = 1", {"P": (m + len(nodes) - 1) * t})]
+    slacks = [of_slack for number in range(len(nodes)) for of_slack in slack_rows(nodes, t, m, number, l).values()]
+    return [*(row for of_slack in slacks for row in of_slack), row_over("P = 1", {"P": (m + len(nodes) - 1) * t})]
 
 
-def error_figures(nodes, t, m, e):
-    """Request N7: by variable its error figure. The parts of a node are below it and P' is a slot later, so nodes in number
-    order and slots from the last one find the figures that they count."""
-    figures = [e] * (m * t) + [None] * (len(nodes) * t)
+def error_figures(nodes, t, m, e, l=None):
+    """Request N7: by variable its error figure. The parts of a node are below it, P' is a slot later, and at T it is of the node's V,
+    whose variables come after: so nodes in number order, and the slacks of one from the last, find the figures that they count."""
+    figures = [e] * (m * t) + [None] * (variable_count(nodes, t, m, l) - m * t)
     for number in range(len(nodes)):
-        for slot in reversed(range(t)):
-            own = (m + number) * t + slot
+        for own, found in sorted(slack_rows(nodes, t, m, number, l).items(), reverse=True):
             most = Counter()  # how often each variable stands in that row where it stands most often
-            for _, _, terms in rows_at(nodes, t, m, number, slot):
+            for _, _, terms in found:
                 most |= Counter(variable for _, variable in terms)
             others = sum(count * figures[variable] for variable, count in most.items() if variable != own)
             figures[own] = min(ONE, e + others)
@@ -275,7 +333,7 @@ def record(row):
     return bytes(data)
 
 
-def verdict(nodes, t, m, figures, e):
+def verdict(nodes, t, m, figures, e, l=None):
     """The judge's verdict, in words."""
     for variable, figure in enumerate(figures):
         if not -e <= figure <= ONE + e:
@@ -283,13 +341,24 @@ def verdict(nodes, t, m, figures, e):
     for variable, figure in enumerate(figures[: m * t]):
         if abs(figure) > e and abs(figure - ONE) > e:
             return f"not binary {variable}"
-    found = rows(nodes, t, m)
+    found = rows(nodes, t, m, l)
     for number, (relation, right, terms) in enumerate(found):
         short = right * ONE - sum(coefficient * figures[variable] for coefficient, variable in terms)
         short = abs(short) if relation == "=" else short
         if short > e:
             return f"broken {number} shortfall {short}"
-    return f"passed {len(found)} error {error_figures(nodes, t, m, e)[(m + len(nodes) - 1) * t]}"
+    return f"passed {len(found)} error {error_figures(nodes, t, m, e, l)[(m + len(nodes) - 1) * t]}"
+
+
+def judgement(t, m, data, figures, e, l=None):
+    """The judge's refusal, the first that applies, or the verdict."""
+    found = refusal(t, m, data, l)
+    if found is not None:
+        return found
+    nodes = nodes_in(data)
+    if len(figures) != variable_count(nodes, t, m, l):
+        return 9
+    return verdict(nodes, t, m, figures, e, l) if 0 <= e <= 1000 else 10
 
 
 def rounded(t, m, figures):
@@ -306,7 +375,7 @@ def row_text(row):
 def listing(nodes, t, m):
     """What rowlist prints."""
     found = rows(nodes, t, m)
-    lines = [f"rows {len(found)} vars {(m + len(nodes)) * t}", *(f"{i} {row_text(row)}" for i, row in enumerate(found))]
+    lines = [f"rows {len(found)} vars {variable_count(nodes, t, m)}", *(f"{i} {row_text(row)}" for i, row in enumerate(found))]
     return "".join(line + "\n" for line in lines)
 
 
@@ -318,15 +387,15 @@ class Model:
         self.rows, self.limits = {}, {}
 
 
-def expected_model(nodes, t, m):
+def expected_model(nodes, t, m, l=None):
     model = Model()
-    for i, (relation, right, terms) in enumerate(rows(nodes, t, m)):
+    for i, (relation, right, terms) in enumerate(rows(nodes, t, m, l)):
         sums = Counter()
         for coefficient, variable in terms:
             sums[f"X{variable}"] += coefficient
         coefficients = {name: value for name, value in sums.items() if value != 0}
         model.rows[f"R{i}"] = ("E" if relation == "=" else "G", right, coefficients)
-    for variable in range((m + len(nodes)) * t):
+    for variable in range(variable_count(nodes, t, m, l)):
         model.limits[f"X{variable}"] = (0, 1, variable < m * t)
     return model
 

@@ -10,21 +10,22 @@ by the variable SPIN. The file in the repository was made with
     spin -V         Spin Version 6.5.2 -- 6 December 2019
     gcc --version   gcc (Debian 12.2.0-14+deb12u1) 12.2.0
     python3 -V      Python 3.11.7
-The rules and runs come from the two seeds alone, so the same file comes out each time. Debian's spin gave the lines before
+The rules and runs come from the three seeds alone, so the same file comes out each time. Debian's spin gave the lines before
 those with windows.
 
-A line is one rule over one run:
+A line is one rule over one run; in the second form slot L, which is below T, comes again after slot T (request N8):
 
     T M n1,n2,..,nT BITS RULE
+    T>L M n1,n2,..,nT BITS RULE
 
 n1.. are the run's numbers, BITS has a character for each slot (0, 1, or - where SPIN was not asked), RULE is the
 rest of the line. The rules are made as trees. Their text is written for the toolkit's reader, with the brackets
 that its grammar needs, some with more, and with spaces. SPIN gets the tree with every operation in brackets, so its
 own precedence plays no part.
 
-The model has one endless execution: the run slot by slot, the last slot for ever. `v` is the run's number and `s`
-the slot. For each rule and slot there are two claims: at s the rule holds, and at s its negation holds. SPIN must
-find exactly one of them true; a claim that is true for want of a check would show as two true ones.
+The model has one endless execution: the run slot by slot, then the slots L to T for ever, or the last slot. `v` is the run's
+number and `s` the slot. For each rule and slot there are two claims: at s the rule holds, and at s its negation holds, each
+time that s comes. SPIN must find exactly one of them true; a claim that is true for want of a check would show as two true ones.
 
 A step of the model is a slot, so F[a,b] p is a times X before p || X (p || X ..), and G[a,b] p the same with &&: the slots
 after the last are those of the model, and nothing of it is worked out here. Such models are checked without SPIN's
@@ -45,8 +46,11 @@ from data_file import write_or_check
 SPIN = os.environ.get("SPIN", "spin")
 SEED = 20261115
 WINDOW_SEED = 20261116
+LOOP_SEED = 20261117
 TREES_PER_RUN = 8
 WINDOW_TREES_PER_RUN = 6
+LOOP_TREES_PER_RUN = 4
+LONGEST_LOOPED = 8  # the largest T of the runs that loop
 CHAINS = ("U", ">", ">|&U")  # the operators of three more rules for each run, without brackets
 LARGEST_DEPTH = 6
 MOST_WEIGHT = 6  # SPIN's automata grow fast with the number of F, G and U
@@ -99,6 +103,34 @@ WINDOWS = [
     (("G[5,8]", A0), "G[5,8]a0"),
 ]
 WINDOW_RUNS = [[1], [2], [1, 2], [2, 1], [1, 0, 2], [0, 1, 3], [3, 2, 0], [0, 0, 1, 2], [2, 0, 1, 1, 0, 1, 1, 1, 1, 2]]
+
+# Rules whose truth a loop may turn, without and with windows, each over the runs of LOOP_RUNS, where L stands behind the run.
+NOT_A0 = ("!", A0)
+LOOPED = [
+    (("F", A0), "Fa0"),
+    (("G", A0), "Ga0"),
+    (U01, "a0Ua1"),
+    (("U", A1, A0), "a1Ua0"),
+    (("G", ("F", A0)), "GFa0"),
+    (("F", ("G", A0)), "FGa0"),
+    (("!", ("U", NOT_A0, A1)), "!(!a0Ua1)"),
+    (("G", (">", A0, ("F", A1))), "G(a0>Fa1)"),
+    (("U", A0, ("U", A1, NOT_A0)), "a0Ua1U!a0"),
+]
+LOOPED_WINDOWS = [
+    (("F[0,1]", A0), "F[0,1]a0"),
+    (("G[0,1]", A0), "G[0,1]a0"),
+    (("F[1,1]", A0), "F[1,1]a0"),
+    (("G[2,3]", A1), "G[2,3]a1"),
+    (("F[7,7]", A0), "F[7,7]a0"),
+    (("G[5,8]", A0), "G[5,8]a0"),
+    (("G[0,8]", ("|", A0, A1)), "G[0,8](a0|a1)"),
+    (("G", (">", A0, ("F[1,2]", A1))), "G(a0>F[1,2]a1)"),
+    (("U", ("F[0,1]", A0), ("G[1,2]", A1)), "F[0,1]a0UG[1,2]a1"),
+]
+LOOP_RUNS = [
+    ([1, 0], 1), ([2, 1], 1), ([1, 1, 2], 1), ([2, 1, 0], 2), ([2, 0, 1], 1), ([1, 3, 1, 1], 2), ([0, 1, 0, 2], 3), ([2, 1, 1, 0, 1], 1),
+]
 
 
 def children(tree):
@@ -266,12 +298,40 @@ def window_plan(rng):
     return runs
 
 
-def model(run, rules):
-    steps = "".join(f"  d_step {{ v = {value}; s = {slot} }};\n" for slot, value in enumerate(run[1:], 2))
-    lines = [
-        f"int v = {run[0]};\nint s = 1;\nactive proctype Run() {{\n{steps}"
-        f"  do :: d_step {{ v = {run[-1]}; s = {len(run)} }} od\n}}"
-    ]
+def loop_plan(rng):
+    """(M, run, [(tree, text, asked slots)], L) for each run that loops to L, below T, of rules without windows and with them."""
+    runs = []
+    for run, l in LOOP_RUNS:
+        for chosen in LOOPED, LOOPED_WINDOWS:
+            runs.append((2, run, [(tree, words, range(1, len(run) + 1)) for tree, words in chosen], l))
+    for slots in range(2, LONGEST_LOOPED + 1):
+        for l in range(1, slots):
+            for windows in False, True:
+                m = rng.randint(1, 3)
+                rules = []
+                while len(rules) < LOOP_TREES_PER_RUN:
+                    tree = random_tree(rng, rng.randint(2, 4), range(m), rng.choice("FGUUU!>&|"), 3 if windows else 5)
+                    tree = windowed(rng, tree) if windows else tree
+                    if weight(tree) > 0 and has_window(tree) == windows:
+                        spaces, brackets = rng.choice([(0, 0), (0, 0), (0.3, 0), (0, 0.25)])
+                        rules.append((tree, text(tree, rng, spaces, brackets), range(1, slots + 1)))
+                runs.append((m, looped_run(rng, slots, m, l), rules, l))
+    return runs
+
+
+def looped_run(rng, slots, m, l):
+    """A run that is not the same at all slots of its loop."""
+    while True:
+        run = random_run(rng, slots, m)
+        if len(set(run[l - 1 :])) > 1:
+            return run
+
+
+def model(run, rules, l):
+    step = lambda slot: f"d_step {{ v = {run[slot - 1]}; s = {slot} }}"
+    steps = "".join(f"  {step(slot)};\n" for slot in range(2, len(run) + 1))
+    loop = "; ".join(map(step, range(l, len(run) + 1)))
+    lines = [f"int v = {run[0]};\nint s = 1;\nactive proctype Run() {{\n{steps}  do :: {loop} od\n}}"]
     for number, (tree, _, asked) in enumerate(rules):
         for slot in asked:
             lines.append(f"ltl f{number}_{slot} {{ [] ((s == {slot}) -> {spin_text(tree)}) }}")
@@ -288,10 +348,10 @@ def claim_holds(folder, name):
     return errors.group(1) == "0"
 
 
-def truths(run, rules):
+def truths(run, rules, l):
     """For each rule the truth at each asked slot, from SPIN."""
     with tempfile.TemporaryDirectory() as folder:
-        Path(folder, "run.pml").write_text(model(run, rules))
+        Path(folder, "run.pml").write_text(model(run, rules, l))
         nexts = any(has_window(tree) for tree, _, _ in rules)
         spin = [SPIN, *(["-o3"] if nexts else []), "-a", "run.pml"]
         gcc = ["gcc", "-O0", "-w", *(["-DNOREDUCE"] if nexts else []), "-o", "pan", "pan.c"]
@@ -311,21 +371,25 @@ def truths(run, rules):
 
 def main():
     lines, kinds, depths, horizons, atom_counts, bits = [], Counter(), Counter(), Counter(), Counter(), Counter()
-    for m, run, rules in plan(random.Random(SEED)) + window_plan(random.Random(WINDOW_SEED)):
-        for (tree, words, asked), answer in zip(rules, truths(run, rules)):
+    looped = Counter()
+    for m, run, rules, *loop in plan(random.Random(SEED)) + window_plan(random.Random(WINDOW_SEED)) + loop_plan(random.Random(LOOP_SEED)):
+        horizon = ">".join(map(str, [len(run), *loop]))
+        for (tree, words, asked), answer in zip(rules, truths(run, rules, *loop or [len(run)])):
             row = "".join(str(int(answer[slot])) if slot in answer else "-" for slot in range(1, len(run) + 1))
-            lines.append(f"{len(run)} {m} {','.join(map(str, run))} {row} {words}\n")
+            lines.append(f"{horizon} {m} {','.join(map(str, run))} {row} {words}\n")
             kinds.update({operator[:2] for operator in operators(tree)})
+            looped[horizon] += len(loop)
             depths[depth(tree)] += 1
             horizons[len(run)] += 1
             atom_counts[m] += 1
             bits.update(row)
-        print(f"T {len(run):2} M {m:2}: {len(lines)} rules", flush=True)
-    titles = ("rules by kind", "rules by depth", "rules by T", "rules by M", "slots by truth")
-    for title, counts in zip(titles, (kinds, depths, horizons, atom_counts, bits)):
+        print(f"T {horizon:>3} M {m:2}: {len(lines)} rules", flush=True)
+    titles = ("rules by kind", "rules by depth", "rules by T", "rules by M", "slots by truth", "rules that loop")
+    for title, counts in zip(titles, (kinds, depths, horizons, atom_counts, bits, +looped)):
         print(f"{title}: " + ", ".join(f"{key} {counts[key]}" for key in sorted(counts)))
     assert len(lines) >= 300 and set(kinds) == {*"a", *SINGLE, *DOUBLE, "F[", "G["} and min(kinds.values()) >= 40
     assert set(range(1, LARGEST_DEPTH + 1)) <= set(depths) and {1, 64} <= set(horizons) and {1, 16} <= set(atom_counts)
+    assert sum(looped.values()) >= 250 and len(+looped) == LONGEST_LOOPED * (LONGEST_LOOPED - 1) // 2
     write_or_check("tests/spin.txt", "".join(lines))
 
 

@@ -5,7 +5,7 @@ use std::fmt::{Debug, LowerHex};
 
 use crate::inputs;
 use crate::random::Random;
-use crate::reference::{self, Verdict, HEIGHT, NODE_BYTES};
+use crate::reference::{self, Plan, Verdict, HEIGHT, NODE_BYTES};
 use crate::sepia;
 use crate::shape;
 use crate::trust;
@@ -113,6 +113,11 @@ fn refusal(number: u32) -> String {
     format!("refused {number:>2}")
 }
 
+/// A table and what it was asked for, to be shown beside a difference.
+fn shown(table: &[u8], Plan { t, m, l }: Plan) -> String {
+    format!("\n  table {}\n  T {t} M {m} L {l}", hex(table))
+}
+
 fn hex(bytes: &[u8]) -> String {
     bytes.iter().map(|byte| format!("{byte:02x}")).collect()
 }
@@ -178,28 +183,26 @@ fn evaluate(cases: u64, random: &mut Random, counts: &mut Counts) -> Result<(), 
     let (mut table, mut run) = (Vec::new(), Vec::new());
     let mut outputs = Outputs::<u64>::default();
     for case in 0..cases {
-        let (t, m) = (inputs::horizon(random), inputs::atom_count(random));
-        inputs::table(random, m, &mut table);
-        inputs::run(random, t, m, &mut run);
+        let plan = inputs::plan(random);
+        inputs::table(random, plan.m, &mut table);
+        inputs::run(random, plan, &mut run);
         let room = inputs::room(random, shape::len(&table));
         outputs.fill(random, room);
         let kept = (table.clone(), run.clone());
-        let expected = reference::evaluate(&table, t, m, &run, outputs.of_reference());
-        let answer = sepia::evaluate(&table, t, m, &run, outputs.of_sepia());
+        let expected = reference::evaluate(&table, plan, &run, outputs.of_reference());
+        let answer = sepia::evaluate(&table, plan, &run, outputs.of_sepia());
         let difference = compare_outputs(expected, answer, &outputs, kept.0 == table && kept.1 == run)
-            .or_else(|| compare_bytes(answer, &table, t, m, &run, &mut outputs));
+            .or_else(|| compare_bytes(answer, &table, plan, &run, &mut outputs));
         if let Some(difference) = difference {
-            return Err(format!(
-                "case {case}: {difference}\n  table {}\n  T {t} M {m} room {room}\n  run {run:?}",
-                hex(&table)
-            ));
+            return Err(format!("case {case}: {difference}{} room {room}\n  run {run:?}", shown(&table, plan)));
         }
         counts.add(match expected {
             Ok(truth) => format!("root is {truth}"),
             Err(number) => refusal(number),
         });
-        note_table(counts, &expected, &table, t, m);
+        note_table(counts, &expected, &table, plan);
         if expected.is_ok() {
+            note_stay(counts, &table, plan, &run, outputs.of_sepia());
             let root = outputs.of_sepia()[shape::len(&table) - 1];
             counts.note(root & 1 == 0 && root != 0, "a root that holds first at a later slot");
             counts.note(root == 0, "a root that holds at no slot");
@@ -209,19 +212,29 @@ fn evaluate(cases: u64, random: &mut Random, counts: &mut Counts) -> Result<(), 
     Ok(())
 }
 
+/// Whether the words are other ones than those of a plan that stays at its last slot.
+fn note_stay(counts: &mut Counts, table: &[u8], plan: Plan, run: &[u16], words: &[u64]) {
+    if plan.l < plan.t {
+        let mut stay = vec![0; shape::len(table)];
+        let same =
+            reference::evaluate(table, Plan { l: plan.t, ..plan }, run, &mut stay).is_ok() && words.starts_with(&stay);
+        counts.note(!same, "other words than L equal to T has");
+    }
+}
+
 /// How the library's words differ from the bytes of before, if they do: the same answer, where the bytes have room for
 /// as many nodes as the words; the truth of every node at every slot; zeros above; nothing behind the words; and the
 /// root's first slot.
 fn compare_bytes(
     answer: Result<usize, u32>,
     table: &[u8],
-    t: usize,
-    m: usize,
+    plan: Plan,
     run: &[u16],
     outputs: &mut Outputs<u64>,
 ) -> Option<String> {
+    let t = plan.t;
     let mut bytes = vec![0; outputs.room * t.min(reference::MAX_SLOTS)];
-    let expected = reference::evaluate_bytes(table, t, m, run, &mut bytes);
+    let expected = reference::evaluate_bytes(table, plan, run, &mut bytes);
     if expected != answer {
         return Some(format!("answer: bytes {expected:?}, sepia {answer:?}"));
     }
@@ -267,15 +280,15 @@ fn rows(cases: u64, random: &mut Random, counts: &mut Counts) -> Result<(), Stri
     let mut table = Vec::new();
     let mut outputs = Outputs::<u8>::default();
     for case in 0..cases {
-        let (t, m) = (inputs::horizon(random), inputs::atom_count(random));
-        inputs::table(random, m, &mut table);
-        let room = inputs::room(random, reference::row_bytes(&table, t, m).unwrap_or(100));
+        let plan = inputs::plan(random);
+        inputs::table(random, plan.m, &mut table);
+        let room = inputs::room(random, reference::row_bytes(&table, plan).unwrap_or(100));
         outputs.fill(random, room);
         let kept = table.clone();
-        let expected = reference::rows(&table, t, m, outputs.of_reference());
-        let answer = sepia::rows(&table, t, m, outputs.of_sepia());
+        let expected = reference::rows(&table, plan, outputs.of_reference());
+        let answer = sepia::rows(&table, plan, outputs.of_sepia());
         if let Some(difference) = compare_outputs(expected, answer, &outputs, kept == table) {
-            return Err(format!("case {case}: {difference}\n  table {}\n  T {t} M {m} room {room}", hex(&table)));
+            return Err(format!("case {case}: {difference}{} room {room}", shown(&table, plan)));
         }
         counts.add(match expected {
             Ok(2..=99) => "2 to 99 rows".to_string(),
@@ -284,33 +297,44 @@ fn rows(cases: u64, random: &mut Random, counts: &mut Counts) -> Result<(), Stri
             Ok(_) => "100,000 rows or more".to_string(),
             Err(number) => refusal(number),
         });
-        note_table(counts, &expected, &table, t, m);
+        note_table(counts, &expected, &table, plan);
     }
     Ok(())
 }
 
 /// What a table has, where it was answered, and some of what can be wrong with one that was refused.
-fn note_table<A>(counts: &mut Counts, answer: &Result<A, u32>, table: &[u8], t: usize, m: usize) {
+fn note_table<A>(counts: &mut Counts, answer: &Result<A, u32>, table: &[u8], plan: Plan) {
     match answer {
         Ok(_) => {
-            counts.note(has_window(table), "a window, and answered");
+            counts.note(shape::has_window(table), "a window, and answered");
             counts.note(shape::has_shared(table), "a shared child, and answered");
             counts.note(!shape::unused(table).is_empty(), "a node that the root does not use, and answered");
+            note_loop(counts, table, plan);
         }
         Err(7) => {
             counts.note(has_old_records(table), "records of 7 bytes");
-            note_heights(counts, table, t, m);
+            note_heights(counts, table, plan);
         }
         Err(_) => {}
     }
 }
 
+/// What a loop does in a table that was answered.
+fn note_loop(counts: &mut Counts, table: &[u8], plan: Plan) {
+    counts.note(plan.l < plan.t, "L below T, and answered");
+    counts.note(plan.l == 1 && plan.t > 1, "L 1 and T above it, and answered");
+    counts.note(!shape::with_seconds(table, plan).is_empty(), "V slacks, and answered");
+    counts.note(shape::has_wrapped_window(table, plan), "a window that wraps, and answered");
+    counts.note(shape::has_parted_window(table, plan), "a window that wraps with a gap, and answered");
+    counts.note(shape::has_far_window(table, plan), "a window that wraps more than once, and answered");
+}
+
 /// How the heights of a refused table are wrong, where all else in it is good.
-fn note_heights(counts: &mut Counts, table: &[u8], t: usize, m: usize) {
+fn note_heights(counts: &mut Counts, table: &[u8], plan: Plan) {
     let wrong = shape::wrong_heights(table);
     let mut right = table.to_vec();
     shape::fill_heights(&mut right, 0);
-    if wrong.is_empty() || reference::row_bytes(&right, t, m).is_err() {
+    if wrong.is_empty() || reference::row_bytes(&right, plan).is_err() {
         return;
     }
     let unused = shape::unused(table);
@@ -333,11 +357,6 @@ fn has_old_records(table: &[u8]) -> bool {
     !table.is_empty() && table.len() % 7 == 0 && table.chunks_exact(7).all(|record| record[..2] == [0x4E, 0x44])
 }
 
-/// Whether a table that is good has a window.
-fn has_window(table: &[u8]) -> bool {
-    table.chunks_exact(NODE_BYTES).any(|record| record[2] >= reference::WITHIN)
-}
-
 /// Whether a line of a column has this number in its last field. Only COST lines have 0.
 fn has_number(page: &[u8], number: &[u8]) -> bool {
     page.split(|&byte| byte == b'\n').any(|line| line.starts_with(b"    X") && line.get(24..) == Some(number))
@@ -352,16 +371,16 @@ fn mps(cases: u64, random: &mut Random, counts: &mut Counts) -> Result<(), Strin
     let mut table = Vec::new();
     let mut outputs = Outputs::<u8>::default();
     for case in 0..cases {
-        let (t, m) = (inputs::horizon(random), inputs::atom_count(random));
-        inputs::table(random, m, &mut table);
-        let page = reference::whole_page(&table, t, m).unwrap_or_default();
+        let plan = inputs::plan(random);
+        inputs::table(random, plan.m, &mut table);
+        let page = reference::whole_page(&table, plan).unwrap_or_default();
         let room = inputs::room(random, if page.is_empty() { 300 } else { page.len() });
         outputs.fill(random, room);
         let kept = table.clone();
-        let expected = reference::mps_page(&table, t, m, outputs.of_reference());
-        let answer = sepia::mps_page(&table, t, m, outputs.of_sepia());
+        let expected = reference::mps_page(&table, plan, outputs.of_reference());
+        let answer = sepia::mps_page(&table, plan, outputs.of_sepia());
         if let Some(difference) = compare_outputs(expected, answer, &outputs, kept == table) {
-            return Err(format!("case {case}: {difference}\n  table {}\n  T {t} M {m} room {room}", hex(&table)));
+            return Err(format!("case {case}: {difference}{} room {room}", shown(&table, plan)));
         }
         counts.add(match expected {
             Ok(0..=9_999) => "under 10,000 bytes".to_string(),
@@ -376,7 +395,7 @@ fn mps(cases: u64, random: &mut Random, counts: &mut Counts) -> Result<(), Strin
             counts.note(has_cancelled(&table), "a term that is dropped");
             counts.note(has_number(&page, b"0"), "a variable in no row");
         }
-        note_table(counts, &expected, &table, t, m);
+        note_table(counts, &expected, &table, plan);
     }
     Ok(())
 }
@@ -384,25 +403,22 @@ fn mps(cases: u64, random: &mut Random, counts: &mut Counts) -> Result<(), Strin
 fn judge(cases: u64, random: &mut Random, counts: &mut Counts) -> Result<(), String> {
     let (mut table, mut figures) = (Vec::new(), Vec::new());
     for case in 0..cases {
-        let (t, m) = (inputs::horizon(random), inputs::atom_count(random));
-        inputs::table(random, m, &mut table);
+        let plan = inputs::plan(random);
+        inputs::table(random, plan.m, &mut table);
         let e = inputs::tolerance(random);
-        inputs::figures(random, &table, t, m, e, &mut figures);
+        inputs::figures(random, &table, plan, e, &mut figures);
         let kept = (table.clone(), figures.clone());
-        let expected = reference::judge(&table, t, m, &figures, e);
-        let answer = sepia::judge(&table, t, m, &figures, e);
+        let expected = reference::judge(&table, plan, &figures, e);
+        let answer = sepia::judge(&table, plan, &figures, e);
         let difference = compare(&expected, &answer, kept.0 == table && kept.1 == figures);
         let outcome = difference.map_or(Ok(()), Err).and_then(|()| {
-            trust::compare_counts(&table, t, m, e)?;
-            note_verdict(counts, &expected, &table, t, m, &figures, e)
+            trust::compare_counts(&table, plan, e)?;
+            note_verdict(counts, &expected, &table, plan, &figures, e)
         });
         if let Err(difference) = outcome {
-            return Err(format!(
-                "case {case}: {difference}\n  table {}\n  T {t} M {m} e {e}\n  figures {figures:?}",
-                hex(&table)
-            ));
+            return Err(format!("case {case}: {difference}{} e {e}\n  figures {figures:?}", shown(&table, plan)));
         }
-        note_table(counts, &expected, &table, t, m);
+        note_table(counts, &expected, &table, plan);
     }
     Ok(())
 }
@@ -412,8 +428,7 @@ fn note_verdict(
     counts: &mut Counts,
     verdict: &Result<Verdict, u32>,
     table: &[u8],
-    t: usize,
-    m: usize,
+    plan: Plan,
     figures: &[i32],
     e: i32,
 ) -> Result<(), String> {
@@ -426,27 +441,36 @@ fn note_verdict(
     });
     match *verdict {
         Ok(Verdict::Broken(row, _)) => {
-            let kind = reference::kind_of_row(table, t, m, row);
-            counts.note(kind >= Some(reference::WITHIN), "a window's row broken");
-            counts.note(kind.is_none(), "the goal row broken");
+            let owner = reference::owner_of_row(table, plan, row);
+            let looped = shape::has_wrapped_window(table, plan);
+            let windowed = owner.is_some_and(|(kind, _)| kind >= reference::WITHIN);
+            counts.note(windowed, "a window's row broken");
+            counts.note(windowed && looped, "a window's row broken, and a window that wraps");
+            counts.note(owner.is_some_and(|(_, second)| second), "a V row broken");
+            counts.note(owner.is_none(), "the goal row broken");
         }
         Ok(Verdict::Passed(_, error)) => {
-            let seen = trust::check(table, t, m, figures, e)?;
-            note_passed(counts, table, e, error, seen);
+            let seen = trust::check(table, plan, figures, e)?;
+            note_passed(counts, table, plan, e, error, seen);
         }
         _ => {}
     }
     Ok(())
 }
 
-fn note_passed(counts: &mut Counts, table: &[u8], e: i32, error: u32, seen: trust::Seen) {
+fn note_passed(counts: &mut Counts, table: &[u8], plan: Plan, e: i32, error: u32, seen: trust::Seen) {
+    let seconds = !shape::with_seconds(table, plan).is_empty();
     counts.note(e > 0, "passed, e above 0");
-    counts.note(e > 0 && has_window(table), "passed, e above 0, a window");
+    counts.note(e > 0 && shape::has_window(table), "passed, e above 0, a window");
+    counts.note(e > 0 && shape::has_wrapped_window(table, plan), "passed, e above 0, a window that wraps");
+    counts.note(e > 0 && seconds, "passed, e above 0, V slacks");
+    counts.note(e > 0 && seconds && error < trust::HALF, "passed, e above 0, V slacks, error below 500,000");
     counts.note(e > 0 && shape::has_same_sides(table), "passed, e above 0, the same part on both sides");
     counts.note(e > 0 && error < trust::HALF, "passed, e above 0, error below 500,000");
     counts.note((trust::HALF..trust::STOP).contains(&error), "passed, error 500,000 to 999,999");
     counts.note(error == trust::STOP, "passed, error at the stop");
     counts.note(seen.reached, "passed, a slack as far off as its error figure, not 0");
+    counts.note(seen.second_reached, "passed, a V slack as far off as its error figure, not 0");
     counts.note(!seen.met, "passed, and the rounded run does not satisfy the rule");
 }
 

@@ -1,7 +1,7 @@
 //! Random inputs of the calls, good and damaged.
 
 use crate::random::Random;
-use crate::reference::{self, ALWAYS, AND, ATOM, EVENTUALLY, HEIGHT, IMPLIES, MAX_AHEAD, MAX_NODES, MAX_TEXT};
+use crate::reference::{self, Plan, ALWAYS, AND, ATOM, EVENTUALLY, HEIGHT, IMPLIES, MAX_AHEAD, MAX_NODES, MAX_TEXT};
 use crate::reference::{NODE_BYTES, NOT, OR, THROUGHOUT, UNTIL, WITHIN};
 use crate::shape;
 
@@ -13,7 +13,12 @@ const HUGE: [usize; 8] = [256, 257, 65_536, 65_537, 1 << 32, (1 << 32) + 1, 1 <<
 
 // --------------------------------------------------------------------------------------------- numbers
 
-pub fn horizon(random: &mut Random) -> usize {
+pub fn plan(random: &mut Random) -> Plan {
+    let t = horizon(random);
+    Plan { t, m: atom_count(random), l: loop_slot(random, t) }
+}
+
+fn horizon(random: &mut Random) -> usize {
     match random.below(100) {
         0..=54 => random.between(1, 8),
         55..=84 => random.between(9, 32),
@@ -35,6 +40,28 @@ pub fn atom_count(random: &mut Random) -> usize {
         98 => random.between(18, 300),
         _ => random.pick(&HUGE),
     }
+}
+
+/// Mostly a slot of the plan, and mostly not its last.
+fn loop_slot(random: &mut Random, t: usize) -> usize {
+    let slots = t.clamp(1, reference::MAX_SLOTS);
+    match random.below(100) {
+        0..=24 => slots,
+        25..=79 => random.between(1, slots),
+        80..=87 => 1,
+        88..=92 => (slots - 1).max(1),
+        93..=95 => random.between(slots.div_ceil(2), slots),
+        96 => 0,
+        97 => slots + 1,
+        98 => random.between(slots + 1, 300),
+        _ => random.pick(&HUGE),
+    }
+}
+
+/// The plan that runs and figures are made for: the one asked, with what is out of range brought within it.
+fn made_for_plan(Plan { t, m, l }: Plan) -> Plan {
+    let t = t.clamp(1, reference::MAX_SLOTS);
+    Plan { t, m: made_for(m), l: l.clamp(1, t) }
 }
 
 /// The atom count that texts and tables are made for: the one asked, or 16 where that is out of range.
@@ -552,11 +579,6 @@ pub fn table(random: &mut Random, m: usize, table: &mut Vec<u8>) {
     }
 }
 
-/// The bytes that the truth of a table takes, one for each node and slot, where it is good.
-pub fn truth_bytes(table: &[u8], t: usize) -> usize {
-    table.len() / NODE_BYTES * t.min(reference::MAX_SLOTS)
-}
-
 // ------------------------------------------------------------------------------------ runs and figures
 
 /// A run of the right length in which each atom stays as it was for a while.
@@ -573,7 +595,7 @@ fn good_run(random: &mut Random, t: usize, m: usize, run: &mut Vec<u16>) {
     }
 }
 
-pub fn run(random: &mut Random, t: usize, m: usize, run: &mut Vec<u16>) {
+pub fn run(random: &mut Random, Plan { t, m, .. }: Plan, run: &mut Vec<u16>) {
     good_run(random, t, made_for(m), run);
     match random.below(100) {
         0..=1 => run.push(0),
@@ -607,7 +629,7 @@ fn inwards(figure: i32, off: i32) -> i32 {
     }
 }
 
-/// The figures of a run and of the truth over it, a byte for each node and slot.
+/// The figures of a run and of the truth over it, a byte for each slack.
 fn figures_of(run: &[u16], m: usize, truth: &[u8]) -> impl Iterator<Item = i32> {
     let one = reference::ONE as i32;
     let atoms = (0..m).flat_map(|atom| run.iter().map(move |numbers| (numbers >> atom & 1) as u8));
@@ -615,42 +637,55 @@ fn figures_of(run: &[u16], m: usize, truth: &[u8]) -> impl Iterator<Item = i32> 
     all.into_iter().map(move |bit| i32::from(bit) * one)
 }
 
+/// The truth of all slacks; of a damaged table zeros, as many as it would have.
+fn truth_of(table: &[u8], plan: Plan, run: &[u16]) -> Vec<u8> {
+    let slacks = (shape::len(table) + shape::with_seconds(table, plan).len()) * plan.t;
+    reference::slack_truth(table, plan, run).unwrap_or_else(|_| vec![0; slacks])
+}
+
+/// A root's truth at slot 1, or none where the table has no node.
+fn root_truth(table: &[u8], plan: Plan, truth: &[u8]) -> Option<u8> {
+    Some(truth[shape::len(table).checked_sub(1)? * plan.t])
+}
+
 /// Figures near the one solution of a table's rows, with the ways in which a solver's can differ.
-pub fn figures(random: &mut Random, table: &[u8], t: usize, m: usize, e: i32, figures: &mut Vec<i32>) {
-    let slots = t.clamp(1, reference::MAX_SLOTS);
-    let atoms = made_for(m);
+pub fn figures(random: &mut Random, table: &[u8], asked: Plan, e: i32, figures: &mut Vec<i32>) {
+    let plan = made_for_plan(asked);
     let e = e.clamp(0, 1000);
     let drifts = random.percent(25);
-    let mut run = Vec::new();
-    let mut truth = vec![0; truth_bytes(table, slots)];
+    let (mut run, mut truth) = (Vec::new(), Vec::new());
     // Mostly one over which the rule holds. Where errors add up, figures may pass without, most so where nothing changes.
     for _ in 0..if drifts { random.between(1, 4) } else { 3 } {
-        good_run(random, slots, atoms, &mut run);
+        good_run(random, plan.t, plan.m, &mut run);
         if drifts && random.percent(40) {
             let numbers = run[0];
             run.fill(numbers);
         }
-        if reference::evaluate_bytes(table, slots, atoms, &run, &mut truth) != Ok(0) {
+        truth = truth_of(table, plan, &run);
+        if root_truth(table, plan, &truth) == Some(1) {
             break;
         }
     }
     figures.clear();
-    figures.extend(figures_of(&run, atoms, &truth));
+    figures.extend(figures_of(&run, plan.m, &truth));
+    let seconds = shape::with_seconds(table, plan);
     if drifts {
-        drift(random, table, slots, atoms, e, figures);
+        drift(random, table, plan, e, figures);
+    } else if !seconds.is_empty() && random.percent(25) {
+        differ_in_loop(random, &seconds, shape::len(table), plan, e, figures);
     } else {
-        differ(random, atoms * slots, e, figures);
+        differ(random, plan.m * plan.t, e, figures);
     }
 }
 
 /// Gives figures that hold within e and whose errors add up: each slack is on the way from its truth to the end of what
 /// its rows allow, the end that helps the root to hold.
-fn drift(random: &mut Random, table: &[u8], t: usize, m: usize, e: i32, figures: &mut [i32]) {
+fn drift(random: &mut Random, table: &[u8], plan: Plan, e: i32, figures: &mut [i32]) {
     let whole = random.pick(&[0, 50, 95, 100, 100]);
     let beyond = if random.percent(50) { e } else { 0 };
     let one = reference::ONE as i32;
     let side = random.pick(&[-1, 0, 1, 1]);
-    for figure in &mut figures[..m * t] {
+    for figure in &mut figures[..plan.m * plan.t] {
         let off = if random.percent(whole) { side * e } else { off_by(random, e) };
         *figure = (*figure + off).clamp(-beyond, one + beyond);
     }
@@ -666,7 +701,46 @@ fn drift(random: &mut Random, table: &[u8], t: usize, m: usize, e: i32, figures:
         }
     };
     // A damaged table has no rows, and its figures stay.
-    let _ = reference::settle(table, t, m, e, figures, choose);
+    let _ = reference::settle(table, plan, e, figures, choose);
+}
+
+/// The ways in which P and V of a node can differ, where `seconds` are the nodes that have V.
+fn differ_in_loop(random: &mut Random, seconds: &[usize], nodes: usize, plan: Plan, e: i32, figures: &mut Vec<i32>) {
+    let Plan { t, m, l } = plan;
+    let one = reference::ONE as i32;
+    let number = random.below(seconds.len());
+    let (own, second) = ((m + seconds[number]) * t, (m + nodes + number) * t);
+    let any = random.below(t);
+    let place = second + random.pick(&[0, l - 1, t - 1, any]);
+    let off = e + random.below(2) as i32;
+    match random.below(10) {
+        0..=1 => figures[place] += inwards(figures[place], off),
+        2 => figures[place] += random.pick(&[-off, off]),
+        3 => figures[place] = one - figures[place],
+        4 => figures[own + t - 1] += inwards(figures[own + t - 1], off),
+        5..=6 => circle(random, own, second, plan, figures),
+        7 => {
+            // V as P is, or P as V is.
+            let (from, to) = random.pick(&[(own, second), (second, own)]);
+            figures.copy_within(from..from + t, to);
+        }
+        8 => {
+            // None of V, as where L is T, or all but the last block of them.
+            let blocks = random.pick(&[0, seconds.len() - 1]);
+            figures.truncate((m + nodes + blocks) * t);
+        }
+        _ => figures.extend_from_within(figures.len() - t..),
+    }
+}
+
+/// A circle of ones or of zeros, which feeds itself, in P and perhaps in V.
+fn circle(random: &mut Random, own: usize, second: usize, Plan { t, l, .. }: Plan, figures: &mut [i32]) {
+    let same = random.pick(&[0, reference::ONE as i32]);
+    figures[own + l - 1..own + t].fill(same);
+    if random.percent(50) {
+        let kept = random.below(2);
+        figures[second + l - 1..second + t - kept].fill(same);
+    }
 }
 
 /// The other ways, with the number of atom variables.
@@ -764,23 +838,27 @@ pub fn largest_windows() -> Vec<u8> {
     prefixes.chain(["a0"]).collect::<String>().into_bytes()
 }
 
-/// A run of `t` numbers over which the table's root has this truth, 0 or 1: where it is 1, the judge passes its figures,
-/// and where it is 0, the goal row alone is broken.
-pub fn run_with(table: &[u8], t: usize, m: usize, root: usize) -> Vec<u16> {
+/// A run over which the table's root has this truth, 0 or 1: where it is 1, the judge passes its figures, and where it
+/// is 0, the goal row alone is broken.
+pub fn run_with(table: &[u8], plan: Plan, root: usize) -> Vec<u16> {
     let mut random = Random::new(1);
     let mut run = Vec::new();
-    let mut truth = vec![0; truth_bytes(table, t)];
+    let mut words = vec![0; shape::len(table)];
     loop {
-        good_run(&mut random, t, m, &mut run);
-        if reference::evaluate_bytes(table, t, m, &run, &mut truth) == Ok(root) {
-            return run;
+        good_run(&mut random, plan.t, plan.m, &mut run);
+        // The same numbers at all slots in every other try.
+        for _ in 0..2 {
+            if reference::evaluate(table, plan, &run, &mut words) == Ok(root) {
+                return run;
+            }
+            let numbers = run[0];
+            run.fill(numbers);
         }
     }
 }
 
 /// The exact solution of the table's rows over a run, the goal row aside.
-pub fn solution(table: &[u8], t: usize, m: usize, run: &[u16]) -> Vec<i32> {
-    let mut truth = vec![0; truth_bytes(table, t)];
-    reference::evaluate_bytes(table, t, m, run, &mut truth).expect("a table and a run");
-    figures_of(run, m, &truth).collect()
+pub fn solution(table: &[u8], plan: Plan, run: &[u16]) -> Vec<i32> {
+    let truth = reference::slack_truth(table, plan, run).expect("a table and a run");
+    figures_of(run, plan.m, &truth).collect()
 }

@@ -17,6 +17,10 @@ const USAGE: &str = "bench differential N SEED   N random inputs for each call: 
 bench speed                 times of each call, Rattle beside Rust";
 
 fn main() -> ExitCode {
+    if sepia::version() != sepia::VERSION {
+        eprintln!("the library has version {}, and this is for version {}", sepia::version(), sepia::VERSION);
+        return ExitCode::FAILURE;
+    }
     let words: Vec<String> = std::env::args().skip(1).collect();
     match words.iter().map(String::as_str).collect::<Vec<_>>()[..] {
         ["differential", cases, seed] => match (cases.parse(), seed.parse()) {

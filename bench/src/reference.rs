@@ -2,7 +2,7 @@
 //! answers and in its speed. It shares no code with the library.
 //!
 //! Each call returns its result or the number of its refusal. The refusals are tested in the papers' order
-//! (1 to 5, 12, 6 to 11), so the first wins, and nothing is written before all of them are known.
+//! (1, 2, 13, 3 to 5, 12, 6 to 11), so the first wins, and nothing is written before all of them are known.
 
 use std::ops::Range;
 
@@ -42,6 +42,55 @@ pub enum Verdict {
     Broken(usize, i64),
     /// The row count, and the root's error figure at slot 1.
     Passed(usize, u32),
+}
+
+/// T slots, M atoms, and the slot L that comes after slot T.
+#[derive(Clone, Copy, Debug)]
+pub struct Plan {
+    pub t: usize,
+    pub m: usize,
+    pub l: usize,
+}
+
+// Of a plan that is not refused. Slots count from 0 here.
+impl Plan {
+    /// Whether more than the last slot comes round.
+    fn loops(&self) -> bool {
+        self.l < self.t
+    }
+
+    /// The slot that comes after the last.
+    fn back(&self) -> usize {
+        self.l - 1
+    }
+
+    /// The slots that come round.
+    fn round(&self) -> usize {
+        self.t - self.back()
+    }
+
+    /// The slot of a time, which goes on counting after the last slot.
+    fn slot(&self, time: usize) -> usize {
+        if time < self.t {
+            time
+        } else {
+            self.back() + (time - self.back()) % self.round()
+        }
+    }
+
+    /// The slot after this one.
+    fn next(&self, slot: usize) -> usize {
+        if slot + 1 < self.t {
+            slot + 1
+        } else {
+            self.back()
+        }
+    }
+
+    /// All slots, a bit for each.
+    fn all(&self) -> u64 {
+        u64::MAX >> (MAX_SLOTS - self.t)
+    }
 }
 
 fn require(condition: bool, refusal: u32) -> Result<(), u32> {
@@ -297,9 +346,10 @@ impl<const LEVELS: bool> Parser<'_, LEVELS> {
 
 // --------------------------------------------------------------------------------------------- tables
 
-/// A table that was found good.
+/// A table that was found good, and what it is asked for.
 struct Table<'a> {
     records: &'a [[u8; NODE_BYTES]],
+    plan: Plan,
 }
 
 #[derive(Clone, Copy)]
@@ -313,34 +363,15 @@ struct Node {
 }
 
 impl Node {
-    /// The different slots that the node's window looks at from `slot`, of `t` slots that count from 0.
-    fn looks_at(&self, slot: usize, t: usize) -> Range<usize> {
-        (slot + self.a).min(t - 1)..(slot + self.b).min(t - 1) + 1
+    fn of(&[_, _, kind, left, right, a, b, height]: &[u8; NODE_BYTES]) -> Self {
+        Node { kind, left: usize::from(left), right: usize::from(right), a: usize::from(a), b: usize::from(b), height }
     }
 
-    /// How many they are from all slots together.
-    fn looks(&self, t: usize) -> usize {
-        (0..t).map(|slot| self.looks_at(slot, t).len()).sum()
-    }
-}
-
-impl<'a> Table<'a> {
-    fn good(bytes: &'a [u8], m: usize) -> Option<Self> {
-        let (records, rest) = bytes.as_chunks();
-        if !rest.is_empty() || !(1..=MAX_NODES).contains(&records.len()) {
-            return None;
-        }
-        let table = Table { records };
-        let marked = records.iter().all(|record| record[..2] == NODE_MARK);
-        let fitting = table.nodes().enumerate().all(|(number, node)| table.fits(number, node, m));
-        (marked && fitting).then_some(table)
-    }
-
-    /// Whether a node's fields may stand in record `number`, where those of all records before it may.
-    fn fits(&self, number: usize, node: Node, m: usize) -> bool {
-        let Node { kind, left, right, a, b, height } = node;
-        let under = |child: usize| self.records[child][HEIGHT];
-        let plain = (a, b) == NO_WINDOW;
+    /// Whether the fields may stand behind these records, where those of all of them may.
+    fn fits(self, before: &[[u8; NODE_BYTES]], m: usize) -> bool {
+        let Node { kind, left, right, a, b, height } = self;
+        let under = |child: usize| before[child][HEIGHT];
+        let (number, plain) = (before.len(), (a, b) == NO_WINDOW);
         match kind {
             ATOM => left < m && right == 0 && plain && height == 0,
             NOT | EVENTUALLY | ALWAYS => left < number && right == 0 && plain && height == under(left) + 1,
@@ -352,38 +383,182 @@ impl<'a> Table<'a> {
         }
     }
 
+    /// F, G and U, which look ahead without end and have V slacks where the plan loops.
+    fn endless(&self) -> bool {
+        [EVENTUALLY, ALWAYS, UNTIL].contains(&self.kind)
+    }
+
+    /// For each of some slots in turn, the slot and the different slots that the node's window looks at from there.
+    fn looks(&self, slots: Range<usize>, plan: Plan) -> impl Iterator<Item = (usize, Spans)> {
+        let width = self.b - self.a + 1;
+        let mut first = plan.slot(slots.start + self.a);
+        slots.map(move |slot| {
+            let spans = Spans::from(first, width, plan);
+            first = plan.next(first);
+            (slot, spans)
+        })
+    }
+}
+
+/// Some slots, or the variables of a part at these: two ranges, the lower first, of which the second may be empty.
+#[derive(Clone)]
+struct Spans {
+    low: Range<usize>,
+    high: Range<usize>,
+}
+
+impl Spans {
+    /// The different slots of so many times from a slot on.
+    fn from(first: usize, width: usize, Plan { t, l, .. }: Plan) -> Self {
+        let (back, end) = (l - 1, first + width);
+        if end <= t {
+            return Spans { low: first..end, high: end..end };
+        }
+        let turned = back + (end - t);
+        if turned < first {
+            Spans { low: back..turned, high: first..t }
+        } else {
+            Spans { low: first.min(back)..t, high: t..t }
+        }
+    }
+
+    fn len(&self) -> usize {
+        self.low.len() + self.high.len()
+    }
+
+    /// The variables of the part whose first one this is.
+    fn of(&self, part: usize) -> Self {
+        Spans { low: part + self.low.start..part + self.low.end, high: part + self.high.start..part + self.high.end }
+    }
+
+    fn both(&self) -> [Range<usize>; 2] {
+        [self.low.clone(), self.high.clone()]
+    }
+
+    fn iter(&self) -> impl Iterator<Item = usize> + Clone {
+        self.low.clone().chain(self.high.clone())
+    }
+}
+
+impl<'a> Table<'a> {
+    fn good(bytes: &'a [u8], plan: Plan) -> Option<Self> {
+        let (records, rest) = bytes.as_chunks();
+        if !rest.is_empty() || !(1..=MAX_NODES).contains(&records.len()) {
+            return None;
+        }
+        let marked = records.iter().all(|record| record[..2] == NODE_MARK);
+        let fitting =
+            records.iter().enumerate().all(|(number, record)| Node::of(record).fits(&records[..number], plan.m));
+        (marked && fitting).then_some(Table { records, plan })
+    }
+
     fn len(&self) -> usize {
         self.records.len()
     }
 
     fn nodes(&self) -> impl Iterator<Item = Node> + 'a {
-        self.records.iter().map(|&[_, _, kind, left, right, a, b, height]| Node {
-            kind,
-            left: usize::from(left),
-            right: usize::from(right),
-            a: usize::from(a),
-            b: usize::from(b),
-            height,
-        })
+        self.records.iter().map(Node::of)
+    }
+
+    fn node(&self, number: usize) -> Option<Node> {
+        self.records.get(number).map(Node::of)
     }
 }
 
-fn checked_table(table: &[u8], t: usize, m: usize) -> Result<Table<'_>, u32> {
-    require((1..=MAX_SLOTS).contains(&t), 1)?;
-    require((1..=MAX_ATOMS).contains(&m), 2)?;
-    Table::good(table, m).ok_or(7)
+fn checked_table(table: &[u8], plan: Plan) -> Result<Table<'_>, u32> {
+    require((1..=MAX_SLOTS).contains(&plan.t), 1)?;
+    require((1..=MAX_ATOMS).contains(&plan.m), 2)?;
+    require((1..=plan.t).contains(&plan.l), 13)?;
+    Table::good(table, plan).ok_or(7)
+}
+
+// --------------------------------------------------------------------------------------------- slacks
+
+/// The slacks of a node, one for each slot: its own, P, or its V.
+#[derive(Clone, Copy)]
+struct Block {
+    number: usize,
+    node: Node,
+    /// Whether these are V.
+    second: bool,
+    /// The variables of the first slot: of the slacks, the left part and the right one.
+    own: usize,
+    left: usize,
+    right: usize,
+    /// What P' is at the last slot: V at L; or nothing, and the rows there are those of t = T.
+    after: Option<usize>,
+}
+
+impl<'a> Table<'a> {
+    /// The first variable of a node's own slacks.
+    fn own(&self, number: usize) -> usize {
+        (self.plan.m + number) * self.plan.t
+    }
+
+    /// The number of all variables, V among them.
+    fn variables(&self) -> usize {
+        let seconds = if self.plan.loops() { self.nodes().filter(Node::endless).count() } else { 0 };
+        self.own(self.len() + seconds)
+    }
+
+    /// All slacks in the order of their rows: a node's V before its own.
+    fn blocks(&self) -> Blocks<'_, 'a> {
+        // V are numbered on after the nodes.
+        Blocks { table: self, number: 0, second: self.own(self.len()), at_own: false }
+    }
+}
+
+struct Blocks<'t, 'a> {
+    table: &'t Table<'a>,
+    number: usize,
+    /// The first variable of the next V.
+    second: usize,
+    /// Whether the node's V have been given.
+    at_own: bool,
+}
+
+impl Iterator for Blocks<'_, '_> {
+    type Item = Block;
+
+    #[inline(always)]
+    fn next(&mut self) -> Option<Block> {
+        let (table, number, plan) = (self.table, self.number, self.table.plan);
+        let node = table.node(number)?;
+        let left = if node.kind == ATOM { node.left * plan.t } else { table.own(node.left) };
+        let (own, right) = (table.own(number), table.own(node.right));
+        let block = Block { number, node, second: false, own, left, right, after: None };
+        if !plan.loops() || !node.endless() {
+            self.number += 1;
+            return Some(block);
+        }
+        self.at_own = !self.at_own;
+        if self.at_own {
+            return Some(Block { own: self.second, second: true, ..block });
+        }
+        let after = Some(self.second + plan.back());
+        self.second += plan.t;
+        self.number += 1;
+        Some(Block { after, ..block })
+    }
 }
 
 // ------------------------------------------------------------------------------------------- evaluate
 
 /// Writes a word for each node to `out`, in node order, bit s − 1 of it the node's truth at slot s; the result is the
 /// root's truth at slot 1.
-pub fn evaluate(table: &[u8], t: usize, m: usize, run: &[u16], out: &mut [u64]) -> Result<usize, u32> {
-    let table = checked_table(table, t, m)?;
-    require(run_good(run, t, m), 8)?;
+pub fn evaluate(table: &[u8], plan: Plan, run: &[u16], out: &mut [u64]) -> Result<usize, u32> {
+    let table = checked_table(table, plan)?;
+    require(run_good(run, plan), 8)?;
     require(out.len() >= table.len(), 11)?;
-    let atoms = columns(run, m);
-    let all = u64::MAX >> (MAX_SLOTS - t);
+    let atoms = columns(run, plan.m);
+    let root = if plan.loops() { fill::<true>(&table, &atoms, out) } else { fill::<false>(&table, &atoms, out) };
+    Ok((root & 1) as usize)
+}
+
+/// Writes the words, and gives the root's.
+fn fill<const LOOPS: bool>(table: &Table, atoms: &[u64; MAX_ATOMS], out: &mut [u64]) -> u64 {
+    let plan = table.plan;
+    let all = plan.all();
     let mut root = 0;
     for (number, node) in table.nodes().enumerate() {
         let (p, q) = (|| out[node.left], || out[node.right]);
@@ -393,18 +568,20 @@ pub fn evaluate(table: &[u8], t: usize, m: usize, run: &[u16], out: &mut [u64]) 
             AND => p() & q(),
             OR => p() | q(),
             IMPLIES => p() ^ all | q(),
-            EVENTUALLY => up_to_last(p()),
-            ALWAYS => up_to_last(p() ^ all) ^ all,
-            UNTIL => until(p(), q()),
-            WITHIN => within(p(), &node, t),
-            _ => within(p() ^ all, &node, t) ^ all,
+            EVENTUALLY => eventually::<LOOPS>(p(), plan),
+            ALWAYS => eventually::<LOOPS>(p() ^ all, plan) ^ all,
+            UNTIL => until::<LOOPS>(p(), q(), plan),
+            WITHIN if LOOPS => within_loop(p(), &node, plan),
+            WITHIN => within(p(), &node, plan),
+            _ if LOOPS => within_loop(p() ^ all, &node, plan) ^ all,
+            _ => within(p() ^ all, &node, plan) ^ all,
         };
         out[number] = root;
     }
-    Ok((root & 1) as usize)
+    root
 }
 
-fn run_good(run: &[u16], t: usize, m: usize) -> bool {
+fn run_good(run: &[u16], Plan { t, m, .. }: Plan) -> bool {
     run.len() == t && u32::from(run.iter().fold(0, |all, numbers| all | numbers)) >> m == 0
 }
 
@@ -467,19 +644,32 @@ fn up_to_last(p: u64) -> u64 {
     u64::MAX.checked_shr(p.leading_zeros()).unwrap_or(0)
 }
 
-fn until(p: u64, q: u64) -> u64 {
+/// What holds at a slot that comes round is met from every slot.
+fn eventually<const LOOPS: bool>(p: u64, plan: Plan) -> u64 {
+    if LOOPS && p >> plan.back() != 0 {
+        plan.all()
+    } else {
+        up_to_last(p)
+    }
+}
+
+fn until<const LOOPS: bool>(p: u64, q: u64, plan: Plan) -> u64 {
     // Where q is met within the next k slots, p holding until then, and where p holds throughout them.
     let (mut met, mut held) = (q, p);
     for k in [1, 2, 4, 8, 16, 32] {
         met |= held & met >> k;
         held &= held >> k;
     }
+    if LOOPS && met >> plan.back() & 1 == 1 {
+        // Also from all slots behind the last one where p does not hold: p holds up to slot T, and L comes next.
+        met |= plan.all() ^ up_to_last(p ^ plan.all());
+    }
     met
 }
 
 /// F[a,b]. With slot T as the sign, shifts repeat it for the slots after it.
-fn within(p: u64, node: &Node, t: usize) -> u64 {
-    let spare = MAX_SLOTS - t;
+fn within(p: u64, node: &Node, plan: Plan) -> u64 {
+    let spare = MAX_SLOTS - plan.t;
     let mut met = (p << spare) as i64 >> node.a;
     let width = node.b - node.a + 1;
     let mut k = 1;
@@ -491,6 +681,34 @@ fn within(p: u64, node: &Node, t: usize) -> u64 {
     met as u64 >> spare
 }
 
+/// The same where the plan loops: the truth at the times up to the window's last one stands in two words.
+fn within_loop(p: u64, node: &Node, plan: Plan) -> u64 {
+    let times = unrolled(p, plan, plan.t + node.b) >> node.a;
+    let (mut met, mut beyond) = (times as u64, (times >> 64) as u64);
+    let width = node.b - node.a + 1;
+    let mut k = 1;
+    while 2 * k <= width {
+        met |= met >> k | beyond << (64 - k);
+        beyond |= beyond >> k;
+        k *= 2;
+    }
+    if width > k {
+        met |= met >> (width - k) | beyond << (64 - (width - k));
+    }
+    met & plan.all()
+}
+
+/// The truth at some times at least, a bit for each.
+fn unrolled(p: u64, plan: Plan, times: usize) -> u128 {
+    let (mut word, mut known) = (u128::from(p), plan.t);
+    while known < times {
+        // All known times from L on are whole rounds, and come again.
+        word |= word >> plan.back() << known;
+        known += known - plan.back();
+    }
+    word
+}
+
 /// The first slot with a set bit.
 pub fn first_slot(word: u64) -> Option<usize> {
     (1..=MAX_SLOTS).find(|slot| word >> (slot - 1) & 1 == 1)
@@ -500,8 +718,9 @@ pub fn first_slot(word: u64) -> Option<usize> {
 
 /// The same with a byte for each node and slot, in the scope paper's words: writes the truth of node n at slot s, 0 or
 /// 1, to place n·T + s − 1 of `out`.
-pub fn evaluate_bytes(table: &[u8], t: usize, m: usize, run: &[u16], out: &mut [u8]) -> Result<usize, u32> {
-    let table = checked_table(table, t, m)?;
+pub fn evaluate_bytes(table: &[u8], plan: Plan, run: &[u16], out: &mut [u8]) -> Result<usize, u32> {
+    let table = checked_table(table, plan)?;
+    let Plan { t, m, .. } = plan;
     require(run.len() == t && run.iter().all(|&number| u32::from(number) >> m == 0), 8)?;
     let written = table.len() * t;
     require(out.len() >= written, 11)?;
@@ -521,20 +740,49 @@ pub fn evaluate_bytes(table: &[u8], t: usize, m: usize, run: &[u16], out: &mut [
             AND => each(truth, p, q, |p, q| p & q),
             OR => each(truth, p, q, |p, q| p | q),
             IMPLIES => each(truth, p, q, |p, q| p ^ 1 | q),
-            // From slot T on nothing changes, so each is known there and goes back slot by slot.
-            EVENTUALLY => backwards(truth, p, q, 0, |p, _, later| p | later),
-            ALWAYS => backwards(truth, p, q, 1, |p, _, later| p & later),
-            UNTIL => backwards(truth, p, q, 0, |p, q, later| q | p & later),
-            WITHIN => over_window(truth, p, &node, 1),
-            _ => over_window(truth, p, &node, 0),
+            EVENTUALLY | ALWAYS | UNTIL => {
+                // What slot L has by the slots up to T alone is what comes after T.
+                let back = plan.back();
+                up_to_end(node.kind, &mut truth[back..], &p[back..], &q[back..], None);
+                let after = truth[back];
+                up_to_end(node.kind, truth, p, q, Some(after));
+            }
+            WITHIN => over_window(truth, p, &node, plan, 1),
+            _ => over_window(truth, p, &node, plan, 0),
         }
     }
     Ok(usize::from(out[written - t]))
 }
 
+/// The truth of all slacks over a run: of the nodes, as above, and then of V, each by its F, G or U with k kept to the
+/// slots from its own to T, over the looped truth of its parts.
+pub fn slack_truth(table: &[u8], plan: Plan, run: &[u16]) -> Result<Vec<u8>, u32> {
+    let good = checked_table(table, plan)?;
+    let mut truth = vec![0; good.variables() - good.own(0)];
+    evaluate_bytes(table, plan, run, &mut truth)?;
+    let (nodes, seconds) = truth.split_at_mut(good.len() * plan.t);
+    let of = |node: usize| &nodes[node * plan.t..][..plan.t];
+    let endless = good.nodes().filter(Node::endless);
+    // There are no V unless the plan loops.
+    for (truth, node) in seconds.chunks_exact_mut(plan.t).zip(endless) {
+        up_to_end(node.kind, truth, of(node.left), of(node.right), None);
+    }
+    Ok(truth)
+}
+
 fn each(truth: &mut [u8], p: &[u8], q: &[u8], operator: impl Fn(u8, u8) -> u8) {
     for (place, (&p, &q)) in truth.iter_mut().zip(p.iter().zip(q)) {
         *place = operator(p, q);
+    }
+}
+
+/// F, G and U at slots that end with T, back from there, with the truth of what comes after T, or nothing after it.
+#[inline(always)]
+fn up_to_end(kind: u8, truth: &mut [u8], p: &[u8], q: &[u8], after: Option<u8>) {
+    match kind {
+        EVENTUALLY => backwards(truth, p, q, after.unwrap_or(0), |p, _, later| p | later),
+        ALWAYS => backwards(truth, p, q, after.unwrap_or(1), |p, _, later| p & later),
+        _ => backwards(truth, p, q, after.unwrap_or(0), |p, q, later| q | p & later),
     }
 }
 
@@ -546,16 +794,36 @@ fn backwards(truth: &mut [u8], p: &[u8], q: &[u8], mut later: u8, operator: impl
 }
 
 /// `sought` at the slots whose window has it, and the opposite elsewhere: F seeks a 1, and G a 0.
-fn over_window(truth: &mut [u8], p: &[u8], node: &Node, sought: u8) {
-    let last = p.len() - 1;
-    // Back from slot T, the window's first slot passes all slots from T on: the lowest that has it is the next.
-    let mut next = usize::MAX;
-    for (slot, place) in truth.iter_mut().enumerate().rev() {
-        let first = (slot + node.a).min(last);
-        next = if p[first] == sought { first } else { next };
-        let found = next <= (slot + node.b).min(last);
-        *place = u8::from(found) ^ sought ^ 1;
+fn over_window(truth: &mut [u8], p: &[u8], node: &Node, plan: Plan, sought: u8) {
+    let ahead = node.b - node.a;
+    let found = |next: usize, time: usize| u8::from(next <= time + ahead) ^ sought ^ 1;
+    // From slot T back: the slot of the window's first time, and the next time that has it.
+    let last = plan.t - 1 + node.a;
+    let mut first = plan.slot(last);
+    let mut next = next_time(p, last, first, ahead, plan, sought);
+    let (straight, turned) = truth.split_at_mut(plan.t - node.a.min(plan.t));
+    for (place, time) in turned.iter_mut().rev().zip((0..=last).rev()) {
+        next = if p[first] == sought { time } else { next };
+        *place = found(next, time);
+        first = if first == plan.back() { plan.t - 1 } else { first - 1 };
     }
+    for (slot, place) in straight.iter_mut().enumerate().rev() {
+        let time = slot + node.a;
+        next = if p[time] == sought { time } else { next };
+        *place = found(next, time);
+    }
+}
+
+/// The next time that has `sought` after a time from slot T on, whose slot this is; at most so many times ahead.
+fn next_time(p: &[u8], time: usize, mut slot: usize, ahead: usize, plan: Plan, sought: u8) -> usize {
+    // After a round all comes again.
+    for time in time + 1..time + ahead.min(plan.round() - 1) + 1 {
+        slot = plan.next(slot);
+        if p[slot] == sought {
+            return time;
+        }
+    }
+    usize::MAX
 }
 
 // ----------------------------------------------------------------------------------------------- rows
@@ -572,92 +840,116 @@ trait Rows {
 
     /// The rows of F[a,b] at a slot, where `parts` are the part's variables at the window's slots: P − p(s) ≥ 0 for
     /// each, then the sum of all p(s), less P, ≥ 0.
-    fn within(&mut self, big: usize, parts: Range<usize>) -> bool;
+    fn within(&mut self, big: usize, parts: Spans) -> bool;
 
     /// Those of G[a,b]: p(s) − P ≥ 0 for each, then P less all p(s) ≥ −(k − 1).
-    fn throughout(&mut self, big: usize, parts: Range<usize>) -> bool;
+    fn throughout(&mut self, big: usize, parts: Spans) -> bool;
 }
 
 /// Hands all rows of a good table to `rows`, or those up to the first at which it answers false.
 #[inline(always)]
-fn all_rows(table: &Table, t: usize, m: usize, rows: &mut impl Rows) -> bool {
-    for (number, node) in table.nodes().enumerate() {
-        if !node_rows(number, &node, 0..t, t, m, rows) {
+fn all_rows(table: &Table, rows: &mut impl Rows) -> bool {
+    let plan = table.plan;
+    for block in table.blocks() {
+        if !block_rows(&block, 0..plan.t, plan, rows) {
             return false;
         }
     }
-    let root = m + table.len() - 1;
-    rows.row(Relation::Equal, 1, [(1, root * t)])
+    rows.row(Relation::Equal, 1, [(1, table.own(table.len() - 1))])
 }
 
-/// The rows of a node at some slots.
+/// The rows of a node's P or V at some slots.
 #[inline(always)]
-fn node_rows(number: usize, node: &Node, slots: Range<usize>, t: usize, m: usize, rows: &mut impl Rows) -> bool {
-    let own = (m + number) * t;
-    let left = if node.kind == ATOM { node.left * t } else { (m + node.left) * t };
-    let right = (m + node.right) * t;
-    if node.kind >= WITHIN {
-        return window_rows(node, own, left, slots, t, rows);
+fn block_rows(block: &Block, slots: Range<usize>, plan: Plan, rows: &mut impl Rows) -> bool {
+    match block.node.kind {
+        ATOM..=IMPLIES => plain_rows(block, slots, rows),
+        EVENTUALLY | ALWAYS => chain_rows::<false>(block, slots, plan, rows),
+        UNTIL => chain_rows::<true>(block, slots, plan, rows),
+        _ => window_rows(block, slots, plan, rows),
     }
+}
+
+/// Those of kinds 1 to 5; `big`, `p` and `q` are the paper's P, p and q.
+#[inline(always)]
+fn plain_rows(block: &Block, slots: Range<usize>, rows: &mut impl Rows) -> bool {
+    use Relation::{AtLeast, Equal};
     for slot in slots {
-        let last = slot + 1 == t;
-        if !slot_rows(node.kind, last, own + slot, left + slot, right + slot, rows) {
+        let (big, p, q) = (block.own + slot, block.left + slot, block.right + slot);
+        let taken = match block.node.kind {
+            ATOM => rows.row(Equal, 0, [(1, big), (-1, p)]),
+            NOT => rows.row(Equal, 1, [(1, big), (1, p)]),
+            AND => {
+                rows.row(AtLeast, 0, [(1, p), (-1, big)])
+                    && rows.row(AtLeast, 0, [(1, q), (-1, big)])
+                    && rows.row(AtLeast, -1, [(1, big), (-1, p), (-1, q)])
+            }
+            OR => {
+                rows.row(AtLeast, 0, [(1, big), (-1, p)])
+                    && rows.row(AtLeast, 0, [(1, big), (-1, q)])
+                    && rows.row(AtLeast, 0, [(1, p), (1, q), (-1, big)])
+            }
+            _ => {
+                rows.row(AtLeast, 1, [(1, big), (1, p)])
+                    && rows.row(AtLeast, 0, [(1, big), (-1, q)])
+                    && rows.row(AtLeast, -1, [(1, q), (-1, p), (-1, big)])
+            }
+        };
+        if !taken {
             return false;
         }
     }
     true
 }
 
-/// Those of a node without a window at a slot; `big`, `p`, `q` and `next` are the paper's P, p, q and P'.
+/// Those of kinds 6 to 8.
 #[inline(always)]
-fn slot_rows(kind: u8, last: bool, big: usize, p: usize, q: usize, rows: &mut impl Rows) -> bool {
-    use Relation::{AtLeast, Equal};
-    let next = big + 1;
-    match kind {
-        ATOM => rows.row(Equal, 0, [(1, big), (-1, p)]),
-        NOT => rows.row(Equal, 1, [(1, big), (1, p)]),
-        AND => {
-            rows.row(AtLeast, 0, [(1, p), (-1, big)])
-                && rows.row(AtLeast, 0, [(1, q), (-1, big)])
-                && rows.row(AtLeast, -1, [(1, big), (-1, p), (-1, q)])
+fn chain_rows<const UNTILS: bool>(block: &Block, slots: Range<usize>, plan: Plan, rows: &mut impl Rows) -> bool {
+    let &Block { node, own, left, right, after, .. } = block;
+    let last = plan.t - 1;
+    // The slots with a P' end here.
+    let chained = if after.is_some() { plan.t } else { last };
+    for slot in slots.start..slots.end.min(chained) {
+        let (big, p, q) = (own + slot, left + slot, right + slot);
+        let next = if slot < last { big + 1 } else { after.unwrap_or(big) };
+        let taken = if UNTILS { until_rows(big, p, q, next, rows) } else { ahead_rows(node.kind, big, p, next, rows) };
+        if !taken {
+            return false;
         }
-        OR => {
-            rows.row(AtLeast, 0, [(1, big), (-1, p)])
-                && rows.row(AtLeast, 0, [(1, big), (-1, q)])
-                && rows.row(AtLeast, 0, [(1, p), (1, q), (-1, big)])
-        }
-        IMPLIES => {
-            rows.row(AtLeast, 1, [(1, big), (1, p)])
-                && rows.row(AtLeast, 0, [(1, big), (-1, q)])
-                && rows.row(AtLeast, -1, [(1, q), (-1, p), (-1, big)])
-        }
-        EVENTUALLY | ALWAYS if last => rows.row(Equal, 0, [(1, big), (-1, p)]),
-        EVENTUALLY => {
-            rows.row(AtLeast, 0, [(1, big), (-1, p)])
-                && rows.row(AtLeast, 0, [(1, big), (-1, next)])
-                && rows.row(AtLeast, 0, [(1, p), (1, next), (-1, big)])
-        }
-        ALWAYS => {
-            rows.row(AtLeast, 0, [(1, p), (-1, big)])
-                && rows.row(AtLeast, 0, [(1, next), (-1, big)])
-                && rows.row(AtLeast, -1, [(1, big), (-1, p), (-1, next)])
-        }
-        _ if last => rows.row(Equal, 0, [(1, big), (-1, q)]),
-        _ => {
-            rows.row(AtLeast, 0, [(1, big), (-1, q)])
-                && rows.row(AtLeast, 0, [(1, p), (1, q), (-1, big)])
-                && rows.row(AtLeast, 0, [(1, q), (1, next), (-1, big)])
-                && rows.row(AtLeast, -1, [(1, big), (-1, p), (-1, next)])
-        }
+    }
+    let part = if UNTILS { right } else { left };
+    slots.end <= chained || rows.row(Relation::Equal, 0, [(1, own + last), (-1, part + last)])
+}
+
+/// Those of kinds 6 and 7 for t < T; `next` is P'.
+#[inline(always)]
+fn ahead_rows(kind: u8, big: usize, p: usize, next: usize, rows: &mut impl Rows) -> bool {
+    use Relation::AtLeast;
+    if kind == EVENTUALLY {
+        rows.row(AtLeast, 0, [(1, big), (-1, p)])
+            && rows.row(AtLeast, 0, [(1, big), (-1, next)])
+            && rows.row(AtLeast, 0, [(1, p), (1, next), (-1, big)])
+    } else {
+        rows.row(AtLeast, 0, [(1, p), (-1, big)])
+            && rows.row(AtLeast, 0, [(1, next), (-1, big)])
+            && rows.row(AtLeast, -1, [(1, big), (-1, p), (-1, next)])
     }
 }
 
-/// Those of a node with a window; `own` and `left` are the variables of the node and of its part at the first slot.
-fn window_rows(node: &Node, own: usize, left: usize, mut slots: Range<usize>, t: usize, rows: &mut impl Rows) -> bool {
-    slots.all(|slot| {
-        let slots = node.looks_at(slot, t);
-        let (big, parts) = (own + slot, left + slots.start..left + slots.end);
-        if node.kind == WITHIN {
+/// Those of kind 8 for t < T.
+#[inline(always)]
+fn until_rows(big: usize, p: usize, q: usize, next: usize, rows: &mut impl Rows) -> bool {
+    use Relation::AtLeast;
+    rows.row(AtLeast, 0, [(1, big), (-1, q)])
+        && rows.row(AtLeast, 0, [(1, p), (1, q), (-1, big)])
+        && rows.row(AtLeast, 0, [(1, q), (1, next), (-1, big)])
+        && rows.row(AtLeast, -1, [(1, big), (-1, p), (-1, next)])
+}
+
+/// Those of a node with a window.
+fn window_rows(block: &Block, slots: Range<usize>, plan: Plan, rows: &mut impl Rows) -> bool {
+    block.node.looks(slots, plan).all(|(slot, spans)| {
+        let (big, parts) = (block.own + slot, spans.of(block.left));
+        if block.node.kind == WITHIN {
             rows.within(big, parts)
         } else {
             rows.throughout(big, parts)
@@ -665,49 +957,52 @@ fn window_rows(node: &Node, own: usize, left: usize, mut slots: Range<usize>, t:
     })
 }
 
-/// The rows of a node at all slots, and the terms of all of them together.
-fn node_counts(node: Node, t: usize) -> (usize, usize) {
-    match node.kind {
+/// The rows of a node's P or V at all slots, and the terms of all of them together.
+fn block_counts(block: &Block, plan: Plan) -> (usize, usize) {
+    let t = plan.t;
+    // The slots with a P', and those without.
+    let (chained, ends) = if block.after.is_some() { (t, 0) } else { (t - 1, 1) };
+    match block.node.kind {
         ATOM | NOT => (t, 2 * t),
         AND | OR | IMPLIES => (3 * t, 7 * t),
-        EVENTUALLY | ALWAYS => (3 * (t - 1) + 1, 7 * (t - 1) + 2),
-        UNTIL => (4 * (t - 1) + 1, 11 * (t - 1) + 2),
+        EVENTUALLY | ALWAYS => (3 * chained + ends, 7 * chained + 2 * ends),
+        UNTIL => (4 * chained + ends, 11 * chained + 2 * ends),
         _ => {
-            let looks = node.looks(t);
+            let looks: usize = block.node.looks(0..t, plan).map(|(_, spans)| spans.len()).sum();
             (looks + t, 3 * looks + t)
         }
     }
 }
 
 /// The rows of a table, and the terms of all of them together.
-fn row_and_term_count(table: &Table, t: usize) -> (usize, usize) {
-    let counts = table.nodes().map(|node| node_counts(node, t));
-    counts.fold((1, 1), |sum, node| (sum.0 + node.0, sum.1 + node.1))
+fn row_and_term_count(table: &Table) -> (usize, usize) {
+    let counts = table.blocks().map(|block| block_counts(&block, table.plan));
+    counts.fold((1, 1), |sum, block| (sum.0 + block.0, sum.1 + block.1))
 }
 
-/// The kind of the node whose rows have this one, where the table is good; none for the goal row.
-pub fn kind_of_row(table: &[u8], t: usize, m: usize, row: usize) -> Option<u8> {
+/// Whose row this is, where the table is good: the node's kind, and whether it is of V; none for the goal row.
+pub fn owner_of_row(table: &[u8], plan: Plan, row: usize) -> Option<(u8, bool)> {
+    let table = checked_table(table, plan).ok()?;
     let mut end = 0;
-    let mut nodes = checked_table(table, t, m).ok()?.nodes();
-    let node = nodes.find(|&node| {
-        end += node_counts(node, t).0;
+    let owner = table.blocks().find(|block| {
+        end += block_counts(block, plan).0;
         row < end
     })?;
-    Some(node.kind)
+    Some((owner.node.kind, owner.second))
 }
 
 /// The bytes that the rows of a table take.
-pub fn row_bytes(table: &[u8], t: usize, m: usize) -> Result<usize, u32> {
-    let (rows, terms) = row_and_term_count(&checked_table(table, t, m)?, t);
+pub fn row_bytes(table: &[u8], plan: Plan) -> Result<usize, u32> {
+    let (rows, terms) = row_and_term_count(&checked_table(table, plan)?);
     Ok(HEAD_BYTES * rows + TERM_BYTES * terms)
 }
 
 /// Writes the rows of a table to `out` as records; the result is their number.
-pub fn rows(table: &[u8], t: usize, m: usize, out: &mut [u8]) -> Result<usize, u32> {
-    let table = checked_table(table, t, m)?;
-    let (rows, terms) = row_and_term_count(&table, t);
+pub fn rows(table: &[u8], plan: Plan, out: &mut [u8]) -> Result<usize, u32> {
+    let table = checked_table(table, plan)?;
+    let (rows, terms) = row_and_term_count(&table);
     require(out.len() >= HEAD_BYTES * rows + TERM_BYTES * terms, 11)?;
-    all_rows(&table, t, m, &mut Writer { rest: out });
+    all_rows(&table, &mut Writer { rest: out });
     Ok(rows)
 }
 
@@ -726,10 +1021,12 @@ impl<'a> Writer<'a> {
 
     /// The rows with one part each.
     #[inline(always)]
-    fn each_part(&mut self, parts: Range<usize>, terms: impl Fn(usize) -> [(i8, usize); 2]) {
+    fn each_part(&mut self, parts: &Spans, terms: impl Fn(usize) -> [(i8, usize); 2]) {
         const LENGTH: usize = record_bytes(2);
-        for (place, part) in self.take(LENGTH * parts.len()).chunks_exact_mut(LENGTH).zip(parts) {
-            place.copy_from_slice(&record(Relation::AtLeast, 0, terms(part))[..LENGTH]);
+        for parts in parts.both() {
+            for (place, part) in self.take(LENGTH * parts.len()).chunks_exact_mut(LENGTH).zip(parts) {
+                place.copy_from_slice(&record(Relation::AtLeast, 0, terms(part))[..LENGTH]);
+            }
         }
     }
 
@@ -750,7 +1047,7 @@ const fn record_bytes(terms: usize) -> usize {
 }
 
 fn term(coefficient: i8, variable: usize) -> [u8; TERM_BYTES] {
-    // At most (16 + 128)·64 variables.
+    // At most (16 + 128 + 127)·64 variables.
     let [low, high] = (variable as u16).to_le_bytes();
     [coefficient as u8, low, high]
 }
@@ -777,46 +1074,43 @@ impl Rows for Writer<'_> {
         true
     }
 
-    fn within(&mut self, big: usize, parts: Range<usize>) -> bool {
-        self.each_part(parts.clone(), |part| [(1, big), (-1, part)]);
+    fn within(&mut self, big: usize, parts: Spans) -> bool {
+        self.each_part(&parts, |part| [(1, big), (-1, part)]);
         self.head(parts.len() + 1, 0);
-        self.terms(1, parts);
+        parts.both().into_iter().for_each(|parts| self.terms(1, parts));
         self.terms(-1, big..big + 1);
         true
     }
 
-    fn throughout(&mut self, big: usize, parts: Range<usize>) -> bool {
-        self.each_part(parts.clone(), |part| [(1, part), (-1, big)]);
+    fn throughout(&mut self, big: usize, parts: Spans) -> bool {
+        self.each_part(&parts, |part| [(1, part), (-1, big)]);
         self.head(parts.len() + 1, all_but_one(&parts));
         self.terms(1, big..big + 1);
-        self.terms(-1, parts);
+        parts.both().into_iter().for_each(|parts| self.terms(-1, parts));
         true
     }
 }
 
 /// The right side −(k − 1) of a window's k slots, of which there are at most 64.
-fn all_but_one(parts: &Range<usize>) -> i8 {
+fn all_but_one(parts: &Spans) -> i8 {
     1 - parts.len() as i8
 }
 
 // ----------------------------------------------------------------------------------------------- page
 
 /// Writes the rows of a table to `out` as a fixed-column MPS page; the result is its length.
-pub fn mps_page(table: &[u8], t: usize, m: usize, out: &mut [u8]) -> Result<usize, u32> {
-    let page = whole_page(table, t, m)?;
+pub fn mps_page(table: &[u8], plan: Plan, out: &mut [u8]) -> Result<usize, u32> {
+    let page = whole_page(table, plan)?;
     require(out.len() >= page.len(), 11)?;
     out[..page.len()].copy_from_slice(&page);
     Ok(page.len())
 }
 
 /// The page by itself. Fields 2 and 3 are ten columns wide: a name of at most eight characters and two spaces.
-pub fn whole_page(table: &[u8], t: usize, m: usize) -> Result<Vec<u8>, u32> {
-    let table = checked_table(table, t, m)?;
-    let (rows, terms) = row_and_term_count(&table, t);
-    let mut gathered = Gathered { heads: Vec::with_capacity(rows), entries: Vec::with_capacity(terms) };
-    all_rows(&table, t, m, &mut gathered);
-    let Gathered { heads, entries } = gathered;
-    let (atoms, variables) = (m * t, (m + table.len()) * t);
+pub fn whole_page(table: &[u8], plan: Plan) -> Result<Vec<u8>, u32> {
+    let table = checked_table(table, plan)?;
+    let Gathered { heads, entries } = Gathered::of(&table);
+    let (atoms, variables) = (table.own(0), table.variables());
     let columns = Columns::of(&entries, variables);
     let row_names: Vec<Name> = (0..heads.len()).map(|row| Name::new(b'R', row)).collect();
     let variable_names: Vec<Name> = (0..variables).map(|variable| Name::new(b'X', variable)).collect();
@@ -894,21 +1188,29 @@ impl Rows for Gathered {
     }
 
     // A window's variables are all different.
-    fn within(&mut self, big: usize, parts: Range<usize>) -> bool {
-        parts.clone().for_each(|part| self.plain_row(0, [(1, big), (-1, part)]));
-        self.plain_row(0, parts.map(|part| (1, part)).chain([(-1, big)]));
+    fn within(&mut self, big: usize, parts: Spans) -> bool {
+        parts.iter().for_each(|part| self.plain_row(0, [(1, big), (-1, part)]));
+        self.plain_row(0, parts.iter().map(|part| (1, part)).chain([(-1, big)]));
         true
     }
 
-    fn throughout(&mut self, big: usize, parts: Range<usize>) -> bool {
-        parts.clone().for_each(|part| self.plain_row(0, [(1, part), (-1, big)]));
+    fn throughout(&mut self, big: usize, parts: Spans) -> bool {
+        parts.iter().for_each(|part| self.plain_row(0, [(1, part), (-1, big)]));
         let right = all_but_one(&parts);
-        self.plain_row(right, [(1, big)].into_iter().chain(parts.map(|part| (-1, part))));
+        self.plain_row(right, [(1, big)].into_iter().chain(parts.iter().map(|part| (-1, part))));
         true
     }
 }
 
 impl Gathered {
+    #[inline(never)]
+    fn of(table: &Table) -> Self {
+        let (rows, terms) = row_and_term_count(table);
+        let mut gathered = Gathered { heads: Vec::with_capacity(rows), entries: Vec::with_capacity(terms) };
+        all_rows(table, &mut gathered);
+        gathered
+    }
+
     /// A ≥ row whose variables are all different.
     fn plain_row(&mut self, right: i8, terms: impl IntoIterator<Item = (i8, usize)>) {
         let row = self.heads.len() as u32;
@@ -1001,21 +1303,21 @@ impl Page {
 // ---------------------------------------------------------------------------------------------- judge
 
 /// Holds a solver's figures, in millionths, against the limits, the atoms and the rows of a table.
-pub fn judge(table: &[u8], t: usize, m: usize, figures: &[i32], e: i32) -> Result<Verdict, u32> {
-    let table = checked_table(table, t, m)?;
-    require(figures.len() == (m + table.len()) * t, 9)?;
+pub fn judge(table: &[u8], plan: Plan, figures: &[i32], e: i32) -> Result<Verdict, u32> {
+    let table = checked_table(table, plan)?;
+    require(figures.len() == table.variables(), 9)?;
     require((0..=MAX_TOLERANCE).contains(&e), 10)?;
     let one = ONE as i32;
     if let Some(variable) = figures.iter().position(|figure| !(-e..=one + e).contains(figure)) {
         return Ok(Verdict::Outside(variable));
     }
     // All figures are now from -e to 1,000,000 + e.
-    if let Some(variable) = figures[..m * t].iter().position(|figure| (e + 1..one - e).contains(figure)) {
+    if let Some(variable) = figures[..table.own(0)].iter().position(|figure| (e + 1..one - e).contains(figure)) {
         return Ok(Verdict::NotBinary(variable));
     }
     let mut checker = Checker { figures, e: i64::from(e), count: 0, shortfall: 0 };
-    Ok(if all_rows(&table, t, m, &mut checker) {
-        Verdict::Passed(checker.count, root_error(&table, t, e as u32))
+    Ok(if all_rows(&table, &mut checker) {
+        Verdict::Passed(checker.count, root_error(&table, e as u32))
     } else {
         Verdict::Broken(checker.count, checker.shortfall)
     })
@@ -1055,16 +1357,22 @@ impl Rows for Checker<'_> {
         })
     }
 
-    fn within(&mut self, big: usize, parts: Range<usize>) -> bool {
-        let (whole, parts) = (i64::from(self.figures[big]), &self.figures[parts]);
-        parts.iter().all(|&part| self.takes(i64::from(part) - whole)) && self.takes(whole - sum_of(parts))
+    fn within(&mut self, big: usize, parts: Spans) -> bool {
+        let (whole, [low, high]) = (i64::from(self.figures[big]), figures_of(self.figures, parts));
+        low.iter().chain(high).all(|&part| self.takes(i64::from(part) - whole))
+            && self.takes(whole - sum_of(low) - sum_of(high))
     }
 
-    fn throughout(&mut self, big: usize, parts: Range<usize>) -> bool {
+    fn throughout(&mut self, big: usize, parts: Spans) -> bool {
         let right = i64::from(all_but_one(&parts)) * ONE;
-        let (whole, parts) = (i64::from(self.figures[big]), &self.figures[parts]);
-        parts.iter().all(|&part| self.takes(whole - i64::from(part))) && self.takes(right - whole + sum_of(parts))
+        let (whole, [low, high]) = (i64::from(self.figures[big]), figures_of(self.figures, parts));
+        low.iter().chain(high).all(|&part| self.takes(whole - i64::from(part)))
+            && self.takes(right - whole + sum_of(low) + sum_of(high))
     }
+}
+
+fn figures_of(figures: &[i32], variables: Spans) -> [&[i32]; 2] {
+    variables.both().map(|variables| &figures[variables])
 }
 
 fn sum_of(figures: &[i32]) -> i64 {
@@ -1075,21 +1383,27 @@ fn sum_of(figures: &[i32]) -> i64 {
 
 const STOP: u32 = ONE as u32;
 
-/// The error figures of all slacks, that of node n at slot s at place n·T + s − 1, by the kinds of the nodes.
-pub fn error_figures(table: &[u8], t: usize, m: usize, e: i32) -> Result<Vec<u32>, u32> {
-    let table = checked_table(table, t, m)?;
+/// The error figures of all slacks in the order of their variables, that of node n at slot s at place n·T + s − 1, by
+/// the kinds of the nodes.
+pub fn error_figures(table: &[u8], plan: Plan, e: i32) -> Result<Vec<u32>, u32> {
+    let table = checked_table(table, plan)?;
     require((0..=MAX_TOLERANCE).contains(&e), 10)?;
-    Ok(errors_by_kind(&table, t, e as u32))
+    Ok(errors_by_kind(&table, e as u32))
 }
 
-fn root_error(table: &Table, t: usize, e: u32) -> u32 {
-    errors_by_kind(table, t, e)[(table.len() - 1) * t]
+fn root_error(table: &Table, e: u32) -> u32 {
+    errors_by_kind(table, e)[(table.len() - 1) * table.plan.t]
 }
 
-fn errors_by_kind(table: &Table, t: usize, e: u32) -> Vec<u32> {
-    let mut errors = vec![0; table.len() * t];
+fn errors_by_kind(table: &Table, e: u32) -> Vec<u32> {
+    let (plan, t) = (table.plan, table.plan.t);
+    let (nodes, all) = (table.len() * t, table.variables() - table.own(0));
+    let mut errors = vec![0; all];
+    let (of_nodes, of_seconds) = errors.split_at_mut(nodes);
+    // There are no V unless the plan loops.
+    let mut seconds = of_seconds.chunks_exact_mut(t);
     for (number, node) in table.nodes().enumerate() {
-        let (before, rest) = errors.split_at_mut(number * t);
+        let (before, rest) = of_nodes.split_at_mut(number * t);
         let own = &mut rest[..t];
         if node.kind == ATOM {
             own.fill(2 * e);
@@ -1097,12 +1411,16 @@ fn errors_by_kind(table: &Table, t: usize, e: u32) -> Vec<u32> {
         }
         let p = &before[node.left * t..][..t];
         let q = &before[node.right * t..][..t];
+        let second = if node.endless() { seconds.next() } else { None };
+        let after = second.map(|second| {
+            add_ahead(node.kind, second, p, q, e, None);
+            second[plan.back()]
+        });
         match node.kind {
             NOT => own.iter_mut().zip(p).for_each(|(own, p)| *own = STOP.min(e + p)),
             AND | OR | IMPLIES => add_parts(own, p, q, e),
-            EVENTUALLY | ALWAYS => add_backwards(own, p, e),
-            UNTIL => add_until(own, p, q, e),
-            _ => add_window(own, p, &node, e),
+            EVENTUALLY | ALWAYS | UNTIL => add_ahead(node.kind, own, p, q, e, after),
+            _ => add_window(own, p, &node, plan, e),
         }
     }
     errors
@@ -1116,52 +1434,62 @@ fn add_parts(own: &mut [u32], p: &[u32], q: &[u32], e: u32) {
 
 // Over 64 slots of figures up to the stop, no sum leaves 32 bits, so that only what is kept needs the stop.
 
-fn add_backwards(own: &mut [u32], p: &[u32], e: u32) {
-    let mut sum = 0;
+/// P or V of F, G and U, with the figure of P' at the last slot where there is one.
+fn add_ahead(kind: u8, own: &mut [u32], p: &[u32], q: &[u32], e: u32, after: Option<u32>) {
+    match (kind, after) {
+        (UNTIL, None) => {
+            // At the last slot the rows have no p.
+            let last = own.len() - 1;
+            own[last] = STOP.min(e + q[last]);
+            add_until(&mut own[..last], p, q, e, e + q[last]);
+        }
+        (UNTIL, Some(after)) => add_until(own, p, q, e, after),
+        _ => add_backwards(own, p, e, after.unwrap_or(0)),
+    }
+}
+
+fn add_backwards(own: &mut [u32], p: &[u32], e: u32, after: u32) {
+    let mut sum = after;
     for (own, p) in own.iter_mut().zip(p).rev() {
         sum += e + p;
         *own = STOP.min(sum);
     }
 }
 
-/// At the last slot the rows have no p.
-fn add_until(own: &mut [u32], p: &[u32], q: &[u32], e: u32) {
-    let last = own.len() - 1;
-    let mut sum = e + q[last];
-    own[last] = STOP.min(sum);
-    for (own, (p, q)) in own[..last].iter_mut().zip(p.iter().zip(q)).rev() {
+fn add_until(own: &mut [u32], p: &[u32], q: &[u32], e: u32, after: u32) {
+    let mut sum = after;
+    for (own, (p, q)) in own.iter_mut().zip(p.iter().zip(q)).rev() {
         sum += e + p + q;
         *own = STOP.min(sum);
     }
 }
 
-/// The sum over a window is the difference of two sums from the first slot on.
-fn add_window(own: &mut [u32], p: &[u32], node: &Node, e: u32) {
+/// The sum over a range is the difference of two sums from the first slot on.
+fn add_window(own: &mut [u32], p: &[u32], node: &Node, plan: Plan, e: u32) {
     let mut sums = [0; MAX_SLOTS + 1];
     for (slot, p) in p.iter().enumerate() {
         sums[slot + 1] = sums[slot] + p;
     }
-    let t = own.len();
-    for (slot, own) in own.iter_mut().enumerate() {
-        let slots = node.looks_at(slot, t);
-        *own = STOP.min(e + sums[slots.end] - sums[slots.start]);
+    let over = |slots: Range<usize>| sums[slots.end] - sums[slots.start];
+    for (slot, Spans { low, high }) in node.looks(0..plan.t, plan) {
+        own[slot] = STOP.min(e + over(low) + over(high));
     }
 }
 
 /// The same in the request's own words, from the rows alone: e, and the error figures of all other variables that stand
 /// in the slack's rows, each as often as it stands in that one of them where it stands most often.
-pub fn error_figures_by_rows(table: &[u8], t: usize, m: usize, e: i32) -> Result<Vec<u32>, u32> {
-    let table = checked_table(table, t, m)?;
+pub fn error_figures_by_rows(table: &[u8], plan: Plan, e: i32) -> Result<Vec<u32>, u32> {
+    let table = checked_table(table, plan)?;
     require((0..=MAX_TOLERANCE).contains(&e), 10)?;
-    let e = e as u32;
-    let mut errors = vec![None; (m + table.len()) * t];
-    errors[..m * t].fill(Some(e));
+    let (e, atoms) = (e as u32, table.own(0));
+    let mut errors = vec![None; table.variables()];
+    errors[..atoms].fill(Some(e));
     let mut standing = Standing { in_row: vec![0; errors.len()], most: vec![0; errors.len()], seen: Vec::new() };
-    for (number, node) in table.nodes().enumerate() {
-        // The rows have the slack of the next slot.
-        for slot in (0..t).rev() {
-            let own = (m + number) * t + slot;
-            node_rows(number, &node, slot..slot + 1, t, m, &mut standing);
+    for block in table.blocks() {
+        // The rows have the slack of the next slot, and at the last slot perhaps a V, whose block comes before.
+        for slot in (0..plan.t).rev() {
+            let own = block.own + slot;
+            block_rows(&block, slot..slot + 1, plan, &mut standing);
             let others =
                 standing.seen.drain(..).map(|variable| (variable, std::mem::take(&mut standing.most[variable])));
             let counted = others.filter(|&(variable, _)| variable != own);
@@ -1169,7 +1497,7 @@ pub fn error_figures_by_rows(table: &[u8], t: usize, m: usize, e: i32) -> Result
             errors[own] = Some(STOP.min(e + sum));
         }
     }
-    Ok(errors[m * t..].iter().map(|error| error.expect("all are known")).collect())
+    Ok(errors[atoms..].iter().map(|error| error.expect("all are known")).collect())
 }
 
 /// How often each variable stands in the rows taken so far, in that one where it stands most often.
@@ -1202,47 +1530,46 @@ impl Rows for Standing {
         self.take(terms.iter().map(|&(_, variable)| variable))
     }
 
-    fn within(&mut self, big: usize, parts: Range<usize>) -> bool {
-        parts.clone().for_each(|part| {
+    fn within(&mut self, big: usize, parts: Spans) -> bool {
+        parts.iter().for_each(|part| {
             self.take([big, part].into_iter());
         });
-        self.take(parts.chain([big]))
+        self.take(parts.iter().chain([big]))
     }
 
-    fn throughout(&mut self, big: usize, parts: Range<usize>) -> bool {
-        parts.clone().for_each(|part| {
+    fn throughout(&mut self, big: usize, parts: Spans) -> bool {
+        parts.iter().for_each(|part| {
             self.take([part, big].into_iter());
         });
-        self.take([big].into_iter().chain(parts))
+        self.take([big].into_iter().chain(parts.iter()))
     }
 }
 
 // ------------------------------------------------------------------------------------- allowed figures
 
-/// Gives the slacks new figures, node by node and from the last slot back. `choose` has the node, its figure of before
-/// and the least and the largest figure that its rows, the limits and the goal allow beside the figures given so far;
-/// a slack that nothing is allowed for keeps its figure.
+/// Gives the slacks new figures, node by node, V before P, and from the last slot back. `choose` has the node, the
+/// slack's figure of before and the least and the largest figure that its rows, the limits and the goal allow beside the
+/// figures given so far; a slack that nothing is allowed for keeps its figure.
 pub fn settle(
     table: &[u8],
-    t: usize,
-    m: usize,
+    plan: Plan,
     e: i32,
     figures: &mut [i32],
     mut choose: impl FnMut(usize, i32, i32, i32) -> i32,
 ) -> Result<(), u32> {
-    let table = checked_table(table, t, m)?;
-    require(figures.len() == (m + table.len()) * t, 9)?;
+    let table = checked_table(table, plan)?;
+    require(figures.len() == table.variables(), 9)?;
     let e = i64::from(e);
-    let goal = figures.len() - t;
-    for (number, node) in table.nodes().enumerate() {
-        for slot in (0..t).rev() {
-            let own = (m + number) * t + slot;
+    let goal = table.own(table.len() - 1);
+    for block in table.blocks() {
+        for slot in (0..plan.t).rev() {
+            let own = block.own + slot;
             let least = if own == goal { ONE - e } else { -e };
             let mut allowed = Allowed { figures, own, e, low: least, high: ONE + e };
-            node_rows(number, &node, slot..slot + 1, t, m, &mut allowed);
+            block_rows(&block, slot..slot + 1, plan, &mut allowed);
             let Allowed { low, high, .. } = allowed;
             if low <= high {
-                figures[own] = choose(number, figures[own], low as i32, high as i32);
+                figures[own] = choose(block.number, figures[own], low as i32, high as i32);
             }
         }
     }
@@ -1286,18 +1613,18 @@ impl Rows for Allowed<'_> {
         true
     }
 
-    fn within(&mut self, _: usize, parts: Range<usize>) -> bool {
-        let parts = &self.figures[parts];
-        parts.iter().for_each(|&part| self.at_least(i64::from(part)));
-        self.at_most(sum_of(parts));
+    fn within(&mut self, _: usize, parts: Spans) -> bool {
+        let [low, high] = figures_of(self.figures, parts);
+        low.iter().chain(high).for_each(|&part| self.at_least(i64::from(part)));
+        self.at_most(sum_of(low) + sum_of(high));
         true
     }
 
-    fn throughout(&mut self, _: usize, parts: Range<usize>) -> bool {
+    fn throughout(&mut self, _: usize, parts: Spans) -> bool {
         let right = i64::from(all_but_one(&parts)) * ONE;
-        let parts = &self.figures[parts];
-        parts.iter().for_each(|&part| self.at_most(i64::from(part)));
-        self.at_least(right + sum_of(parts));
+        let [low, high] = figures_of(self.figures, parts);
+        low.iter().chain(high).for_each(|&part| self.at_most(i64::from(part)));
+        self.at_least(right + sum_of(low) + sum_of(high));
         true
     }
 }

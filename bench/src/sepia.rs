@@ -1,6 +1,9 @@
 //! The proved library's C boundary, with the signatures of the reference.
 
-use crate::reference::Verdict;
+use crate::reference::{Plan, Verdict};
+
+/// The version of the boundary that is declared here.
+pub const VERSION: u32 = 8;
 
 #[repr(C)]
 #[derive(Clone, Copy)]
@@ -20,25 +23,44 @@ struct RawVerdict {
 }
 
 extern "C" {
+    fn sepia_version() -> u32;
     fn sepia_read(text: *const u8, text_len: usize, m: usize, out: *mut u8, out_len: usize) -> RawAnswer;
     fn sepia_evaluate(
         table: *const u8,
         table_len: usize,
         t: usize,
         m: usize,
+        l: usize,
         run: *const u16,
         run_len: usize,
         out: *mut u64,
         out_words: usize,
     ) -> RawAnswer;
     fn sepia_first_slot(word: u64) -> u32;
-    fn sepia_rows(table: *const u8, table_len: usize, t: usize, m: usize, out: *mut u8, out_len: usize) -> RawAnswer;
-    fn sepia_mps(table: *const u8, table_len: usize, t: usize, m: usize, out: *mut u8, out_len: usize) -> RawAnswer;
+    fn sepia_rows(
+        table: *const u8,
+        table_len: usize,
+        t: usize,
+        m: usize,
+        l: usize,
+        out: *mut u8,
+        out_len: usize,
+    ) -> RawAnswer;
+    fn sepia_mps(
+        table: *const u8,
+        table_len: usize,
+        t: usize,
+        m: usize,
+        l: usize,
+        out: *mut u8,
+        out_len: usize,
+    ) -> RawAnswer;
     fn sepia_judge(
         table: *const u8,
         table_len: usize,
         t: usize,
         m: usize,
+        l: usize,
         figures: *const i32,
         figures_len: usize,
         e: i32,
@@ -52,15 +74,21 @@ fn answer(raw: RawAnswer) -> Result<usize, u32> {
     }
 }
 
+/// The version of the library that is linked.
+pub fn version() -> u32 {
+    // SAFETY: nothing is lent.
+    unsafe { sepia_version() }
+}
+
 pub fn read(text: &[u8], m: usize, out: &mut [u8]) -> Result<usize, u32> {
     // SAFETY: each pointer comes with its slice's length, and only `out` is written.
     answer(unsafe { sepia_read(text.as_ptr(), text.len(), m, out.as_mut_ptr(), out.len()) })
 }
 
-pub fn evaluate(table: &[u8], t: usize, m: usize, run: &[u16], out: &mut [u64]) -> Result<usize, u32> {
+pub fn evaluate(table: &[u8], Plan { t, m, l }: Plan, run: &[u16], out: &mut [u64]) -> Result<usize, u32> {
     // SAFETY: as in `read`.
     answer(unsafe {
-        sepia_evaluate(table.as_ptr(), table.len(), t, m, run.as_ptr(), run.len(), out.as_mut_ptr(), out.len())
+        sepia_evaluate(table.as_ptr(), table.len(), t, m, l, run.as_ptr(), run.len(), out.as_mut_ptr(), out.len())
     })
 }
 
@@ -72,19 +100,19 @@ pub fn first_slot(word: u64) -> Option<usize> {
     }
 }
 
-pub fn rows(table: &[u8], t: usize, m: usize, out: &mut [u8]) -> Result<usize, u32> {
+pub fn rows(table: &[u8], Plan { t, m, l }: Plan, out: &mut [u8]) -> Result<usize, u32> {
     // SAFETY: as in `read`.
-    answer(unsafe { sepia_rows(table.as_ptr(), table.len(), t, m, out.as_mut_ptr(), out.len()) })
+    answer(unsafe { sepia_rows(table.as_ptr(), table.len(), t, m, l, out.as_mut_ptr(), out.len()) })
 }
 
-pub fn mps_page(table: &[u8], t: usize, m: usize, out: &mut [u8]) -> Result<usize, u32> {
+pub fn mps_page(table: &[u8], Plan { t, m, l }: Plan, out: &mut [u8]) -> Result<usize, u32> {
     // SAFETY: as in `read`.
-    answer(unsafe { sepia_mps(table.as_ptr(), table.len(), t, m, out.as_mut_ptr(), out.len()) })
+    answer(unsafe { sepia_mps(table.as_ptr(), table.len(), t, m, l, out.as_mut_ptr(), out.len()) })
 }
 
-pub fn judge(table: &[u8], t: usize, m: usize, figures: &[i32], e: i32) -> Result<Verdict, u32> {
+pub fn judge(table: &[u8], Plan { t, m, l }: Plan, figures: &[i32], e: i32) -> Result<Verdict, u32> {
     // SAFETY: as in `read`; nothing is written.
-    let raw = unsafe { sepia_judge(table.as_ptr(), table.len(), t, m, figures.as_ptr(), figures.len(), e) };
+    let raw = unsafe { sepia_judge(table.as_ptr(), table.len(), t, m, l, figures.as_ptr(), figures.len(), e) };
     let value = raw.value as usize;
     match (raw.refusal, raw.verdict, raw.error, raw.shortfall) {
         (0, 0, 0, 0) => Ok(Verdict::Outside(value)),

@@ -1,11 +1,11 @@
 //! The proved library beside the reference in one run: small, medium and largest inputs of each call, without
-//! windows and with them.
+//! windows and with them, with the loop slot at T and below it.
 
 use std::hint::black_box;
 
 use crate::clock::processor_time;
 use crate::inputs;
-use crate::reference::{self, Verdict};
+use crate::reference::{self, Plan, Verdict};
 use crate::sepia;
 use crate::shape;
 
@@ -120,8 +120,9 @@ struct Case {
     label: String,
     text: Vec<u8>,
     table: Vec<u8>,
-    t: usize,
-    m: usize,
+    plan: Plan,
+    /// The number of its rows.
+    rows: usize,
     run: Vec<u16>,
     /// Figures that pass.
     figures: Vec<i32>,
@@ -129,24 +130,29 @@ struct Case {
     broken: Vec<i32>,
 }
 
-fn case(Input { name, text, t, m }: Input) -> Case {
+fn case(Input { name, text, t, m }: &Input, l: usize) -> Case {
+    let plan = Plan { t: *t, m: *m, l };
     let mut table = vec![0; reference::MAX_NODES * reference::NODE_BYTES];
-    let nodes = reference::read(&text, m, &mut table).expect("a rule");
+    let nodes = reference::read(text, *m, &mut table).expect("a rule");
     table.truncate(nodes * reference::NODE_BYTES);
-    let run = inputs::run_with(&table, t, m, 1);
-    let figures = inputs::solution(&table, t, m, &run);
-    let broken = inputs::solution(&table, t, m, &inputs::run_with(&table, t, m, 0));
-    let label = format!("{name}: {nodes} nodes, {} bytes, T {t}, M {m}", text.len());
-    Case { name, label, text, table, t, m, run, figures, broken }
+    let mut records = vec![0; reference::row_bytes(&table, plan).expect("rows")];
+    let rows = reference::rows(&table, plan, &mut records).expect("rows");
+    let run = inputs::run_with(&table, plan, 1);
+    let figures = inputs::solution(&table, plan, &run);
+    let broken = inputs::solution(&table, plan, &inputs::run_with(&table, plan, 0));
+    let slot = if l < *t { format!(", L {l}") } else { String::new() };
+    let label = format!("{name}: {nodes} nodes, {} bytes, T {t}, M {m}{slot}", text.len());
+    Case { name: name.clone(), label, text: text.clone(), table, plan, rows, run, figures, broken }
 }
 
 /// Prints a line, and gives that of the reader by levels.
-fn time_read(Case { label, text, table, m, .. }: &Case) -> String {
+fn time_read(Case { label, text, table, plan, .. }: &Case) -> String {
+    let m = plan.m;
     let (mut one, mut two, mut three) = (vec![0; table.len()], vec![0; table.len()], vec![0; table.len()]);
     let rounds = measure([
-        &mut || finish(reference::read(black_box(text), *m, black_box(&mut one))),
-        &mut || finish(sepia::read(black_box(text), *m, black_box(&mut two))),
-        &mut || finish(reference::read_by_levels(black_box(text), *m, black_box(&mut three))),
+        &mut || finish(reference::read(black_box(text), m, black_box(&mut one))),
+        &mut || finish(sepia::read(black_box(text), m, black_box(&mut two))),
+        &mut || finish(reference::read_by_levels(black_box(text), m, black_box(&mut three))),
     ]);
     assert_eq!(one, two);
     assert_eq!(one, three);
@@ -155,13 +161,13 @@ fn time_read(Case { label, text, table, m, .. }: &Case) -> String {
 }
 
 /// Prints a line, and gives that of the bytes.
-fn time_evaluate(Case { label, table, t, m, run, .. }: &Case) -> String {
-    let (t, m, nodes) = (*t, *m, shape::len(table));
-    let (mut one, mut two, mut bytes) = (vec![0; nodes], vec![0; nodes], vec![0; nodes * t]);
+fn time_evaluate(Case { label, table, plan, run, .. }: &Case) -> String {
+    let (plan, nodes) = (*plan, shape::len(table));
+    let (mut one, mut two, mut bytes) = (vec![0; nodes], vec![0; nodes], vec![0; nodes * plan.t]);
     let rounds = measure([
-        &mut || finish(reference::evaluate(black_box(table), t, m, black_box(run), black_box(&mut one))),
-        &mut || finish(sepia::evaluate(black_box(table), t, m, black_box(run), black_box(&mut two))),
-        &mut || finish(reference::evaluate_bytes(black_box(table), t, m, black_box(run), black_box(&mut bytes))),
+        &mut || finish(reference::evaluate(black_box(table), plan, black_box(run), black_box(&mut one))),
+        &mut || finish(sepia::evaluate(black_box(table), plan, black_box(run), black_box(&mut two))),
+        &mut || finish(reference::evaluate_bytes(black_box(table), plan, black_box(run), black_box(&mut bytes))),
     ]);
     assert_eq!(one, two);
     print_pair("evaluate", label, &first_two(&rounds));
@@ -169,15 +175,15 @@ fn time_evaluate(Case { label, table, t, m, run, .. }: &Case) -> String {
 }
 
 /// Prints a line, and gives that of the copy.
-fn time_rows(Case { name, label, table, t, m, .. }: &Case) -> String {
-    let (t, m) = (*t, *m);
-    let bytes = reference::row_bytes(table, t, m).expect("rows");
+fn time_rows(Case { name, label, table, plan, rows: count, .. }: &Case) -> String {
+    let plan = *plan;
+    let bytes = reference::row_bytes(table, plan).expect("rows");
     let (mut one, mut two, mut three) = (vec![0; bytes], vec![0; bytes], vec![0; bytes]);
-    let count = reference::rows(table, t, m, &mut one).expect("rows");
+    reference::rows(table, plan, &mut one).expect("rows");
     let source = one.clone();
     let rounds = measure([
-        &mut || finish(reference::rows(black_box(table), t, m, black_box(&mut one))),
-        &mut || finish(sepia::rows(black_box(table), t, m, black_box(&mut two))),
+        &mut || finish(reference::rows(black_box(table), plan, black_box(&mut one))),
+        &mut || finish(sepia::rows(black_box(table), plan, black_box(&mut two))),
         &mut || black_box(&mut three).copy_from_slice(black_box(&source)),
     ]);
     assert_eq!(one, two);
@@ -190,12 +196,12 @@ fn time_rows(Case { name, label, table, t, m, .. }: &Case) -> String {
     )
 }
 
-fn time_page(Case { label, table, t, m, .. }: &Case) {
-    let (t, m) = (*t, *m);
-    let bytes = reference::whole_page(table, t, m).expect("a page").len();
+fn time_page(Case { label, table, plan, .. }: &Case) {
+    let plan = *plan;
+    let bytes = reference::whole_page(table, plan).expect("a page").len();
     let (mut one, mut two) = (vec![0; bytes], vec![0; bytes]);
-    let mut rust = || finish(reference::mps_page(black_box(table), t, m, black_box(&mut one)));
-    let mut rattle = || finish(sepia::mps_page(black_box(table), t, m, black_box(&mut two)));
+    let mut rust = || finish(reference::mps_page(black_box(table), plan, black_box(&mut one)));
+    let mut rattle = || finish(sepia::mps_page(black_box(table), plan, black_box(&mut two)));
     let rounds = measure([&mut rust, &mut rattle]);
     assert_eq!(one, two);
     print_pair("mps", &format!("{label}, {bytes} bytes of page"), &rounds);
@@ -203,19 +209,19 @@ fn time_page(Case { label, table, t, m, .. }: &Case) {
 
 /// Prints a line, and gives that of the error figures: the same rows are tested where the last is broken, but no error
 /// figures are worked out.
-fn time_judge(Case { label, table, t, m, figures, broken, .. }: &Case) -> String {
-    let (t, m) = (*t, *m);
-    let expected = reference::judge(table, t, m, figures, E);
-    let Ok(Verdict::Passed(rows, _)) = expected else { panic!("{expected:?}") };
-    assert_eq!(expected, sepia::judge(table, t, m, figures, E));
+fn time_judge(Case { label, table, plan, rows, figures, broken, .. }: &Case) -> String {
+    let plan = *plan;
+    let expected = reference::judge(table, plan, figures, E);
+    assert!(matches!(expected, Ok(Verdict::Passed(count, _)) if count == *rows), "{expected:?}");
+    assert_eq!(expected, sepia::judge(table, plan, figures, E));
     let goal = Ok(Verdict::Broken(rows - 1, reference::ONE));
-    assert_eq!(goal, reference::judge(table, t, m, broken, E));
-    assert_eq!(goal, sepia::judge(table, t, m, broken, E));
+    assert_eq!(goal, reference::judge(table, plan, broken, E));
+    assert_eq!(goal, sepia::judge(table, plan, broken, E));
     let rounds = measure([
-        &mut || finish(reference::judge(black_box(table), t, m, black_box(figures), E)),
-        &mut || finish(sepia::judge(black_box(table), t, m, black_box(figures), E)),
-        &mut || finish(reference::judge(black_box(table), t, m, black_box(broken), E)),
-        &mut || finish(sepia::judge(black_box(table), t, m, black_box(broken), E)),
+        &mut || finish(reference::judge(black_box(table), plan, black_box(figures), E)),
+        &mut || finish(sepia::judge(black_box(table), plan, black_box(figures), E)),
+        &mut || finish(reference::judge(black_box(table), plan, black_box(broken), E)),
+        &mut || finish(sepia::judge(black_box(table), plan, black_box(broken), E)),
     ]);
     let both: Vec<[f64; 2]> = rounds.iter().map(|&[rust, rattle, ..]| [rust, rattle]).collect();
     print_pair("judge", label, &both);
@@ -226,26 +232,48 @@ fn time_judge(Case { label, table, t, m, figures, broken, .. }: &Case) -> String
     format!("| {label}, {rows} rows | {} | {} |", line(1, 3), line(0, 2))
 }
 
+/// The time of a row where L is below T over that of a row where L is T, in Rattle's rows, page and judge.
+fn time_per_row(looped: &Case, stay: &Case) -> [String; 3] {
+    let room = |case: &Case| vec![0; reference::whole_page(&case.table, case.plan).expect("a page").len()];
+    let (mut one, mut two) = (room(looped), room(stay));
+    let rows = |case: &Case, out: &mut [u8]| finish(sepia::rows(black_box(&case.table), case.plan, black_box(out)));
+    let page = |case: &Case, out: &mut [u8]| finish(sepia::mps_page(black_box(&case.table), case.plan, black_box(out)));
+    let judge = |case: &Case| finish(sepia::judge(black_box(&case.table), case.plan, black_box(&case.figures), E));
+    [
+        per_row("rows", looped, stay, &measure([&mut || rows(looped, &mut one), &mut || rows(stay, &mut two)])),
+        per_row("mps", looped, stay, &measure([&mut || page(looped, &mut one), &mut || page(stay, &mut two)])),
+        per_row("judge", looped, stay, &measure([&mut || judge(looped), &mut || judge(stay)])),
+    ]
+}
+
+fn per_row(call: &str, looped: &Case, stay: &Case, rounds: &[[f64; 2]]) -> String {
+    let by_row = |&[below, at]: &[f64; 2]| [below / looped.rows as f64, at / stay.rows as f64];
+    let rounds: Vec<[f64; 2]> = rounds.iter().map(by_row).collect();
+    let side = |side: usize| median(rounds.iter().map(|round| round[side]).collect());
+    let counts = format!("{} and {} rows", looped.rows, stay.rows);
+    format!("| {call} | {}, {counts} | {:.2} | {:.2} | {} |", looped.label, side(0), side(1), ratio(&rounds, 0, 1))
+}
+
 fn print_table(title: &str, heads: &str, lines: &[String]) {
+    if lines.is_empty() {
+        return;
+    }
     println!("\n{title}\n\n{heads}");
     lines.iter().for_each(|line| println!("{line}"));
 }
 
-pub fn run() {
-    println!(
-        "Nanoseconds of processor time a call: medians of {ROUNDS} rounds of {REPETITIONS} timings, the sides in turn."
-    );
-    println!("The ratio is Rattle over Rust in one round: its median, least and largest over the rounds.");
-    println!();
-    println!("| call | input | Rust | Rattle | ratio | rounds |");
-    println!("|---|---|---:|---:|---:|---|");
+/// All calls with each of the cases; the reader, which has no loop slot, with those where L is T.
+fn time_calls(cases: &[Case]) {
+    println!("\n| call | input | Rust | Rattle | ratio | rounds |\n|---|---|---:|---:|---:|---|");
     let (mut levels, mut bytes, mut copies, mut errors) = (Vec::new(), Vec::new(), Vec::new(), Vec::new());
-    for case in all_inputs().map(case) {
-        levels.push(time_read(&case));
-        bytes.push(time_evaluate(&case));
-        copies.push(time_rows(&case));
-        time_page(&case);
-        errors.push(time_judge(&case));
+    for case in cases {
+        if case.plan.l == case.plan.t {
+            levels.push(time_read(case));
+        }
+        bytes.push(time_evaluate(case));
+        copies.push(time_rows(case));
+        time_page(case);
+        errors.push(time_judge(case));
     }
     print_table(
         "The reader beside one in Rust that has a function for each level of the grammar too:",
@@ -267,5 +295,31 @@ pub fn run() {
         "| input | Rattle with | without | ratio | rounds | Rust with | without | ratio | rounds |\n\
          |---|---:|---:|---:|---|---:|---:|---:|---|",
         &errors,
+    );
+}
+
+pub fn run() {
+    println!(
+        "Nanoseconds of processor time a call: medians of {ROUNDS} rounds of {REPETITIONS} timings, the sides in turn."
+    );
+    println!("The ratio is Rattle over Rust in one round: its median, least and largest over the rounds.");
+    let inputs = all_inputs();
+    let stay: Vec<Case> = inputs.iter().map(|input| case(input, input.t)).collect();
+    println!("\nL equal to T:");
+    time_calls(&stay);
+    time_loops("1", &inputs, &stay, |_| 1);
+    time_loops("T / 2", &inputs, &stay, |t| t / 2);
+}
+
+/// The same with another loop slot, and beside those where it is T.
+fn time_loops(name: &str, inputs: &[Input], stay: &[Case], slot: impl Fn(usize) -> usize) {
+    let looped: Vec<Case> = inputs.iter().map(|input| case(input, slot(input.t))).collect();
+    println!("\nL {name}:");
+    time_calls(&looped);
+    let lines: Vec<String> = looped.iter().zip(stay).flat_map(|(looped, stay)| time_per_row(looped, stay)).collect();
+    print_table(
+        "Nanoseconds of Rattle a row, beside a row where L is T:",
+        "| call | input | a row | where L is T | ratio | rounds |\n|---|---|---:|---:|---:|---|",
+        &lines,
     );
 }

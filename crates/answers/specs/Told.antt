@@ -2,11 +2,12 @@
 use Prim.Native.Nat.{ℕ}
 use Rattle.rules.specs.Demands
 use Rattle.answers.specs.declared.Refusal.{Refusal}
-use Rattle.answers.specs.declared.Refusal.the-variants.{Slots, Atoms, LongText, Grammar, AtomNumber, Nodes, Table, Run, Figures, Tolerance, Room, Window}
+use Rattle.answers.specs.declared.Refusal.the-variants.{Slots, Atoms, LongText, Grammar, AtomNumber, Nodes, Table, Run}
+use Rattle.answers.specs.declared.Refusal.the-variants.{Figures, Tolerance, Room, Window, Loop}
 use Rattle.answers.specs.declared.Answer.{Answer}
 use Rattle.answers.specs.declared.Answer.the-variants.{Value, Refused}
 
--- "Refusals by number", and of request N4: "12 when a is above b or b above 63 in a text"
+-- "Refusals by number", and of request N4: "12 when a is above b or b above 63 in a text"; of request N8: "13 when L is not 1 to T"
 abbrev pub numberOf : Refusal → ℕ
 numberOf Slots = 1
 numberOf Atoms = 2
@@ -20,6 +21,7 @@ numberOf Figures = 9
 numberOf Tolerance = 10
 numberOf Room = 11
 numberOf Window = 12
+numberOf Loop = 13
 
 abbrev pub told : Answer → Demands.Answer ℕ
 told (Value n) = Demands.Answer.answered n

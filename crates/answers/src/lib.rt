@@ -2,7 +2,7 @@
 ghost use mathlib.Core.Path.{_≡_};
 ghost use Rattle.answers.specs.Told.{numberOf};
 
-// The refusals of documents 01 and 02, in the order of their numbers, 1 to 12.
+// The refusals of documents 01 and 02, in the order of their numbers, 1 to 13.
 pub enum Refusal {
     Slots,
     Atoms,
@@ -16,6 +16,7 @@ pub enum Refusal {
     Tolerance,
     Room,
     Window,
+    Loop,
 }
 
 // A result, or the refusal.
@@ -41,5 +42,6 @@ pub fn number(r: Refusal) -> u32
         Refusal::Tolerance => 10,
         Refusal::Room => 11,
         Refusal::Window => 12,
+        Refusal::Loop => 13,
     }
 }

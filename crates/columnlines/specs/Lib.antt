@@ -1,2 +1,4 @@
 pub mod Walk
+pub mod Windows
 pub mod Column
+pub mod Parts

@@ -1,4 +1,4 @@
--- A text that is mostly empty parts: the parts that are not, and where a slot of a part stands.
+-- A text that is mostly empty parts: the parts that are not.
 use mathlib.Core.Path.{_≡_, refl, sym, ap, ap₂, _∙_}
 use mathlib.Core.Bool.{Bool, true, false, cond}
 use mathlib.Core.List.{List, [], _∷_, _++_, append-assoc, append-nil}
@@ -8,21 +8,8 @@ use native.Mathlib.Nat.{suc-mul}
 use native.Mathlib.Omega.{arith}
 use lib.ListN.{length, getD}
 use Rattle.lists.specs.Flat.{flat, flat-zero, flat-first}
-use Rattle.lists.specs.Place.{place-end}
 use Rattle.mps.specs.Reading.{gather}
 use Rattle.mps.specs.Gathered.{gather-append}
-
--- ---- a place y·T + a tells the part y and the slot a
-
-pub place-unique : {a b x y : ℕ} (T : ℕ) → a < T → b < T → y * T + a ≡ x * T + b → (y ≡ x) × (a ≡ b)
-place-unique {a} {b} {x} {y} T h g e = go (decLt y x) (decLt x y)
-  where
-    go : Dec (y < x) → Dec (x < y) → (y ≡ x) × (a ≡ b)
-    go (yes l) m = absurd (omega (arith, place-end T l))
-    go (no l) (yes m) = absurd (omega (arith, place-end T m))
-    go (no l) (no m) =
-        let same : y ≡ x = omega arith in
-        (same, omega (arith, ap (λ (z : ℕ). z * T) same))
 
 -- ---- parts one after the other, most of them empty
 
@@ -54,6 +41,18 @@ module _ {A : Type 0} (f : ℕ → List A) where
           let q : k ≡ s = omega arith in
           ap₂ _++_ (ap (flat f) q ∙ flat-before s (λ i g. e i (omega arith) (λ p. omega arith))) (ap f q)
 
+  -- empty but for part s
+  pub flat-only : (s k : ℕ) → s < k → ((i : ℕ) → i < k → (i ≡ s → ⊥) → f i ≡ []) → flat f k ≡ f s
+  unfolding flat
+  flat-only s zero h e = absurd (omega arith)
+  flat-only s (suc k) h e = go (decLt s k) (λ l. flat-only s k l (λ i g. e i (omega arith)))
+    where
+      go : Dec (s < k) → (s < k → flat f k ≡ f s) → flat f (suc k) ≡ f s
+      go (yes l) shorter = ap₂ _++_ (shorter l) (e k (omega arith) (λ q. omega arith)) ∙ append-nil (f s)
+      go (no l) shorter =
+          let q : k ≡ s = omega arith in
+          ap₂ _++_ (flat-none k (λ i g. e i (omega arith) (λ p. omega arith))) (ap f q)
+
 -- ---- the parts of a list of numbers
 
 pub gather-listed : (f : ℕ → List ℕ) (us : List ℕ) → gather f us ≡ flat (λ j. f (getD us j 0)) (length us)
@@ -79,7 +78,7 @@ module _ (f : ℕ → List ℕ) (test : ℕ → Bool) where
 -- ---- parts of equal length
 
 module _ {A : Type 0} (f : ℕ → List A) where
-  flat-add : (a b : ℕ) → flat f (a + b) ≡ flat f a ++ flat (λ i. f (a + i)) b
+  pub flat-add : (a b : ℕ) → flat f (a + b) ≡ flat f a ++ flat (λ i. f (a + i)) b
   unfolding flat
   flat-add a zero = let e : a + 0 ≡ a = omega arith in ap (flat f) e ∙ sym (append-nil (flat f a))
   flat-add a (suc b) =

@@ -1,21 +1,15 @@
-// Where the rows of each node begin, and in which nodes' rows a part of the variables stands.
+// Where the rows of each node begin and where its V does, and in which nodes' rows a part of the variables stands.
 use table::Kind;
 ghost use mathlib.Core.Path.{_≡_};
-ghost use mathlib.Core.Bool.{_||_};
 ghost use Prim.Native.Nat.{_+_, _≤_, _<_};
 ghost use lib.ListN.{length, set};
 ghost use Rattle.rules.specs.TableTest.{recordCount, nodesIn};
 ghost use Rattle.table.specs.Checks.{Ready};
+ghost use Rattle.rules.specs.Rows.{slackRows};
 ghost use Rattle.columns.specs.Users.{UsedBy};
-ghost use Rattle.columns.specs.Found.{Starts, Counted, Found};
+ghost use Rattle.columns.specs.Found.{Layout, Found};
 
-fn either(a: bool, b: bool) -> bool
-    ensures { λ r. ⌜ r ≡ (a || b) ⌝ }
-{
-    if a { true } else { b }
-}
-
-// Whether part x stands in the rows of node n: it is the node's own, or a part of it.
+// Whether part x is node n's own, or one of its parts.
 fn is_used(kind: Kind, left: usize, right: usize, m: usize, n: usize, x: usize) -> bool
     requires { ⌜ (m ≤ 16) × (n ≤ 128) × (left < 256) × (right < 256) ⌝ }
     ensures { λ r. ⌜ UsedBy kind left right m n x r ⌝ }
@@ -24,47 +18,53 @@ fn is_used(kind: Kind, left: usize, right: usize, m: usize, n: usize, x: usize) 
     let first = x == m + left;
     let second = x == m + right;
     match kind {
-        Kind::Atom => either(own, x == left),
-        Kind::Not => either(own, first),
-        Kind::And => either(own, either(first, second)),
-        Kind::Or => either(own, either(first, second)),
-        Kind::Implies => either(own, either(first, second)),
-        Kind::Eventually => either(own, first),
-        Kind::Always => either(own, first),
-        Kind::Until => either(own, either(first, second)),
-        Kind::Within => either(own, first),
-        Kind::Throughout => either(own, first),
+        Kind::Atom => table::either(own, x == left),
+        Kind::Not => table::either(own, first),
+        Kind::And => table::either(own, table::either(first, second)),
+        Kind::Or => table::either(own, table::either(first, second)),
+        Kind::Implies => table::either(own, table::either(first, second)),
+        Kind::Eventually => table::either(own, first),
+        Kind::Always => table::either(own, first),
+        Kind::Until => table::either(own, table::either(first, second)),
+        Kind::Within => table::either(own, first),
+        Kind::Throughout => table::either(own, first),
     }
 }
 
-// Stores one start. An array that is lent as a slice tells its length.
-fn put_start(starts: &mut [usize], at: usize, start: usize)
-    requires { ⌜ at < length (now starts) ⌝ }
-    ensures { λ _. ⌜ now (starts .exit) ≡ set (now (starts .entry)) at start ⌝ }
+// Stores one number. An array that is lent as a slice tells its length.
+fn put_number(list: &mut [usize], at: usize, number: usize)
+    requires { ⌜ at < length (now list) ⌝ }
+    ensures { λ _. ⌜ now (list .exit) ≡ set (now (list .entry)) at number ⌝ }
 {
-    starts[at] = start;
+    list[at] = number;
 }
 
-// Writes the number of the first row of each of the n nodes of a checked table, and returns how many rows they have.
-pub fn find_starts(table: &[u8], n: usize, t: usize, m: usize, starts: &mut [usize; 128]) -> usize
-    requires { ⌜ Ready t m (now table) × (n ≡ recordCount (now table)) ⌝ }
-    ensures { λ r. ⌜ Starts t (nodesIn (now (table .entry))) n (now (starts .exit)) × Counted t (nodesIn (now (table .entry))) n r × (r ≤ 532480) ⌝ }
+// Writes the number of the first row of each node of a checked table and, 128 places on, the first variable of its V; returns how many rows they have.
+pub fn find_layout(table: &[u8], t: usize, m: usize, l: usize, layout: &mut [usize; 256]) -> usize
+    requires { ⌜ Ready t m l (now table) × (length (now layout) ≡ 256) ⌝ }
+    ensures { λ r. ⌜ Layout t m l (nodesIn (now (table .entry))) (recordCount (now (table .entry))) (now (layout .exit)) × (r ≡ length (slackRows t m l (nodesIn (now (table .entry))))) × (r ≤ 589824) ⌝ }
 {
+    let n = table::count(table);
     let mut sum: usize = 0;
+    let mut looping: usize = 0;
     let mut i: usize = 0;
     while i < n {
-        put_start(starts, i, sum);
+        put_number(layout, i, sum);
+        put_number(layout, 128 + i, row::place(m + n + looping, t) as usize);
         let node = table::node_at(table, i);
         let kind = node.kind;
-        sum += row::node_count(kind, t as u16, node.from as u16, node.to as u16);
+        let from = node.from as u16;
+        let to = node.to as u16;
+        sum += row::node_count(kind, t as u16, l as u16, from, to);
+        looping = table::one_more(looping, table::loops_at(table, i));
         i += 1;
     }
     sum
 }
 
-// Writes the numbers of the nodes in whose rows part x stands, and returns how many they are.
+// Writes the numbers of the nodes in whose rows part x stands, an atom's or a node's own, and returns how many they are.
 pub fn find_users(table: &[u8], n: usize, m: usize, x: usize, users: &mut [u8; 128]) -> usize
-    requires { ⌜ (m ≤ 16) × (n ≤ 128) × (n ≡ recordCount (now table)) ⌝ }
+    requires { ⌜ (m ≤ 16) × (n ≤ 128) × (n ≡ recordCount (now table)) × (x < m + n) ⌝ }
     ensures { λ r. ⌜ Found m (nodesIn (now (table .entry))) x (now (users .exit)) r ⌝ }
 {
     let mut count: usize = 0;

@@ -38,7 +38,8 @@ result-answered (answered (wrote j bytes)) n out out′ left e =
 -- where a call answers n, what `Is` says is written; `Out` is the same of the result and the buffer
 pub answers : (Refused : ℕ → Type 0) (Is : Written → Type 0) (a : Answer Written) → Exact Refused Is a → (answer : Answer ℕ) (out out′ : List ℕ) →
     answer ≡ result a → out′ ≡ buffer a out → (n : ℕ) (Out : Type 0) →
-    ((bytes : List ℕ) → Is (wrote n bytes) → Holding bytes out out′ → Out) → (Out → (bytes : List ℕ) × Is (wrote n bytes)) → (answer ≡ answered n) ↔ (None Refused × Out)
+    ((bytes : List ℕ) → Is (wrote n bytes) → Holding bytes out out′ → Out) → (Out → (bytes : List ℕ) × Is (wrote n bytes)) →
+    (answer ≡ answered n) ↔ (None Refused × Out)
 answers Refused Is a exact answer out out′ told left n Out to from = (
   λ e.
       let w = result-answered a n out out′ left (sym told ∙ e) in
@@ -67,40 +68,46 @@ reader-heights m text answer out out′ told left n e =
           ∙ height-written (nodesOf p) i (omega (arith, length-nodesFrom 0 p, x .1 .2)),
     )
 
-pub evaluator-answers : (t m : ℕ) (table run : List ℕ) (answer : Answer ℕ) (out out′ : List ℕ) →
-    answer ≡ result (evaluateOutcome t m table run (length out)) → out′ ≡ buffer (evaluateOutcome t m table run (length out)) out → EvaluatorAnswers t m table run answer out out′
-evaluator-answers t m table run answer out out′ told left v =
-    answers (EvaluateRefused t m table run (length out)) _ (evaluateOutcome t m table run (length out)) (evaluator-exact t m table run (length out)) answer out out′ told left v _
+pub evaluator-answers : (t m l : ℕ) (table run : List ℕ) (answer : Answer ℕ) (out out′ : List ℕ) →
+    answer ≡ result (evaluateOutcome t m l table run (length out)) → out′ ≡ buffer (evaluateOutcome t m l table run (length out)) out →
+    EvaluatorAnswers t m l table run answer out out′
+evaluator-answers t m l table run answer out out′ told left v =
+    answers (EvaluateRefused t m l table run (length out)) _ (evaluateOutcome t m l table run (length out))
+    (evaluator-exact t m l table run (length out)) answer out out′ told left v _
     (λ bytes i h.
     let e : i .1 ≡ v = cc (i .6) in
     let f : bytes ≡ i .2 = cc (i .6) in
     (i .0, i .2, i .3, i .4, rw e at (i .5), rw f at h))
     (λ i. (i .1, (i .0, v, i .1, i .2, i .3, i .4, refl)))
 
-pub evaluator-bytes : (t m : ℕ) (table run : List ℕ) (answer : Answer ℕ) (out out′ : List ℕ) → EvaluatorAnswers t m table run answer out out′ →
-    SaysBytes t m table run answer out′
-evaluator-bytes t m table run answer out out′ told v e =
+pub evaluator-bytes : (t m l : ℕ) (table run : List ℕ) (answer : Answer ℕ) (out out′ : List ℕ) → EvaluatorAnswers t m l table run answer out out′ →
+    SaysBytes t m l table run answer out′
+evaluator-bytes t m l table run answer out out′ told v e =
     let x = told v .0 e .1 in
     let ns = x .0 in
     let words = x .1 in
-    let bytes = words-give-bytes t run ns words (x .3) in (
+    let bytes = words-give-bytes t l run ns words (x .3) in (
       ns,
       bytesOf t words,
       x .2,
       bytes,
-      λ n s h l u.
+      λ n s h from upto.
           let inside : n < length words = omega (arith, x .3 .count) in
           ap (λ (o : List ℕ). slotBit (getD o n 0) s) (x .5) ∙ ap (λ (w : ℕ). slotBit w s) (List·getD-append words (drop (length words) out) 0 n inside)
-          ∙ words-say-same t run ns (bytesOf t words) words bytes (x .3) n s h l u,
+          ∙ words-say-same t l run ns (bytesOf t words) words bytes (x .3) n s h from upto,
     )
 
-pub row-writer-answers : (t m : ℕ) (table : List ℕ) (answer : Answer ℕ) (out out′ : List ℕ) →
-    answer ≡ result (rowsOutcome t m table (length out)) → out′ ≡ buffer (rowsOutcome t m table (length out)) out → RowWriterAnswers t m table answer out out′
-row-writer-answers t m table answer out out′ told left n =
-    answers (RowsRefused t m table (length out)) _ (rowsOutcome t m table (length out)) (rows-exact t m table (length out)) answer out out′ told left n _
-    (λ bytes i h. let e : n ≡ length (rowsOf t m (i .0)) = cc (i .2) in let f : bytes ≡ rowsBytes (rowsOf t m (i .0)) = cc (i .2) in (i .0, i .1, e, rw f at h))
-    (λ i. (rowsBytes (rowsOf t m (i .0)), (i .0, i .1, ap (λ (k : ℕ). wrote k (rowsBytes (rowsOf t m (i .0)))) (i .2))))
+pub row-writer-answers : (t m l : ℕ) (table : List ℕ) (answer : Answer ℕ) (out out′ : List ℕ) →
+    answer ≡ result (rowsOutcome t m l table (length out)) → out′ ≡ buffer (rowsOutcome t m l table (length out)) out →
+    RowWriterAnswers t m l table answer out out′
+row-writer-answers t m l table answer out out′ told left n =
+    answers (RowsRefused t m l table (length out)) _ (rowsOutcome t m l table (length out)) (rows-exact t m l table (length out)) answer out out′ told left n _
+    (λ bytes i h.
+    let e : n ≡ length (rowsOf t m l (i .0)) = cc (i .2) in
+    let f : bytes ≡ rowsBytes (rowsOf t m l (i .0)) = cc (i .2) in
+    (i .0, i .1, e, rw f at h))
+    (λ i. (rowsBytes (rowsOf t m l (i .0)), (i .0, i .1, ap (λ (k : ℕ). wrote k (rowsBytes (rowsOf t m l (i .0)))) (i .2))))
 
-pub judge-answers : (t m : ℕ) (table : List ℕ) (figures : List ℤ) (tolerance : ℤ) (ruling : Answer Verdict) →
-    ruling ≡ judgeOutcome t m table figures tolerance → JudgeAnswers t m table figures tolerance ruling
-judge-answers t m table figures tolerance ruling told v = rw told (judge-exact t m table figures tolerance .answers v)
+pub judge-answers : (t m l : ℕ) (table : List ℕ) (figures : List ℤ) (tolerance : ℤ) (ruling : Answer Verdict) →
+    ruling ≡ judgeOutcome t m l table figures tolerance → JudgeAnswers t m l table figures tolerance ruling
+judge-answers t m l table figures tolerance ruling told v = rw told (judge-exact t m l table figures tolerance .answers v)

@@ -27,27 +27,27 @@ ReaderAnswers m text answer out out′ =
     (n : ℕ) → (answer ≡ answered n) ↔
     (None (ReadRefused m text (length out)) × ((p : Rule) × Says text p × (n ≡ size p) × Holding (tableBytes (nodesOf p)) out out′))
 
--- the evaluator answers the root's truth at slot 1, and the words with each node's truth at each slot are then written
-abbrev pub EvaluatorAnswers : (t m : ℕ) (table run : List ℕ) (answer : Answer ℕ) (out out′ : List ℕ) → Type 0
-EvaluatorAnswers t m table run answer out out′ =
+-- the evaluator answers the root's truth at slot 1 on the run that loops to L, and the words with each node's truth at each slot are then written
+abbrev pub EvaluatorAnswers : (t m l : ℕ) (table run : List ℕ) (answer : Answer ℕ) (out out′ : List ℕ) → Type 0
+EvaluatorAnswers t m l table run answer out out′ =
     (v : ℕ) → (answer ≡ answered v) ↔
-    (None (EvaluateRefused t m table run (length out)) ×
-    ((ns : List Node) × (words : List ℕ) × Good m table ns × TruthWords t run ns words ×
-    TruthBit (Holds (endless t run) (ruleAt ns (root ns)) 1) v × Holding words out out′))
+    (None (EvaluateRefused t m l table run (length out)) ×
+    ((ns : List Node) × (words : List ℕ) × Good m table ns × TruthWords t l run ns words ×
+    TruthBit (Holds (endless t l run) (ruleAt ns (root ns)) 1) v × Holding words out out′))
 
 -- the first slot with a set bit, or that there is none
 abbrev pub FirstAnswers : (word : ℕ) (answer : Option ℕ) → Type 0
 FirstAnswers word answer = ((t : ℕ) → (answer ≡ some t) ↔ Lowest (SlotSet word) t) × ((answer ≡ none) ↔ None (SlotSet word))
 
 -- the row writer answers the row count, and the records of the table's rows are then written
-abbrev pub RowWriterAnswers : (t m : ℕ) (table : List ℕ) (answer : Answer ℕ) (out out′ : List ℕ) → Type 0
-RowWriterAnswers t m table answer out out′ =
+abbrev pub RowWriterAnswers : (t m l : ℕ) (table : List ℕ) (answer : Answer ℕ) (out out′ : List ℕ) → Type 0
+RowWriterAnswers t m l table answer out out′ =
     (n : ℕ) → (answer ≡ answered n) ↔
-    (None (RowsRefused t m table (length out)) ×
-    ((ns : List Node) × Good m table ns × (n ≡ length (rowsOf t m ns)) × Holding (rowsBytes (rowsOf t m ns)) out out′))
+    (None (RowsRefused t m l table (length out)) ×
+    ((ns : List Node) × Good m table ns × (n ≡ length (rowsOf t m l ns)) × Holding (rowsBytes (rowsOf t m l ns)) out out′))
 
 -- the judge's verdict is the one that document 01 gives
-abbrev pub JudgeAnswers : (t m : ℕ) (table : List ℕ) (figures : List ℤ) (tolerance : ℤ) (ruling : Answer Verdict) → Type 0
-JudgeAnswers t m table figures tolerance ruling =
+abbrev pub JudgeAnswers : (t m l : ℕ) (table : List ℕ) (figures : List ℤ) (tolerance : ℤ) (ruling : Answer Verdict) → Type 0
+JudgeAnswers t m l table figures tolerance ruling =
     (v : Verdict) → (ruling ≡ answered v) ↔
-    (None (JudgeRefused t m table figures tolerance) × ((ns : List Node) × (e : ℕ) × Good m table ns × (tolerance ≡ pos e) × Judged t m e ns figures v))
+    (None (JudgeRefused t m l table figures tolerance) × ((ns : List Node) × (e : ℕ) × Good m table ns × (tolerance ≡ pos e) × Judged t m l e ns figures v))

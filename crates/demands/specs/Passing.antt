@@ -13,24 +13,26 @@ use lib.Seq.{ext-getD, getD-take, getD-drop, length-take-le}
 use lib.IntN.{ℤ, pos, negsuc, negℤ, _+ℤ_, _-ℤ_, _*ℤ_, natAbs, -ℤ-+ℤ-cancel, +ℤ-idl, +ℤ-idr}
 use lib.Signed.{_≤ℤ_, clashℤ}
 use Rattle.lists.specs.Every.{Every, every-append, at-every}
-use Rattle.rules.specs.Quantities.{bitAt, one}
+use Rattle.rules.specs.Quantities.{bitAt, one, LoopAllowed}
 use Rattle.rules.specs.Table.{Node, Good, root}
 use Rattle.rules.specs.ErrorFigure.{ErrorFigures}
 use Rattle.rules.specs.Errors.Naturals.{not-below}
 use Rattle.rules.specs.Errors.Passed.{passed-is-near, rounded-run}
 use Rattle.rules.specs.Evaluation.{bitOf}
 use Rattle.rules.specs.RunOfBits.{runOf, run-good, run-bit}
-use Rattle.rules.specs.Rows.{Relation, Row, Meets, MeetsBy, valueAt, sumOf, atomVariable, slack, rowsOf, slackRows, goalRow}
+use Rattle.rules.specs.Rows.{Relation, Row, Meets, MeetsBy, valueAt, sumOf, atomVariable, slack, looping, slackCount, variableCount, rowsOf}
+use Rattle.rules.specs.Rows.{slackRows, goalRow}
 use Rattle.rules.specs.Rows.Relation.{at-least, equal}
 use Rattle.rules.specs.Judge.{Apart, BrokenBy, None, Verdict, OutsideAt, NotBinaryAt, BrokenAt, Judged}
 use Rattle.rules.specs.Judge.Judged.{is-outside, is-not-binary, is-broken, is-passed}
-use Rattle.rules.specs.Refusals.{TableRefused, JudgeRefused}
+use Rattle.rules.specs.Refusals.{JudgeRefused}
 use Rattle.rules.specs.Demands.{Fits, OnlyTheTruth}
 use Rattle.rules.specs.Solution.Truths.{place-lt}
 use Rattle.rules.specs.Exactness.Tests.{at-least as bounded}
 use Rattle.rules.specs.Theorems.{only-the-truth}
 use Rattle.rules.specs.Outcome.{judgeOutcome}
 use Rattle.rules.specs.Demands.{Answer}
+use Rattle.demands.specs.Refusing.{judge-loop-allowed}
 use Rattle.demands.specs.Answering.{judge-answers}
 use Rattle.demands.specs.Trust.{PassedNear}
 use Rattle.demands.specs.Passed.{HoldsBy, RowHolds, Passes, PassedIff, TrulyMet, PassedIsTrue, PassedMeans, PassedAtZero}
@@ -53,47 +55,48 @@ every-at P d (a ∷ l) h (suc i) u = every-at P d l (h .1) i (omega arith)
 
 -- ---- passed, and every limit, row and atom
 
-module _ (T M e : ℕ) (ns : List Node) (xs : List ℤ) where
+module _ (T M L e : ℕ) (ns : List Node) (xs : List ℤ) where
   abbrev row : ℕ → Row
-  row i = getD (rowsOf T M ns) i (goalRow T M ns)
+  row i = getD (rowsOf T M L ns) i (goalRow T M ns)
 
-  inside : None (OutsideAt T M e ns xs) → (v : ℕ) → v < length xs → (negℤ (pos e) ≤ℤ valueAt xs v) × (valueAt xs v ≤ℤ pos (one + e))
+  inside : None (OutsideAt T M L e ns xs) → (v : ℕ) → v < length xs → (negℤ (pos e) ≤ℤ valueAt xs v) × (valueAt xs v ≤ℤ pos (one + e))
   inside h v u =
       (not-below (valueAt xs v) (negℤ (pos e)) (λ k. h v (u, inl k)), not-below (pos (one + e)) (valueAt xs v) (λ k. h v (u, inr k)))
 
-  binary : None (NotBinaryAt T M e ns xs) → (v : ℕ) → v < M * T → (natAbs (valueAt xs v -ℤ pos 0) ≤ e) ⊎ (natAbs (valueAt xs v -ℤ pos one) ≤ e)
+  binary : None (NotBinaryAt T M L e ns xs) → (v : ℕ) → v < M * T → (natAbs (valueAt xs v -ℤ pos 0) ≤ e) ⊎ (natAbs (valueAt xs v -ℤ pos one) ≤ e)
   binary h v u = go (decLt e (natAbs (valueAt xs v -ℤ pos 0)))
     where
       go : Dec (e < natAbs (valueAt xs v -ℤ pos 0)) → (natAbs (valueAt xs v -ℤ pos 0) ≤ e) ⊎ (natAbs (valueAt xs v -ℤ pos one) ≤ e)
       go (yes k) = inr (not-apart e (pos one) (valueAt xs v) (λ l. h v (u, (k, l))))
       go (no k) = inl (omega arith)
 
-  hold : None (BrokenAt T M e ns xs) → Every (RowHolds e xs) (rowsOf T M ns)
+  hold : None (BrokenAt T M L e ns xs) → Every (RowHolds e xs) (rowsOf T M L ns)
   hold h =
-      at-every (RowHolds e xs) (goalRow T M ns) (rowsOf T M ns)
+      at-every (RowHolds e xs) (goalRow T M ns) (rowsOf T M L ns)
       (λ i u. holds-iff (row i .relation) e (row i .right *ℤ pos one) (sumOf xs (row i .terms)) .0 (λ k. h i (u, k)))
 
-  passes : {v : Verdict} (n f : ℕ) → v ≡ Verdict.passed n f → Judged T M e ns xs v → Passes T M e ns xs
+  passes : {v : Verdict} (n f : ℕ) → v ≡ Verdict.passed n f → Judged T M L e ns xs v → Passes T M L e ns xs
   passes n k f (is-outside h) = let z : _≡_ {A = ℕ} 0 1 = cc in absurd (omega arith)
   passes n k f (is-not-binary p h) = let z : _≡_ {A = ℕ} 0 1 = cc in absurd (omega arith)
   passes n k f (is-broken p q h) = let z : _≡_ {A = ℕ} 0 1 = cc in absurd (omega arith)
   passes n k f (is-passed p q r x) = record { limits = inside p; binary = binary q; rows = hold r }
 
-  not-outside : Passes T M e ns xs → None (OutsideAt T M e ns xs)
+  not-outside : Passes T M L e ns xs → None (OutsideAt T M L e ns xs)
   not-outside p v (u, inl k) = clashℤ k (p .limits v u .0)
   not-outside p v (u, inr k) = clashℤ k (p .limits v u .1)
 
-  all-binary : Passes T M e ns xs → None (NotBinaryAt T M e ns xs)
+  all-binary : Passes T M L e ns xs → None (NotBinaryAt T M L e ns xs)
   all-binary p v (u, (a, b)) = ⊎-elim (λ h. omega arith) (λ h. omega arith) (p .binary v u)
 
-  none-broken : Passes T M e ns xs → None (BrokenAt T M e ns xs)
+  none-broken : Passes T M L e ns xs → None (BrokenAt T M L e ns xs)
   none-broken p i (u, k) =
-      holds-iff (row i .relation) e (row i .right *ℤ pos one) (sumOf xs (row i .terms)) .1 (every-at (RowHolds e xs) (goalRow T M ns) (rowsOf T M ns) (p .rows) i u) k
+      holds-iff (row i .relation) e (row i .right *ℤ pos one) (sumOf xs (row i .terms)) .1
+      (every-at (RowHolds e xs) (goalRow T M ns) (rowsOf T M L ns) (p .rows) i u) k
 
 pub passed-iff : PassedIff
-passed-iff T M e ns xs figure figures = (
-  passes T M e ns xs (length (rowsOf T M ns)) (figure (slack T M (root ns) 1)) refl,
-  λ p. is-passed (not-outside T M e ns xs p) (all-binary T M e ns xs p) (none-broken T M e ns xs p) figures,
+passed-iff T M L e ns xs figure figures = (
+  passes T M L e ns xs (length (rowsOf T M L ns)) (figure (slack T M (root ns) 1)) refl,
+  λ p. is-passed (not-outside T M L e ns xs p) (all-binary T M L e ns xs p) (none-broken T M L e ns xs p) figures,
 )
 
 -- ---- the run that the atoms make
@@ -128,15 +131,19 @@ all-met xs (r ∷ rs) h = (met-by (r .relation) (r .right *ℤ pos one) (sumOf x
 
 -- ---- tolerance 0
 
-module _ (T M : ℕ) (table : List ℕ) (ns : List Node) (xs : List ℤ) (0<T : 1 ≤ T) (good : Good M table ns) (count : length xs ≡ (M + length ns) * T) (p : Passes T M 0 ns xs) where
+module _ (T M L : ℕ) (table : List ℕ) (ns : List Node) (xs : List ℤ) (loop : LoopAllowed T L) (good : Good M table ns)
+    (count : length xs ≡ variableCount T M L ns) (p : Passes T M L 0 ns xs) where
+  0<T : 1 ≤ T
+  0<T = omega (arith, loop)
+
   abbrev A : ℕ
   A = M * T
 
   abbrev run : List ℕ
   run = runOf T M (atomsOn T xs)
 
-  abbrev only : OnlyTheTruth T M one run ns (slackRows T M ns) (goalRow T M ns)
-  only = only-the-truth T M one run table ns good 0<T (omega arith)
+  abbrev only : OnlyTheTruth T M L one run ns (slackRows T M L ns) (goalRow T M ns)
+  only = only-the-truth T M L one run table ns good loop (omega arith)
 
   atoms : (a t : ℕ) → a < M → 1 ≤ t → t ≤ T → valueAt xs (atomVariable T a t) ≡ pos (bitAt run t a * one)
   atoms a t h l u =
@@ -149,7 +156,8 @@ module _ (T M : ℕ) (table : List ℕ) (ns : List Node) (xs : List ℤ) (0<T : 
   -- the atoms' figures are their numerators
   first-part : only .atoms ≡ take A xs
   first-part =
-      ext-getD (pos 0) (only .atoms) (take A xs) (only .atoms-are .count ∙ sym (length-take-le A xs A≤)) (λ i h. same i (rw (only .atoms-are .count) at h))
+      ext-getD (pos 0) (only .atoms) (take A xs) (only .atoms-are .count ∙ sym (length-take-le A xs A≤))
+      (λ i h. same i (rw (only .atoms-are .count) at h))
     where
       same : (i : ℕ) → i < A → valueAt (only .atoms) i ≡ valueAt (take A xs) i
       same i h =
@@ -163,13 +171,13 @@ module _ (T M : ℕ) (table : List ℕ) (ns : List Node) (xs : List ℤ) (0<T : 
   whole : only .atoms ++ drop A xs ≡ xs
   whole = ap (λ (l : List ℤ). l ++ drop A xs) first-part ∙ take-append-drop A xs
 
-  all-rows : Every (Meets one xs) (rowsOf T M ns)
-  all-rows = all-met xs (rowsOf T M ns) (p .rows)
+  all-rows : Every (Meets one xs) (rowsOf T M L ns)
+  all-rows = all-met xs (rowsOf T M L ns) (p .rows)
 
-  both-rows : Every (Meets one xs) (slackRows T M ns) × Every (Meets one xs) (goalRow T M ns ∷ [])
-  both-rows = every-append (Meets one xs) (slackRows T M ns) (goalRow T M ns ∷ []) .0 all-rows
+  both-rows : Every (Meets one xs) (slackRows T M L ns) × Every (Meets one xs) (goalRow T M ns ∷ [])
+  both-rows = every-append (Meets one xs) (slackRows T M L ns) (goalRow T M ns ∷ []) .0 all-rows
 
-  fit : Fits one (length ns * T) (only .atoms) (slackRows T M ns) (drop A xs)
+  fit : Fits one (slackCount T L ns) (only .atoms) (slackRows T M L ns) (drop A xs)
   fit = record {
     counted = length-drop A xs ∙ omega (arith, count);
     limits = λ v h.
@@ -182,76 +190,84 @@ module _ (T M : ℕ) (table : List ℕ) (ns : List Node) (xs : List ℤ) (0<T : 
   slacks-are : drop A xs ≡ only .slacks
   slacks-are = only .only (drop A xs) fit
 
+  -- a block of T slacks for each node, and behind them one for each V
   slack-is : (n t : ℕ) → valueAt xs (slack T M n t) ≡ valueAt (only .slacks) (n * T + (t - 1))
   slack-is n t =
       ap (valueAt xs) (omega arith) ∙ sym (getD-drop A xs (n * T + (t - 1)) (pos 0)) ∙ ap (λ (l : List ℤ). valueAt l (n * T + (t - 1))) slacks-are
 
-  truly-met : TrulyMet T M ns xs
+  -- the block of node n's V
+  abbrev block : ℕ → ℕ
+  block n = length ns + looping (take n ns)
+
+  truly-met : TrulyMet T M L ns xs
   truly-met = record {
     run = run;
     run-good = run-good T M (atomsOn T xs);
     atoms = atoms;
     ones = λ n t h l u x. slack-is n t ∙ only .one n t h l u x;
     zeros = λ n t h l u x. slack-is n t ∙ only .zero n t h l u x;
+    kept-ones = λ n t h k w l u x. slack-is (block n) t ∙ only .kept-one n t h k w l u x;
+    kept-zeros = λ n t h k w l u x. slack-is (block n) t ∙ only .kept-zero n t h k w l u x;
     rule-holds = only .goal-met .0 (rw (← slacks-are, whole) (both-rows .1 .0));
   }
 
 pub passed-is-true : PassedIsTrue
-passed-is-true T M table ns xs n f 0<T good count j = truly-met T M table ns xs 0<T good count (passes T M 0 ns xs n f refl j)
+passed-is-true T M L table ns xs n f loop good count j = truly-met T M L table ns xs loop good count (passes T M L 0 ns xs n f refl j)
 
 -- ---- of a ruling
 
 -- what passed carries
-record Carried (T M e : ℕ) (ns : List Node) (n f : ℕ) : Type 0 where
+record Carried (T M L e : ℕ) (ns : List Node) (n f : ℕ) : Type 0 where
   figure : ℕ → ℕ
-  figures : ErrorFigures T M e ns figure
-  count : n ≡ length (rowsOf T M ns)
+  figures : ErrorFigures T M L e ns figure
+  count : n ≡ length (rowsOf T M L ns)
   root-is : f ≡ figure (slack T M (root ns) 1)
 
-carried : {T M e n k : ℕ} {ns : List Node} {xs : List ℤ} {v : Verdict} → v ≡ Verdict.passed n k → Judged T M e ns xs v → Carried T M e ns n k
+carried : {T M L e n k : ℕ} {ns : List Node} {xs : List ℤ} {v : Verdict} → v ≡ Verdict.passed n k → Judged T M L e ns xs v →
+    Carried T M L e ns n k
 carried f (is-outside h) = let z : _≡_ {A = ℕ} 0 1 = cc in absurd (omega arith)
 carried f (is-not-binary p h) = let z : _≡_ {A = ℕ} 0 1 = cc in absurd (omega arith)
 carried f (is-broken p q h) = let z : _≡_ {A = ℕ} 0 1 = cc in absurd (omega arith)
 carried f (is-passed {error} p q r x) = record { figure = error; figures = x; count = cc; root-is = cc }
 
-module _ (t m : ℕ) (table : List ℕ) (figures : List ℤ) (tolerance : ℤ) (ruling : Answer Verdict) (told : ruling ≡ judgeOutcome t m table figures tolerance) where
-  pub passed-means : PassedMeans t m table figures tolerance ruling
+module _ (t m l : ℕ) (table : List ℕ) (figures : List ℤ) (tolerance : ℤ) (ruling : Answer Verdict)
+    (told : ruling ≡ judgeOutcome t m l table figures tolerance) where
+  pub passed-means : PassedMeans t m l table figures tolerance ruling
   passed-means n k = (
     λ f.
-        let (none, (ns, e, good, tol, j)) = judge-answers t m table figures tolerance ruling told (Verdict.passed n k) .0 f in
+        let (none, (ns, e, good, tol, j)) = judge-answers t m l table figures tolerance ruling told (Verdict.passed n k) .0 f in
         let c = carried refl j in
-        (none, (ns, e, c .figure, good, tol, c .figures, c .count, c .root-is, passes t m e ns figures n k refl j)),
+        (none, (ns, e, c .figure, good, tol, c .figures, c .count, c .root-is, passes t m l e ns figures n k refl j)),
     λ x.
         let (ns, e, figure, good, tol, counted, count, root-is, p) = x .1 in
-        judge-answers t m table figures tolerance ruling told (Verdict.passed n k) .1
-        (x .0, (ns, e, good, tol, rw (count, root-is) (passed-iff t m e ns figures figure counted .1 p))),
+        judge-answers t m l table figures tolerance ruling told (Verdict.passed n k) .1
+        (x .0, (ns, e, good, tol, rw (count, root-is) (passed-iff t m l e ns figures figure counted .1 p))),
   )
 
-  slots : None (JudgeRefused t m table figures tolerance) → 1 ≤ t
-  slots none = bounded t 1 (λ h. none 1 (JudgeRefused.table-refused (TableRefused.slots (λ s. omega (arith, s .0)))))
-
-  counted : (ns : List Node) → None (JudgeRefused t m table figures tolerance) → Good m table ns → Dec (length figures ≡ (m + length ns) * t) →
-      length figures ≡ (m + length ns) * t
+  counted : (ns : List Node) → None (JudgeRefused t m l table figures tolerance) → Good m table ns → Dec (length figures ≡ variableCount t m l ns) →
+      length figures ≡ variableCount t m l ns
   counted ns none good (yes h) = h
   counted ns none good (no h) = absurd (none 9 (JudgeRefused.miscounted good h))
 
-  pub passed-at-zero : PassedAtZero t m table figures tolerance ruling
+  pub passed-at-zero : PassedAtZero t m l table figures tolerance ruling
   passed-at-zero n k zero-is f =
-      let x = judge-answers t m table figures tolerance ruling told (Verdict.passed n k) .0 f in
+      let x = judge-answers t m l table figures tolerance ruling told (Verdict.passed n k) .0 f in
       let ns = x .1 .0 in
       let z : x .1 .1 ≡ 0 = ap natAbs (sym (x .1 .3) ∙ zero-is) in (
         ns,
         x .1 .2,
-        passed-is-true t m table ns figures n k (slots (x .0)) (x .1 .2) (counted ns (x .0) (x .1 .2) (ℕ-discrete (length figures) ((m + length ns) * t)))
-            (subst (λ (e : ℕ). Judged t m e ns figures (Verdict.passed n k)) z (x .1 .4)),
+        passed-is-true t m l table ns figures n k (judge-loop-allowed t m l table figures tolerance (x .0)) (x .1 .2)
+            (counted ns (x .0) (x .1 .2) (ℕ-discrete (length figures) (variableCount t m l ns)))
+            (subst (λ (e : ℕ). Judged t m l e ns figures (Verdict.passed n k)) z (x .1 .4)),
       )
 
-  pub passed-near : PassedNear t m table figures tolerance ruling
+  pub passed-near : PassedNear t m l table figures tolerance ruling
   passed-near n k f =
-      let (none, (ns, e, good, tol, j)) = judge-answers t m table figures tolerance ruling told (Verdict.passed n k) .0 f in
+      let (none, (ns, e, good, tol, j)) = judge-answers t m l table figures tolerance ruling told (Verdict.passed n k) .0 f in
       let c = carried refl j in
       let r = rounded-run t m figures in
-      let long = counted ns none good (ℕ-discrete (length figures) ((m + length ns) * t)) in (
+      let loop = judge-loop-allowed t m l table figures tolerance none in
+      let long = counted ns none good (ℕ-discrete (length figures) (variableCount t m l ns)) in (
         ns,
         e,
         c .figure,
@@ -261,5 +277,5 @@ module _ (t m : ℕ) (table : List ℕ) (figures : List ℤ) (tolerance : ℤ) (
         c .figures,
         c .root-is,
         r .1,
-        passed-is-near t m e n k table ns figures (c .figure) (r .0) (slots none) good long (c .figures) (r .1) j,
+        passed-is-near t m l e n k table ns figures (c .figure) (r .0) loop good long (c .figures) (r .1) j,
       )

@@ -30,7 +30,8 @@ SameRow =
     (Summed.Broken e figures row ↔ Broken e figures row) × (Summed.shortfall figures row ≡ shortfall figures row)
 
 -- a ruling that meets the judge's contract, and so has the verdict and the shortfall of before, has those worked out from row sums
-abbrev pub SummedVerdict : (t m : ℕ) (table : List ℕ) (figures : List ℤ) (tolerance : ℤ) (ruling : Answer Verdict) → Type 0
-SummedVerdict t m table figures tolerance ruling =
+abbrev pub SummedVerdict : (t m l : ℕ) (table : List ℕ) (figures : List ℤ) (tolerance : ℤ) (ruling : Answer Verdict) → Type 0
+SummedVerdict t m l table figures tolerance ruling =
     (v : Verdict) → (ruling ≡ answered v) ↔
-    (None (JudgeRefused t m table figures tolerance) × ((ns : List Node) × (e : ℕ) × Good m table ns × (tolerance ≡ pos e) × Summed.Judged t m e ns figures v))
+    (None (JudgeRefused t m l table figures tolerance) ×
+    ((ns : List Node) × (e : ℕ) × Good m table ns × (tolerance ≡ pos e) × Summed.Judged t m l e ns figures v))

@@ -25,13 +25,15 @@ BrokenIsShort =
 
 -- "Which verdict is given does not alter": without shortfall and error figure, the ruling has the verdict of before exactly where document 01 gives it.
 -- Where the judge refuses is demand 1, as before.
-abbrev pub SameVerdict : (t m : ℕ) (table : List ℕ) (figures : List ℤ) (tolerance : ℤ) (ruling : Answer Verdict) → Type 0
-SameVerdict t m table figures tolerance ruling =
+abbrev pub SameVerdict : (t m l : ℕ) (table : List ℕ) (figures : List ℤ) (tolerance : ℤ) (ruling : Answer Verdict) → Type 0
+SameVerdict t m l table figures tolerance ruling =
     (u : Before.Verdict) → (rulingBefore ruling ≡ answered u) ↔
-    (None (JudgeRefused t m table figures tolerance) × ((ns : List Node) × (e : ℕ) × Good m table ns × (tolerance ≡ pos e) × Before.Judged t m e ns figures u))
+    (None (JudgeRefused t m l table figures tolerance) ×
+    ((ns : List Node) × (e : ℕ) × Good m table ns × (tolerance ≡ pos e) × Before.Judged t m l e ns figures u))
 
 -- "The verdict broken then carries the shortfall in millionths", that of the row it names: above the tolerance, and so above 0
-abbrev pub CarriesShortfall : (t m : ℕ) (table : List ℕ) (figures : List ℤ) (tolerance : ℤ) (ruling : Answer Verdict) → Type 0
-CarriesShortfall t m table figures tolerance ruling =
+abbrev pub CarriesShortfall : (t m l : ℕ) (table : List ℕ) (figures : List ℤ) (tolerance : ℤ) (ruling : Answer Verdict) → Type 0
+CarriesShortfall t m l table figures tolerance ruling =
     (i : ℕ) (d : ℤ) → ruling ≡ answered (Verdict.broken i d) →
-    (ns : List Node) × (e : ℕ) × Good m table ns × (tolerance ≡ pos e) × (i < length (rowsOf t m ns)) × (d ≡ shortfall figures (rowAt t m ns i)) × (pos e <ℤ d) × (pos 0 <ℤ d)
+    (ns : List Node) × (e : ℕ) × Good m table ns × (tolerance ≡ pos e) × (i < length (rowsOf t m l ns)) ×
+    (d ≡ shortfall figures (rowAt t m l ns i)) × (pos e <ℤ d) × (pos 0 <ℤ d)

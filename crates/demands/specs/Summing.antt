@@ -22,10 +22,11 @@ in-any-order figures terms others p = any-order figures p
 pub same-row : SameRow
 same-row e figures row = (same-broken e figures row, same-shortfall figures row)
 
-module _ (t m : ℕ) (table : List ℕ) (figures : List ℤ) (tolerance : ℤ) (ruling : Answer Verdict) (told : ruling ≡ judgeOutcome t m table figures tolerance) where
-  pub summed-verdict : SummedVerdict t m table figures tolerance ruling
+module _ (t m l : ℕ) (table : List ℕ) (figures : List ℤ) (tolerance : ℤ) (ruling : Answer Verdict)
+    (told : ruling ≡ judgeOutcome t m l table figures tolerance) where
+  pub summed-verdict : SummedVerdict t m l table figures tolerance ruling
   summed-verdict v =
-      let same = judge-answers t m table figures tolerance ruling told v in (
-        λ f. let (none, (ns, e, good, tol, j)) = same .0 f in (none, (ns, e, good, tol, judged-summed t m e ns figures v .1 j)),
-        λ x. let (none, (ns, e, good, tol, j)) = x in same .1 (none, (ns, e, good, tol, judged-summed t m e ns figures v .0 j)),
+      let same = judge-answers t m l table figures tolerance ruling told v in (
+        λ f. let (none, (ns, e, good, tol, j)) = same .0 f in (none, (ns, e, good, tol, judged-summed t m l e ns figures v .1 j)),
+        λ x. let (none, (ns, e, good, tol, j)) = x in same .1 (none, (ns, e, good, tol, judged-summed t m l e ns figures v .0 j)),
       )

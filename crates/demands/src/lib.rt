@@ -31,12 +31,12 @@ pub fn read(text: &[u8], m: usize, out: &mut [u8]) -> Answer
 }
 
 // Demands 1 and 2 of the evaluator, and that its words say what its bytes said.
-pub fn evaluate(table: &[u8], t: usize, m: usize, run: &[u16], out: &mut [u64]) -> Answer
-    ensures { λ r. ⌜ EvaluatorRefuses t m (now (table .entry)) (now (run .entry)) (told r) (now (out .entry)) (now (out .exit)) ⌝ }
-    ensures { λ r. ⌜ EvaluatorAnswers t m (now (table .entry)) (now (run .entry)) (told r) (now (out .entry)) (now (out .exit)) ⌝ }
-    ensures { λ r. ⌜ SaysBytes t m (now (table .entry)) (now (run .entry)) (told r) (now (out .exit)) ⌝ }
+pub fn evaluate(table: &[u8], t: usize, m: usize, l: usize, run: &[u16], out: &mut [u64]) -> Answer
+    ensures { λ r. ⌜ EvaluatorRefuses t m l (now (table .entry)) (now (run .entry)) (told r) (now (out .entry)) (now (out .exit)) ⌝ }
+    ensures { λ r. ⌜ EvaluatorAnswers t m l (now (table .entry)) (now (run .entry)) (told r) (now (out .entry)) (now (out .exit)) ⌝ }
+    ensures { λ r. ⌜ SaysBytes t m l (now (table .entry)) (now (run .entry)) (told r) (now (out .exit)) ⌝ }
 {
-    evaluator::evaluate(table, t, m, run, out)
+    evaluator::evaluate(table, t, m, l, run, out)
 }
 
 // What the first slot of a truth word is.
@@ -47,26 +47,26 @@ pub fn first_slot(word: u64) -> FirstSlot
 }
 
 // Demands 1 and 2 of the row writer.
-pub fn write_rows(table: &[u8], t: usize, m: usize, out: &mut [u8]) -> Answer
-    ensures { λ r. ⌜ RowWriterRefuses t m (now (table .entry)) (told r) (now (out .entry)) (now (out .exit)) ⌝ }
-    ensures { λ r. ⌜ RowWriterAnswers t m (now (table .entry)) (told r) (now (out .entry)) (now (out .exit)) ⌝ }
+pub fn write_rows(table: &[u8], t: usize, m: usize, l: usize, out: &mut [u8]) -> Answer
+    ensures { λ r. ⌜ RowWriterRefuses t m l (now (table .entry)) (told r) (now (out .entry)) (now (out .exit)) ⌝ }
+    ensures { λ r. ⌜ RowWriterAnswers t m l (now (table .entry)) (told r) (now (out .entry)) (now (out .exit)) ⌝ }
 {
-    rows::write_rows(table, t, m, out)
+    rows::write_rows(table, t, m, l, out)
 }
 
 // Demands 1 and 2 of the judge, what a passed verdict means and its error figure promises, what a broken one carries, and the
 // verdict by row sums.
-pub fn judge_figures(table: &[u8], t: usize, m: usize, figures: &[i32], e: i32) -> Ruling
-    ensures { λ r. ⌜ JudgeRefuses t m (now (table .entry)) (now (figures .entry)) e (ruled r) ⌝ }
-    ensures { λ r. ⌜ JudgeAnswers t m (now (table .entry)) (now (figures .entry)) e (ruled r) ⌝ }
-    ensures { λ r. ⌜ PassedMeans t m (now (table .entry)) (now (figures .entry)) e (ruled r) ⌝ }
-    ensures { λ r. ⌜ PassedAtZero t m (now (table .entry)) (now (figures .entry)) e (ruled r) ⌝ }
-    ensures { λ r. ⌜ PassedNear t m (now (table .entry)) (now (figures .entry)) e (ruled r) ⌝ }
-    ensures { λ r. ⌜ SameVerdict t m (now (table .entry)) (now (figures .entry)) e (ruled r) ⌝ }
-    ensures { λ r. ⌜ CarriesShortfall t m (now (table .entry)) (now (figures .entry)) e (ruled r) ⌝ }
-    ensures { λ r. ⌜ SummedVerdict t m (now (table .entry)) (now (figures .entry)) e (ruled r) ⌝ }
+pub fn judge_figures(table: &[u8], t: usize, m: usize, l: usize, figures: &[i32], e: i32) -> Ruling
+    ensures { λ r. ⌜ JudgeRefuses t m l (now (table .entry)) (now (figures .entry)) e (ruled r) ⌝ }
+    ensures { λ r. ⌜ JudgeAnswers t m l (now (table .entry)) (now (figures .entry)) e (ruled r) ⌝ }
+    ensures { λ r. ⌜ PassedMeans t m l (now (table .entry)) (now (figures .entry)) e (ruled r) ⌝ }
+    ensures { λ r. ⌜ PassedAtZero t m l (now (table .entry)) (now (figures .entry)) e (ruled r) ⌝ }
+    ensures { λ r. ⌜ PassedNear t m l (now (table .entry)) (now (figures .entry)) e (ruled r) ⌝ }
+    ensures { λ r. ⌜ SameVerdict t m l (now (table .entry)) (now (figures .entry)) e (ruled r) ⌝ }
+    ensures { λ r. ⌜ CarriesShortfall t m l (now (table .entry)) (now (figures .entry)) e (ruled r) ⌝ }
+    ensures { λ r. ⌜ SummedVerdict t m l (now (table .entry)) (now (figures .entry)) e (ruled r) ⌝ }
 {
-    judge::judge(table, t, m, figures, e)
+    judge::judge(table, t, m, l, figures, e)
 }
 
 // The row sum of a row's terms, in whatever order they stand.
@@ -77,12 +77,12 @@ pub fn row_sum(figures: &[i32], terms: Terms) -> RowSum
 }
 
 // Demands 1 and 2 of the page writer, and what its page says.
-pub fn mps_page(table: &[u8], t: usize, m: usize, out: &mut [u8]) -> Answer
-    ensures { λ r. ⌜ PageRefuses t m (now (table .entry)) (told r) (now (out .entry)) (now (out .exit)) ⌝ }
-    ensures { λ r. ⌜ PageAnswers t m (now (table .entry)) (told r) (now (out .entry)) (now (out .exit)) ⌝ }
-    ensures { λ r. ⌜ PageMeans t m (now (table .entry)) (told r) (now (out .exit)) ⌝ }
+pub fn mps_page(table: &[u8], t: usize, m: usize, l: usize, out: &mut [u8]) -> Answer
+    ensures { λ r. ⌜ PageRefuses t m l (now (table .entry)) (told r) (now (out .entry)) (now (out .exit)) ⌝ }
+    ensures { λ r. ⌜ PageAnswers t m l (now (table .entry)) (told r) (now (out .entry)) (now (out .exit)) ⌝ }
+    ensures { λ r. ⌜ PageMeans t m l (now (table .entry)) (told r) (now (out .exit)) ⌝ }
 {
-    pages::mps_page(table, t, m, out)
+    pages::mps_page(table, t, m, l, out)
 }
 
 // The node count, the row count and the root's truth at slot 1, or the first refusal.
@@ -100,20 +100,29 @@ pub fn plan(
     text: &[u8],
     t: usize,
     m: usize,
+    l: usize,
     run: &[u16],
     table: &mut [u8],
     rows: &mut [u8],
     truth: &mut [u64],
 ) -> Planned
-    ensures { λ r. ⌜ Demanded t m (now (text .entry)) (now (run .entry)) (now (table .entry)) (now (rows .entry)) (now (truth .entry)) (now (table .exit)) (now (rows .exit)) (now (truth .exit)) r ⌝ }
+    ensures { λ r. ⌜ Demanded t m l (now (text .entry)) (now (run .entry)) (now (table .entry)) (now (rows .entry)) (now (truth .entry))
+        (now (table .exit)) (now (rows .exit)) (now (truth .exit)) r ⌝ }
 {
     match reader::read(text, m, table) {
         Answer::Refused(r) => Planned::Refused(r),
         Answer::Value(n) => {
             let end = 8 * n;
-            match rows::write_rows(&table[..end], t, m, rows) {
+            match rows::write_rows(&table[..end], t, m, l, rows) {
                 Answer::Refused(r) => Planned::Refused(r),
-                Answer::Value(count) => match evaluator::evaluate(&table[..end], t, m, run, truth) {
+                Answer::Value(count) => match evaluator::evaluate(
+                    &table[..end],
+                    t,
+                    m,
+                    l,
+                    run,
+                    truth,
+                ) {
                     Answer::Refused(r) => Planned::Refused(r),
                     Answer::Value(v) => Planned::Done {
                         nodes: n,

@@ -1,18 +1,26 @@
 // The entries of a variable's column in the rows of a node without a window, at one slot, by what the variable is to the node: its own, that of a
-// part or of both, or its own at the next slot.
+// part or of both, or that of what follows.
 use lines::Name;
 use table::Kind;
 ghost use mathlib.Core.Path.{_≡_};
 ghost use mathlib.Core.Bool.{true, false, not};
-ghost use mathlib.Core.List.{[], _++_};
+ghost use mathlib.Core.List.{_++_};
 ghost use Prim.Native.Nat.{_+_, _≤_, _<_};
 ghost use Rattle.rules.specs.Rows.{sameRows, notRows, impliesRows, untilRows};
-ghost use Rattle.row.specs.Apart.{Apart};
-ghost use Rattle.row.specs.Kinds.{kindRows};
 ghost use Rattle.lines.specs.Sent.{Sent};
 ghost use Rattle.lines.specs.Units.{unitLine};
-ghost use Rattle.rowlines.specs.Laws.{Plain};
 ghost use Rattle.entrylines.specs.Roles.{doubleLine, joinRows, lines};
+ghost use Rattle.entrylines.specs.Spots.{Ordered, spotRows};
+
+// A node without a window at a slot: its variable there, its parts', and, where something follows (`inner`), that one's.
+pub struct Spot {
+    pub kind: Kind,
+    pub inner: bool,
+    pub own: usize,
+    pub left: usize,
+    pub right: usize,
+    pub next: usize,
+}
 
 // 2 or −2.
 fn put_double(out: &mut [u8], at: usize, v: usize, i: usize, up: bool) -> usize
@@ -162,68 +170,62 @@ fn put_own_until(out: &mut [u8], at: usize, v: usize, i: usize) -> usize
 }
 
 // P − q ≥ 0; p + q − P ≥ 0; q + P' − P ≥ 0; P − p − P' ≥ −1
-fn put_until(out: &mut [u8], at: usize, v: usize, i: usize, big: usize, p: usize, q: usize) -> usize
-    requires { ⌜ (at ≤ 1099511600000) × (v < 1000000) × (i + 4 ≤ 1000000) × (p < big) × (q < big) × (big ≤ 30000) ⌝ }
-    ensures { λ r. ⌜ Sent at (lines v i (untilRows big p q (big + 1))) (now (out .entry)) (now (out .exit)) r × (r ≤ at + 160) ⌝ }
+fn put_until(out: &mut [u8], at: usize, v: usize, i: usize, spot: Spot) -> usize
+    requires { ⌜ (at ≤ 1099511600000) × (v < 1000000) × (i + 4 ≤ 1000000) × (spot .left < spot .own) × (spot .right < spot .own) × (spot .own < spot .next) ⌝ }
+    ensures { λ r. ⌜ Sent at (lines v i (untilRows (spot .own) (spot .left) (spot .right) (spot .next))) (now (out .entry)) (now (out .exit)) r × (r ≤ at + 160) ⌝ }
 {
-    if v == big {
+    if v == spot.own {
         return put_own_until(out, at, v, i);
     }
-    if v == big + 1 {
+    if v == spot.next {
         return put_two(out, at, v, i + 1 + 1, true, i + 1 + 1 + 1, false);
     }
-    if v == p {
-        if v == q {
+    if v == spot.left {
+        if v == spot.right {
             return put_both_until(out, at, v, i);
         }
         return put_two(out, at, v, i + 1, true, i + 1 + 1 + 1, false);
     }
-    if v == q {
+    if v == spot.right {
         return put_three(out, at, v, i, false, true, true);
     }
     at
 }
 
-// The entries of variable v in the rows of a node of this kind at a slot, from row i on. `inner` is whether a slot follows.
-pub fn put_entries(
-    out: &mut [u8],
-    at: usize,
-    v: usize,
-    i: usize,
-    kind: Kind,
-    inner: bool,
-    big: usize,
-    p: usize,
-    q: usize,
-) -> usize
-    requires { ⌜ (at ≤ 1099511600000) × (v < 1000000) × (i + 4 ≤ 1000000) × (big ≤ 30000) × Plain kind × Apart kind 1 big p q ⌝ }
-    ensures { λ r. ⌜ Sent at (lines v i (kindRows kind inner big p q [])) (now (out .entry)) (now (out .exit)) r × (r ≤ at + 160) ⌝ }
+// The entries of variable v in the rows of a node at a slot, from row i on.
+pub fn put_entries(out: &mut [u8], at: usize, v: usize, i: usize, spot: Spot) -> usize
+    requires { ⌜ (at ≤ 1099511600000) × (v < 1000000) × (i + 4 ≤ 1000000) × Ordered spot ⌝ }
+    ensures { λ r. ⌜ Sent at (lines v i (spotRows spot)) (now (out .entry)) (now (out .exit)) r × (r ≤ at + 160) ⌝ }
 {
+    let kind = spot.kind;
+    let own = spot.own;
+    let left = spot.left;
+    let right = spot.right;
     match kind {
-        Kind::Atom => put_same(out, at, v, i, big, p),
-        Kind::Not => put_not(out, at, v, i, big, p),
-        Kind::And => put_joined(out, at, v, i, true, big, p, q),
-        Kind::Or => put_joined(out, at, v, i, false, big, p, q),
-        Kind::Implies => put_implies(out, at, v, i, big, p, q),
+        Kind::Atom => put_same(out, at, v, i, own, left),
+        Kind::Not => put_not(out, at, v, i, own, left),
+        Kind::And => put_joined(out, at, v, i, true, own, left, right),
+        Kind::Or => put_joined(out, at, v, i, false, own, left, right),
+        Kind::Implies => put_implies(out, at, v, i, own, left, right),
         Kind::Eventually => {
-            if inner {
-                put_joined(out, at, v, i, false, big, p, big + 1)
+            if spot.inner {
+                put_joined(out, at, v, i, false, own, left, spot.next)
             } else {
-                put_same(out, at, v, i, big, p)
+                put_same(out, at, v, i, own, left)
             }
         }
         Kind::Always => {
-            if inner {
-                put_joined(out, at, v, i, true, big, p, big + 1)
+            if spot.inner {
+                put_joined(out, at, v, i, true, own, left, spot.next)
             } else {
-                put_same(out, at, v, i, big, p)
+                put_same(out, at, v, i, own, left)
             }
         }
         Kind::Until => {
-            if inner {
-                put_until(out, at, v, i, big, p, q)
+            if spot.inner {
+                put_until(out, at, v, i, spot)
             } else {
-                put_same(out, at, v, i, big, q)
+                put_same(out, at, v, i, own, right)
             }
         }
         Kind::Within => at,

@@ -1,9 +1,10 @@
 -- The error figures of a part at the slots of a window, together.
-use mathlib.Core.Path.{_≡_, refl, sym, ap, _∙_}
+use mathlib.Core.Path.{_≡_, refl, sym, ap, ap₂, _∙_}
 use mathlib.Core.List.{List}
 use Prim.Native.Nat.{ℕ, zero, suc, _+_, _-_, _<_}
 use native.Mathlib.Numerals.{add-one}
 use native.Mathlib.Omega.{arith}
+use borrow.Author.Tests.{lt-ltb, le-ltb}
 use lib.ListN.{getD}
 use Rattle.lists.specs.Tabulate.{tabulate}
 use Rattle.rules.specs.Rows.{windowSlots}
@@ -26,29 +27,59 @@ sum-tabulate : (g h : ℕ → ℕ) (k : ℕ) → sumOver g (tabulate k h) ≡ su
 sum-tabulate g h zero = refl
 sum-tabulate g h (suc k) = ap (λ (y : ℕ). g (h 0) + y) (sum-tabulate g (λ i. h (suc i)) k) ∙ sym (first-apart (λ i. g (h i)) k)
 
--- the figures at the first k of a window's slots; p is the place of the part's figure at the first slot of all
-module _ (l : List ℕ) (w : Looks) (p : ℕ) where
-  unfoldable pub sumTo : (k : ℕ) → ℕ
-  sumTo k = sumFirst (λ i. getD l (variableAt w p i) 0) k
+first-same : (f g : ℕ → ℕ) (k : ℕ) → ((i : ℕ) → i < k → f i ≡ g i) → sumFirst f k ≡ sumFirst g k
+first-same f g zero h = refl
+first-same f g (suc k) h = ap₂ _+_ (first-same f g k (λ i z. h i (omega arith))) (h k (omega arith))
 
-  pub sum-none : sumTo 0 ≡ 0
+first-joined : (f : ℕ → ℕ) (j k : ℕ) → sumFirst f j + sumFirst (λ i. f (j + i)) k ≡ sumFirst f (j + k)
+first-joined f j zero = let z : j + zero ≡ j = omega arith in rw z (omega arith)
+first-joined f j (suc k) = let z : j + suc k ≡ suc (j + k) = omega arith in rw z (omega (arith, first-joined f j k))
+
+-- the figures of k places, the i-th of which is `at i`
+module _ (l : List ℕ) where
+  unfoldable pub sumTo : (at : ℕ → ℕ) (k : ℕ) → ℕ
+  sumTo at k = sumFirst (λ i. getD l (at i) 0) k
+
+  pub sum-none : (at : ℕ → ℕ) → sumTo at 0 ≡ 0
   unfolding sumTo
-  sum-none = refl
+  sum-none at = refl
 
-  pub sum-more : (k : ℕ) → sumTo (k + 1) ≡ sumTo k + getD l (variableAt w p k) 0
+  pub sum-more : (at : ℕ → ℕ) (k : ℕ) → sumTo at (k + 1) ≡ sumTo at k + getD l (at k) 0
   unfolding sumTo
-  sum-more k = rw add-one
+  sum-more at k = rw add-one
 
-  pub sum-all : {T t a b : ℕ} → Looking T t a b w → sumTo (w .count) ≡ sumOver (λ s. getD l (p + (s - 1)) 0) (windowSlots T t a b)
+  -- of a part at the slots of a window, in one range or in two; p is the place of its figure at the first slot of all
+  module _ (w : Looks) (p from head : ℕ) (f : from ≡ p + w .first) (g : head ≡ w .head) where
+    in-head : sumTo (λ i. from + i) head ≡ sumTo (variableAt w p) head
+    unfolding sumTo
+    in-head = first-same _ _ head (λ i z. ap (λ (v : ℕ). getD l v 0) (rw (lt-ltb i (w .head) (omega arith)) (omega arith)))
+
+    pub sum-one : head ≡ w .count → sumTo (λ i. from + i) head ≡ sumTo (variableAt w p) (w .count)
+    sum-one z = in-head ∙ ap (sumTo (variableAt w p)) z
+
+    in-rest : (rest k : ℕ) → rest ≡ from + head + w .skip → sumTo (λ i. rest + i) k ≡ sumTo (λ i. variableAt w p (head + i)) k
+    unfolding sumTo
+    in-rest rest k e = first-same _ _ k (λ i z. ap (λ (v : ℕ). getD l v 0) (rw (le-ltb (head + i) (w .head) (omega arith)) (omega arith)))
+
+    joined : (k : ℕ) → sumTo (variableAt w p) head + sumTo (λ i. variableAt w p (head + i)) k ≡ sumTo (variableAt w p) (head + k)
+    unfolding sumTo
+    joined k = first-joined (λ i. getD l (variableAt w p i) 0) head k
+
+    pub sum-two : (rest k : ℕ) → rest ≡ from + head + w .skip → head + k ≡ w .count →
+        sumTo (λ i. from + i) head + sumTo (λ i. rest + i) k ≡ sumTo (variableAt w p) (w .count)
+    sum-two rest k e z = ap₂ _+_ in-head (in-rest rest k e) ∙ joined k ∙ ap (sumTo (variableAt w p)) z
+
+  pub sum-all : (w : Looks) (p : ℕ) {T L t a b : ℕ} → Looking T L t a b w →
+      sumTo (variableAt w p) (w .count) ≡ sumOver (λ s. getD l (p + (s - 1)) 0) (windowSlots T L t a b)
   unfolding sumTo variables
-  sum-all {T} {t} {a} {b} h =
+  sum-all w p {T} {L} {t} {a} {b} h =
       sym (sum-tabulate (λ v. getD l v 0) (variableAt w p) (w .count))
       ∙ ap (sumOver (λ v. getD l v 0)) (h .is p)
-      ∙ sum-map (λ v. getD l v 0) (λ s. p + (s - 1)) (windowSlots T t a b)
+      ∙ sum-map (λ v. getD l v 0) (λ s. p + (s - 1)) (windowSlots T L t a b)
 
 -- the part's figures stand as they stood
-pub sum-below : {T n : ℕ} {f : (s x : ℕ) → ℕ} {l : List ℕ} {k : ℕ} {m : List ℕ} → Worked T n f l k m → (c t a b : ℕ) → c < n →
-    sumOver (λ s. figureAt T m c (s - 1)) (windowSlots T t a b) ≡ sumOver (λ s. figureAt T l c (s - 1)) (windowSlots T t a b)
-sum-below {T} {n} {f} {l} {k} {m} w c t a b h =
-    sum-same (λ s. figureAt T m c (s - 1)) (λ s. figureAt T l c (s - 1)) (windowSlots T t a b)
-    (window-all (λ s. figureAt T m c (s - 1) ≡ figureAt T l c (s - 1)) T t a b (λ s i j. worked-below w h (omega arith)))
+pub sum-below : {T n : ℕ} {f : (s x : ℕ) → ℕ} {l : List ℕ} {k : ℕ} {m : List ℕ} → Worked T n f l k m → (L c t a b : ℕ) → c < n →
+    sumOver (λ s. figureAt T m c (s - 1)) (windowSlots T L t a b) ≡ sumOver (λ s. figureAt T l c (s - 1)) (windowSlots T L t a b)
+sum-below {T} {n} {f} {l} {k} {m} w L c t a b h =
+    sum-same (λ s. figureAt T m c (s - 1)) (λ s. figureAt T l c (s - 1)) (windowSlots T L t a b)
+    (window-all (λ s. figureAt T m c (s - 1) ≡ figureAt T l c (s - 1)) T L t a b (λ s i j. worked-below w h (omega arith)))

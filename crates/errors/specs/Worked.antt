@@ -1,8 +1,8 @@
 -- What a loop leaves that writes one node's error figures, from the last slot to the first. Slots count from 0 here.
 use mathlib.Core.Path.{_≡_, refl, sym, ap, _∙_}
-use mathlib.Core.Bool.{cond}
+use mathlib.Core.Bool.{Bool, true, false, cond}
 use mathlib.Core.List.{List}
-use Prim.Native.Nat.{ℕ, _+_, _-_, _*_, _≤_, _<_, min}
+use Prim.Native.Nat.{ℕ, zero, suc, _+_, _-_, _*_, _≤_, _<_, min}
 use native.Mathlib.Decide.{ℕ-discrete, decLt}
 use native.Mathlib.Omega.{arith}
 use borrow.Author.Tests.{lt-ltb, le-ltb}
@@ -76,20 +76,62 @@ module _ {T n : ℕ} {f : (s x : ℕ) → ℕ} {l : List ℕ} {k : ℕ} {m : Lis
           let i : k ≤ s = omega arith in
           rw (ahead-set T n m (k - 1) (s + 1) v (omega arith)) (getD-set-other m (n * T + (k - 1)) (n * T + s) v 0 (λ y. omega arith) ∙ w .here s i g)
 
--- ---- a loop that writes the least of one and a sum, and goes on with the sum
+-- ---- a node's V, worked from the last slot on: at each slot s it has f s x, x being its figure one slot later
 
--- the sum that was reached at slot k: stopped, it is the figure there
-pub record Summed (T n k : ℕ) (m : List ℕ) (sum : ℕ) : Type 0 where
-  pub stopped : min one sum ≡ ahead T n m k
-  pub few : sum ≤ (T - k) * 2100000
+-- after d slots
+unfoldable pub down : (T : ℕ) (f : (s x : ℕ) → ℕ) (d : ℕ) → ℕ
+down T f zero = 0
+down T f (suc d) = f (T - suc d) (down T f d)
 
-pub summed-none : (T n : ℕ) (m : List ℕ) → Summed T n T m 0
-summed-none T n m = record { stopped = rw (le-ltb T T (omega arith)); few = omega arith }
+module _ (T : ℕ) (f : (s x : ℕ) → ℕ) where
+  pub down-none : (s : ℕ) → T ≤ s → down T f (T - s) ≡ 0
+  unfolding down
+  down-none s h = let z : T - s ≡ 0 = omega arith in rw z refl
+
+  -- one slot more
+  pub down-more : (s : ℕ) → 0 < s → s ≤ T → down T f (T - (s - 1)) ≡ f (s - 1) (down T f (T - s))
+  unfolding down
+  down-more s l h =
+      let z : T - (s - 1) ≡ suc (T - s) = omega arith in
+      let y : T - suc (T - s) ≡ s - 1 = omega arith in
+      ap (down T f) z ∙ ap (λ (i : ℕ). f i (down T f (T - s))) y
+
+pub down-same : (T : ℕ) (f g : (s x : ℕ) → ℕ) → ((s x : ℕ) → f s x ≡ g s x) → (d : ℕ) → down T f d ≡ down T g d
+unfolding down
+down-same T f g e zero = refl
+down-same T f g e (suc d) = e (T - suc d) (down T f d) ∙ ap (g (T - suc d)) (down-same T f g e d)
+
+-- at slot L, where L is below T: the node has it behind its last slot
+abbrev pub endOf : (T L : ℕ) (f : (s x : ℕ) → ℕ) → ℕ
+endOf T L f = cond (ltb L T) (down T f (T + 1 - L)) 0
+
+-- ---- a loop that goes on with a sum, which stopped at one is the figure
+
+-- the sum that was reached at slot k, whose figure is x
+pub record Summed (T k x sum : ℕ) : Type 0 where
+  pub stopped : min one sum ≡ x
+  pub few : sum ≤ one + (T - k) * 2100000
+
+pub summed-none : (T x : ℕ) → x ≤ one → Summed T T x x
+summed-none T x h = record { stopped = omega arith; few = omega arith }
+
+-- what comes next counts p and the figure, or q alone where nothing follows
+pub summed-more : (e p q x sum : ℕ) (follows : Bool) → min one sum ≡ x → (follows ≡ false → x ≡ 0) →
+    min one (sum + (e + cond follows p q)) ≡ min one (e + cond follows (p + x) q)
+summed-more e p q x sum true h z = omega arith
+summed-more e p q x sum false h z = let y = z refl in omega arith
+
+-- the node's own figure at slot k, and what it has behind its last slot
+abbrev pub nextAt : (T n end : ℕ) → List ℕ → (k : ℕ) → ℕ
+nextAt T n end m k = cond (ltb k T) (figureAt T m n k) end
+
+pub next-last : (T n end : ℕ) (m : List ℕ) → end ≡ nextAt T n end m T
+next-last T n end m = rw (le-ltb T T (omega arith)) refl
 
 -- it was written at slot k
-pub summed-at : (T n k : ℕ) (m : List ℕ) (i v sum : ℕ) → k < T → n * T + T ≤ length m → sum ≤ (T - k) * 2100000 → i ≡ n * T + k → v ≡ min one sum →
-    Summed T n k (set m i v) sum
-summed-at T n k m i v sum in-run inside few place is =
+pub summed-at : (T n k end : ℕ) (m : List ℕ) (i v sum : ℕ) → k < T → n * T + T ≤ length m → sum ≤ one + (T - k) * 2100000 → i ≡ n * T + k → v ≡ min one sum →
+    Summed T k (nextAt T n end (set m i v) k) sum
+summed-at T n k end m i v sum in-run inside few place is =
     rw place (record { stopped = rw (lt-ltb k T in-run) (sym (getD-set-same m (n * T + k) v 0 (omega arith) ∙ is)); few = few })
 
 -- ---- figures stay small

@@ -1,4 +1,4 @@
--- The evaluator's checks: refusals 1, 2, 7, 8 and 11.
+-- The evaluator's checks: refusals 1, 2, 13, 7, 8 and 11.
 use mathlib.Core.Path.{_≡_, refl, ap, _∙_}
 use mathlib.Core.Bool.{Bool, true}
 use mathlib.Core.List.{List}
@@ -12,6 +12,7 @@ use Rattle.lists.specs.Tests.{and-left, and-right, is-true}
 use Rattle.rules.specs.Demands.{Answer, Written}
 use Rattle.rules.specs.Demands.Answer.{answered}
 use Rattle.rules.specs.Demands.Written.{wrote}
+use Rattle.rules.specs.Quantities.{LoopAllowed}
 use Rattle.rules.specs.Table.{ruleAt, root}
 use Rattle.rules.specs.TableRules.{NodesGood}
 use Rattle.rules.specs.TableTest.{recordCount, nodesIn, length-nodesIn, good as goodTable}
@@ -26,27 +27,28 @@ use Rattle.table.specs.declared.Checked.the-variants.{Passed, Refused}
 abbrev pub ownCheck : (T M : ℕ) (table run : List ℕ) (room : ℕ) → Checked
 ownCheck T M table run room = unless (runGood T M run) (Refused Run) (unless (leb (length (nodesIn table)) room) (Refused Room) Passed)
 
-unfoldable pub evaluateCheck : (T M : ℕ) (table run : List ℕ) (room : ℕ) → Checked
-evaluateCheck T M table run room = andThen (checkOf T M table) (ownCheck T M table run room)
+unfoldable pub evaluateCheck : (T M L : ℕ) (table run : List ℕ) (room : ℕ) → Checked
+evaluateCheck T M L table run room = andThen (checkOf T M L table) (ownCheck T M table run room)
 
 -- what is written where no refusal applies
-abbrev pub evaluated : (T : ℕ) (table run : List ℕ) → Answer Written
-evaluated T table run =
-    answered (wrote (bitOf (truth T run (ruleAt (nodesIn table) (root (nodesIn table))) 1)) (truthWords T run (nodesIn table)))
+abbrev pub evaluated : (T L : ℕ) (table run : List ℕ) → Answer Written
+evaluated T L table run =
+    answered (wrote (bitOf (truth T L run (ruleAt (nodesIn table) (root (nodesIn table))) 1)) (truthWords T L run (nodesIn table)))
 
-pub outcome-is : (T M : ℕ) (table run : List ℕ) (room : ℕ) → evaluateOutcome T M table run room ≡ afterCheck (evaluateCheck T M table run room) (evaluated T table run)
+pub outcome-is : (T M L : ℕ) (table run : List ℕ) (room : ℕ) →
+    evaluateOutcome T M L table run room ≡ afterCheck (evaluateCheck T M L table run room) (evaluated T L table run)
 unfolding evaluateOutcome evaluateCheck
-outcome-is T M table run room =
-    checked T M table _
-    ∙ ap (afterCheck (checkOf T M table))
-    (require-is (runGood T M run) 8 (Refused Run) _ (evaluated T table run) _ refl
-    (require-is (leb (length (nodesIn table)) room) 11 (Refused Room) Passed (evaluated T table run) (evaluated T table run) refl refl))
-    ∙ after-then (checkOf T M table) (ownCheck T M table run room) (evaluated T table run)
+outcome-is T M L table run room =
+    checked T M L table _
+    ∙ ap (afterCheck (checkOf T M L table))
+    (require-is (runGood T M run) 8 (Refused Run) _ (evaluated T L table run) _ refl
+    (require-is (leb (length (nodesIn table)) room) 11 (Refused Room) Passed (evaluated T L table run) (evaluated T L table run) refl refl))
+    ∙ after-then (checkOf T M L table) (ownCheck T M table run room) (evaluated T L table run)
 
 -- ---- what the work may count on
 
-pub record Workable (T M : ℕ) (table run : List ℕ) (room : ℕ) : Type 0 where
-  pub slots : 0 < T
+pub record Workable (T M L : ℕ) (table run : List ℕ) (room : ℕ) : Type 0 where
+  pub loop : LoopAllowed T L
   pub slots-high : T ≤ 64
   pub atoms-high : M ≤ 16
   pub some-nodes : 0 < recordCount table
@@ -70,16 +72,16 @@ run-small T M run e s h =
     let t = all-iff f (length run) .0 (and-right (eqb (length run) T) (all f (length run)) (rw e tt)) s (omega arith) in
     ltb-true (getD run s 0) (2 ^ M) (is-true (f s) t)
 
-pub workable : (T M : ℕ) (table run : List ℕ) (room : ℕ) → evaluateCheck T M table run room ≡ Passed → Workable T M table run room
+pub workable : (T M L : ℕ) (table run : List ℕ) (room : ℕ) → evaluateCheck T M L table run room ≡ Passed → Workable T M L table run room
 unfolding evaluateCheck
-workable T M table run room e =
-    let a = then-passed (checkOf T M table) (ownCheck T M table run room) e in
+workable T M L table run room e =
+    let a = then-passed (checkOf T M L table) (ownCheck T M table run room) e in
     let b = unless-passed (runGood T M run) Run _ (a .1) in
     let c = unless-passed (leb (length (nodesIn table)) room) Room Passed (b .1) .0 in
-    let r = ready T M table (a .0) in
+    let r = ready T M L table (a .0) in
     let n = length-nodesIn M table in
     record {
-      slots = r .slots-low;
+      loop = (r .loop-low, r .loop-high);
       slots-high = r .slots-high;
       atoms-high = r .atoms-high;
       some-nodes = r .some-nodes;

@@ -53,12 +53,12 @@ left-is Until l r a b = refl
 left-is Within l r a b = refl
 left-is Throughout l r a b = refl
 
-module _ (T M n r : ℕ) (run words cols : List ℕ) (nd : Read) where
+module _ (T L M n r : ℕ) (run words cols : List ℕ) (nd : Read) where
   left-of : (x : Node) → nodeOf nd ≡ x → nd .left ≡ leftOf x
   left-of x e = sym (left-is (nd .kind) (nd .left) (nd .right) (nd .from) (nd .to)) ∙ ap leftOf e
 
   pub low-child : (x : Node) → nodeOf nd ≡ x → IsAtom x → Children T words x → nd .left < 16
   low-child (atom a) e i h = omega (arith, left-of (atom a) e)
 
-  pub low-word : (x : Node) → nodeOf nd ≡ x → IsAtom x → NodeGood M n x → Columns T run M cols → r ≡ getD cols (nd .left) 0 → Word T (wordAt T run words x) r
+  pub low-word : (x : Node) → nodeOf nd ≡ x → IsAtom x → NodeGood M n x → Columns T run M cols → r ≡ getD cols (nd .left) 0 → Word T (wordAt T L run words x) r
   low-word (atom a) e i good c is = rw (is ∙ ap (λ (k : ℕ). getD cols k 0) (left-of (atom a) e)) (c a good)

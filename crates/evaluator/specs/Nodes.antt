@@ -1,4 +1,4 @@
--- A node's word, from the words of the nodes below.
+-- A node's word, from the words of the nodes below; after slot T comes slot L again.
 use mathlib.Core.Path.{_≡_, subst}
 use mathlib.Core.Bool.{Bool, not as notb, _&&_, _||_}
 use mathlib.Core.List.{List}
@@ -14,27 +14,27 @@ use Rattle.rules.specs.Table.Node.{atom, unary, binary, windowed}
 use Rattle.words.specs.Bits.{on}
 use Rattle.words.specs.Words.{Word, eventuallyAt, alwaysAt, untilAt, withinAt, throughoutAt}
 
-abbrev pub unaryAt : (T : ℕ) → Unary → (ℕ → Bool) → ℕ → Bool
-unaryAt T not p j = notb (p j)
-unaryAt T eventually p j = eventuallyAt T p j
-unaryAt T always p j = alwaysAt T p j
+abbrev pub unaryAt : (T L : ℕ) → Unary → (ℕ → Bool) → ℕ → Bool
+unaryAt T L not p j = notb (p j)
+unaryAt T L eventually p j = eventuallyAt T L p j
+unaryAt T L always p j = alwaysAt T L p j
 
-abbrev pub binaryAt : (T : ℕ) → Binary → (p q : ℕ → Bool) → ℕ → Bool
-binaryAt T and p q j = p j && q j
-binaryAt T or p q j = p j || q j
-binaryAt T implies p q j = notb (p j) || q j
-binaryAt T until p q j = untilAt T p q j
+abbrev pub binaryAt : (T L : ℕ) → Binary → (p q : ℕ → Bool) → ℕ → Bool
+binaryAt T L and p q j = p j && q j
+binaryAt T L or p q j = p j || q j
+binaryAt T L implies p q j = notb (p j) || q j
+binaryAt T L until p q j = untilAt T L p q j
 
-abbrev pub windowAt : (T : ℕ) → Window → (a b : ℕ) → (ℕ → Bool) → ℕ → Bool
-windowAt T within a b p j = withinAt T a b p j
-windowAt T throughout a b p j = throughoutAt T a b p j
+abbrev pub windowAt : (T L : ℕ) → Window → (a b : ℕ) → (ℕ → Bool) → ℕ → Bool
+windowAt T L within a b p j = withinAt T L a b p j
+windowAt T L throughout a b p j = throughoutAt T L a b p j
 
 -- at slot j, which counts from 0
-abbrev pub nodeAt : (T : ℕ) (run words : List ℕ) → Node → ℕ → Bool
-nodeAt T run words (atom a) j = on (getD run j 0) a
-nodeAt T run words (unary u p) j = unaryAt T u (on (getD words p 0)) j
-nodeAt T run words (binary o p q) j = binaryAt T o (on (getD words p 0)) (on (getD words q 0)) j
-nodeAt T run words (windowed w a b p) j = windowAt T w a b (on (getD words p 0)) j
+abbrev pub nodeAt : (T L : ℕ) (run words : List ℕ) → Node → ℕ → Bool
+nodeAt T L run words (atom a) j = on (getD run j 0) a
+nodeAt T L run words (unary u p) j = unaryAt T L u (on (getD words p 0)) j
+nodeAt T L run words (binary o p q) j = binaryAt T L o (on (getD words p 0)) (on (getD words q 0)) j
+nodeAt T L run words (windowed w a b p) j = windowAt T L w a b (on (getD words p 0)) j
 
 -- the words of a node's children are there, and lie below the horizon
 abbrev pub Child : (T : ℕ) (words : List ℕ) → ℕ → Type 0

@@ -9,7 +9,6 @@ ghost use Rattle.rules.specs.Table.{NodeGood};
 ghost use Rattle.rules.specs.TableTest.{nodesIn, recordCount};
 ghost use Rattle.answers.specs.Told.{told};
 ghost use Rattle.table.specs.Nodes.{nodeOf};
-ghost use Rattle.table.specs.Checks.{Ready};
 ghost use Rattle.words.specs.Words.{Word};
 ghost use Rattle.atomwords.specs.Columns.{Columns};
 ghost use Rattle.evaluator.specs.Low.{Low};
@@ -53,9 +52,9 @@ fn run_good(run: &[u16], t: usize, m: usize) -> bool
     number(seen) < limit(m)
 }
 
-// Refusals 8 and 11, once 1, 2 and 7 do not apply.
+// Refusals 8 and 11, once 1, 2, 13 and 7 do not apply.
 fn own_check(table: &[u8], t: usize, m: usize, run: &[u16], room: usize) -> Checked
-    requires { ⌜ Ready t m (now table) ⌝ }
+    requires { ⌜ m ≤ 16 ⌝ }
     ensures { λ r. ⌜ r ≡ ownCheck t m (now (table .entry)) (now (run .entry)) room ⌝ }
 {
     if !run_good(run, t, m) {
@@ -67,10 +66,10 @@ fn own_check(table: &[u8], t: usize, m: usize, run: &[u16], room: usize) -> Chec
     Checked::Passed
 }
 
-fn check(table: &[u8], t: usize, m: usize, run: &[u16], room: usize) -> Checked
-    ensures { λ r. ⌜ r ≡ evaluateCheck t m (now (table .entry)) (now (run .entry)) room ⌝ }
+fn check(table: &[u8], t: usize, m: usize, l: usize, run: &[u16], room: usize) -> Checked
+    ensures { λ r. ⌜ r ≡ evaluateCheck t m l (now (table .entry)) (now (run .entry)) room ⌝ }
 {
-    let shared = table::check(table, t, m);
+    let shared = table::check(table, t, m, l);
     match shared {
         Checked::Passed => own_check(table, t, m, run, room),
         Checked::Refused(r) => Checked::Refused(r),
@@ -94,10 +93,10 @@ fn column_of(cols: &[u64; 16], a: usize) -> u64
 }
 
 // A node's word, from those of its children.
-fn node_word(words: &[u64], cols: &[u64; 16], t: usize, node: Node) -> u64
-    requires { ⌜ (1 ≤ t) × (t ≤ 64) × Children t (now words) (nodeOf node) ⌝ }
+fn node_word(words: &[u64], cols: &[u64; 16], t: usize, l: usize, node: Node) -> u64
+    requires { ⌜ (1 ≤ l) × (l ≤ t) × (t ≤ 64) × Children t (now words) (nodeOf node) ⌝ }
     ensures { λ r. ⌜ ((run : List ℕ) (m n : ℕ) → NodeGood m n (nodeOf node) → Columns t run m (now (cols .entry)) →
-        Word t (nodeAt t run (now (words .entry)) (nodeOf node)) r) ⌝ }
+        Word t (nodeAt t l run (now (words .entry)) (nodeOf node)) r) ⌝ }
 {
     let kind = node.kind;
     let left = node.left;
@@ -110,34 +109,34 @@ fn node_word(words: &[u64], cols: &[u64; 16], t: usize, node: Node) -> u64
         Kind::And => words::and(word_of(words, left), word_of(words, right)),
         Kind::Or => words::or(word_of(words, left), word_of(words, right)),
         Kind::Implies => words::implies(word_of(words, left), word_of(words, right), t),
-        Kind::Eventually => words::eventually(word_of(words, left)),
-        Kind::Always => words::always(word_of(words, left), t),
-        Kind::Until => words::until(word_of(words, left), word_of(words, right)),
-        Kind::Within => words::eventually_within(word_of(words, left), t, from, to),
-        Kind::Throughout => words::always_within(word_of(words, left), t, from, to),
+        Kind::Eventually => words::eventually(word_of(words, left), t, l),
+        Kind::Always => words::always(word_of(words, left), t, l),
+        Kind::Until => words::until(word_of(words, left), word_of(words, right), t, l),
+        Kind::Within => words::eventually_within(word_of(words, left), t, l, from, to),
+        Kind::Throughout => words::always_within(word_of(words, left), t, l, from, to),
     }
 }
 
 // The word of node n of a table. Many nodes are atoms: their height, "0 for an atom", tells them without the choice among
 // ten kinds.
-fn word_at(table: &[u8], words: &[u64], cols: &[u64; 16], t: usize, n: usize) -> u64
-    requires { ⌜ (1 ≤ t) × (t ≤ 64) × (n < recordCount (now table)) ⌝ }
+fn word_at(table: &[u8], words: &[u64], cols: &[u64; 16], t: usize, l: usize, n: usize) -> u64
+    requires { ⌜ (1 ≤ l) × (l ≤ t) × (t ≤ 64) × (n < recordCount (now table)) ⌝ }
     requires { ⌜ Children t (now words) (Table.nodeAt (nodesIn (now table)) n) ⌝ }
     requires { ⌜ Low (now table) n ⌝ }
     ensures { λ r. ⌜ ((run : List ℕ) (m k : ℕ) → NodeGood m k (Table.nodeAt (nodesIn (now (table .entry))) n) →
-        Columns t run m (now (cols .entry)) → Word t (nodeAt t run (now (words .entry)) (Table.nodeAt (nodesIn (now (table .entry))) n)) r) ⌝ }
+        Columns t run m (now (cols .entry)) → Word t (nodeAt t l run (now (words .entry)) (Table.nodeAt (nodesIn (now (table .entry))) n)) r) ⌝ }
 {
     let node = table::node_at(table, n);
     if table::height_at(table, n) == 0 {
         return column_of(cols, node.left);
     }
-    node_word(words, cols, t, node)
+    node_word(words, cols, t, l, node)
 }
 
 // Writes the words of all nodes, in number order: children stand below their node.
-fn work(table: &[u8], t: usize, m: usize, run: &[u16], out: &mut [u64])
-    requires { ⌜ Workable t m (now table) (now run) (length (now out)) ⌝ }
-    ensures { λ _. ⌜ Filled t (now (run .entry)) (nodesIn (now (table .entry))) (now (out .entry))
+fn work(table: &[u8], t: usize, m: usize, l: usize, run: &[u16], out: &mut [u64])
+    requires { ⌜ Workable t m l (now table) (now run) (length (now out)) ⌝ }
+    ensures { λ _. ⌜ Filled t l (now (run .entry)) (nodesIn (now (table .entry))) (now (out .entry))
         (length (nodesIn (now (table .entry)))) (now (out .exit)) ⌝ }
 {
     let mut cols = [0u64; 16];
@@ -145,7 +144,7 @@ fn work(table: &[u8], t: usize, m: usize, run: &[u16], out: &mut [u64])
     let count = table::count(table);
     let mut n: usize = 0;
     while n < count {
-        let word = word_at(table, &out[..], &cols, t, n);
+        let word = word_at(table, &out[..], &cols, t, l, n);
         out[n] = word;
         n += 1;
     }
@@ -158,16 +157,17 @@ fn at_first(word: u64) -> usize
     (word % 2) as usize
 }
 
-// Writes one word for each node, "with bit t − 1 for slot t and zeros above", and answers the root's truth at slot 1.
-pub fn evaluate(table: &[u8], t: usize, m: usize, run: &[u16], out: &mut [u64]) -> Answer
-    ensures { λ r. ⌜ told r ≡ result (evaluateOutcome t m (now (table .entry)) (now (run .entry)) (length (now (out .entry)))) ⌝ }
-    ensures { λ _. ⌜ now (out .exit) ≡ buffer (evaluateOutcome t m (now (table .entry)) (now (run .entry)) (length (now (out .entry)))) (now (out .entry)) ⌝ }
+// Writes one word for each node, "with bit t − 1 for slot t and zeros above", and answers the root's truth at slot 1. After
+// slot t comes slot l again.
+pub fn evaluate(table: &[u8], t: usize, m: usize, l: usize, run: &[u16], out: &mut [u64]) -> Answer
+    ensures { λ r. ⌜ told r ≡ result (evaluateOutcome t m l (now (table .entry)) (now (run .entry)) (length (now (out .entry)))) ⌝ }
+    ensures { λ _. ⌜ now (out .exit) ≡ buffer (evaluateOutcome t m l (now (table .entry)) (now (run .entry)) (length (now (out .entry)))) (now (out .entry)) ⌝ }
 {
-    let checked = check(table, t, m, run, out.len());
+    let checked = check(table, t, m, l, run, out.len());
     match checked {
         Checked::Refused(r) => Answer::Refused(r),
         Checked::Passed => {
-            work(table, t, m, run, out);
+            work(table, t, m, l, run, out);
             let root = table::count(table) - 1;
             Answer::Value(at_first(out[root]))
         }

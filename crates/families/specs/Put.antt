@@ -7,15 +7,42 @@ use lib.ListN.{length, length-append}
 use Rattle.lists.specs.Splice.{splice, splice-nil}
 use Rattle.lists.specs.Filling.{splice-then, splice-as}
 use Rattle.rules.specs.Rows as Rules
-use Rattle.rules.specs.Rows.{rowBytes, rowsBytes, untilRows}
+use Rattle.rules.specs.Rows.{rowBytes, rowsBytes}
 use Rattle.rules.specs.RowParts.{rowsBytes-append}
 use Rattle.row.specs.declared.Row.{Row}
 use Rattle.row.specs.Meaning.{rowOf}
 use Rattle.record.specs.Records.{recordOf, record-is}
 
--- the rows of until before the last slot, where P' is the variable after P
-abbrev pub untilNext : (P p q : ℕ) → List Rules.Row
-untilNext P p q = untilRows P p q (P + 1)
+-- xs is written from `at` on: m is what l is now, and `next` the next place
+abbrev pub Wrote : (at : ℕ) (xs l m : List ℕ) (next : ℕ) → Type 0
+Wrote at xs l m next = (next ≡ at + length xs) × (m ≡ splice at xs l)
+
+-- ---- bytes said in another way, as one part or as two
+
+module _ (at : ℕ) {bytes xs : List ℕ} (e : bytes ≡ xs) where
+  pub one-room : {n : ℕ} → at + length bytes ≤ n → at + length xs ≤ n
+  one-room h = rw e at h
+
+  pub one-done : (l : List ℕ) {m : List ℕ} {r : ℕ} → Wrote at xs l m r → Wrote at bytes l m r
+  one-done l h = rw e h
+
+module _ (at : ℕ) {n : ℕ} {bytes : List ℕ} (xs ys : List ℕ) (e : bytes ≡ xs ++ ys) (h : at + length bytes ≤ n) where
+  total : length bytes ≡ length xs + length ys
+  total = ap length e ∙ length-append xs ys
+
+  pub first-room : at + length xs ≤ n
+  first-room = omega (arith, total)
+
+  pub second-room : {next k : ℕ} → next ≡ at + length xs → k ≡ n → next + length ys ≤ k
+  second-room f g = omega (arith, total)
+
+  pub both-done : (l : List ℕ) {m o : List ℕ} {next r : ℕ} → length l ≡ n → Wrote at xs l m next → Wrote next ys m o r → Wrote at bytes l o r
+  both-done l {m} {o} {next} k f g = (
+    omega (arith, total, f .0, g .0),
+    splice-as at l (splice-then at next xs ys l m o (f .1) (g .1) (f .0) (omega (arith, total, f .0))) (sym e),
+  )
+
+-- ---- rows
 
 -- the rows rs are written from `at` on: m is what l is now, and `next` the next place
 pub record Put (at : ℕ) (rs : List Rules.Row) (l m : List ℕ) (next : ℕ) : Type 0 where
@@ -47,15 +74,16 @@ module _ (at : ℕ) (a b c d : List ℕ) (rs : List Rules.Row) (e : ((a ++ b) ++
   pub four-total : length (rowsBytes rs) ≡ length a + length b + length c + length d
   four-total = ap length (sym e) ∙ omega (arith, length-append ((a ++ b) ++ c) d, length-append (a ++ b) c, length-append a b)
 
-  pub put-four : {l m n o x : List ℕ} {p q r s : ℕ} → at + length (rowsBytes rs) ≤ length l → (p ≡ at + length a) × (m ≡ splice at a l) → (q ≡ p + length b) × (n ≡ splice p b m) →
-      (r ≡ q + length c) × (o ≡ splice q c n) → (s ≡ r + length d) × (x ≡ splice r d o) → Put at rs l x s
+  pub put-four : {l m n o x : List ℕ} {p q r s : ℕ} → at + length (rowsBytes rs) ≤ length l → Wrote at a l m p → Wrote p b m n q → Wrote q c n o r →
+      Wrote r d o x s → Put at rs l x s
   put-four {l} {m} {n} {o} {x} {p} {q} {r} {s} h f g i j =
       let t = four-total in
       let u = length-append a b in
       let v = length-append (a ++ b) c in
       let one = splice-then at p a b l m n (f .1) (g .1) (f .0) (omega (arith, f .0)) in
       let two = splice-then at q (a ++ b) c l n o one (i .1) (omega (arith, f .0, g .0, u)) (omega (arith, f .0, g .0)) in
+      let to : r ≡ at + length ((a ++ b) ++ c) = omega (arith, f .0, g .0, i .0, u, v) in
       record {
         to = omega (arith, f .0, g .0, i .0, j .0, t);
-        is = splice-as at l (splice-then at r ((a ++ b) ++ c) d l o x two (j .1) (omega (arith, f .0, g .0, i .0, u, v)) (omega (arith, f .0, g .0, i .0, t))) e;
+        is = splice-as at l (splice-then at r ((a ++ b) ++ c) d l o x two (j .1) to (omega (arith, f .0, g .0, i .0, t))) e;
       }

@@ -2,16 +2,14 @@
 use row::Relation;
 use row::Term;
 use window::Looks;
-ghost use mathlib.Core.Path.{_≡_};
 ghost use Prim.Native.Nat.{_+_, _≤_};
 ghost use lib.ListN.{length};
-ghost use Rattle.lists.specs.Splice.{splice};
 ghost use Rattle.rules.specs.Rule.Window.{within, throughout};
 ghost use Rattle.row.specs.Kinds.{overRows};
 ghost use Rattle.window.specs.Slots.{Few, variables};
-ghost use Rattle.families.specs.Windows.{aboves, belows, terms};
-ghost use Rattle.rules.specs.Rows.{rowsBytes, sameRows, notRows, andRows, orRows, impliesRows};
-ghost use Rattle.families.specs.Put.{Put, untilNext};
+ghost use Rattle.families.specs.Windows.{aboveOf, belowOf, termOf, range, aboves, belows, terms};
+ghost use Rattle.rules.specs.Rows.{rowsBytes, sameRows, notRows, andRows, orRows, impliesRows, untilRows};
+ghost use Rattle.families.specs.Put.{Wrote, Put};
 
 // P − p = 0
 pub fn put_same(out: &mut [u8], at: usize, big: u16, p: u16) -> usize
@@ -60,28 +58,59 @@ pub fn put_implies(out: &mut [u8], at: usize, big: u16, p: u16, q: u16) -> usize
 }
 
 // P − q ≥ 0; p + q − P ≥ 0; q + P' − P ≥ 0; P − p − P' ≥ −1
-pub fn put_until(out: &mut [u8], at: usize, big: u16, p: u16, q: u16) -> usize
-    requires { ⌜ big ≤ 30000 ⌝ }
-    requires { ⌜ at + length (rowsBytes (untilNext big p q)) ≤ length (now out) ⌝ }
-    ensures { λ r. ⌜ Put at (untilNext big p q) (now (out .entry)) (now (out .exit)) r ⌝ }
+pub fn put_until(out: &mut [u8], at: usize, big: u16, p: u16, q: u16, next: u16) -> usize
+    requires { ⌜ at + length (rowsBytes (untilRows big p q next)) ≤ length (now out) ⌝ }
+    ensures { λ r. ⌜ Put at (untilRows big p q next) (now (out .entry)) (now (out .exit)) r ⌝ }
 {
     let second = record::put_row(out, at, row::above(big, q));
     let third = record::put_row(out, second, row::covered(p, q, big));
-    let fourth = record::put_row(out, third, row::covered(q, big + 1, big));
-    record::put_row(out, fourth, row::forced(big, p, big + 1))
+    let fourth = record::put_row(out, third, row::covered(q, next, big));
+    record::put_row(out, fourth, row::forced(big, p, next))
+}
+
+// A window's slots are one range, or two: a loop goes over a range, and does not ask at each slot where it stands.
+
+// P − p(s) ≥ 0 at n slots one after the other; p is the part's variable at the first of them.
+fn put_above_range(out: &mut [u8], at: usize, big: u16, p: u16, n: u16) -> usize
+    requires { ⌜ (p ≤ 25663) × (n ≤ 64) ⌝ }
+    requires { ⌜ at + length (range (aboveOf big) p n) ≤ length (now out) ⌝ }
+    ensures { λ r. ⌜ Wrote at (range (aboveOf big) p n) (now (out .entry)) (now (out .exit)) r ⌝ }
+{
+    let mut next = at;
+    let mut i: u16 = 0;
+    while i < n {
+        next = record::put_row(out, next, row::above(big, p + i));
+        i += 1;
+    }
+    next
 }
 
 // P − p(s) ≥ 0 for each slot s of a window; p is the part's variable at the first slot of all.
 fn put_above_each(out: &mut [u8], at: usize, big: u16, p: u16, looks: Looks) -> usize
     requires { ⌜ Few looks × (p ≤ 25600) ⌝ }
     requires { ⌜ at + length (aboves big looks p) ≤ length (now out) ⌝ }
-    ensures { λ r. ⌜ (r ≡ at + length (aboves big looks p)) × (now (out .exit) ≡ splice at (aboves big looks p) (now (out .entry))) ⌝ }
+    ensures { λ r. ⌜ Wrote at (aboves big looks p) (now (out .entry)) (now (out .exit)) r ⌝ }
 {
     let k = looks.count;
+    let head = looks.head;
+    let first = p + looks.first;
+    if k <= head {
+        return put_above_range(out, at, big, first, k);
+    }
+    let next = put_above_range(out, at, big, first, head);
+    put_above_range(out, next, big, first + head + looks.skip, k - head)
+}
+
+// p(s) − P ≥ 0 at n slots one after the other; p is the part's variable at the first of them.
+fn put_below_range(out: &mut [u8], at: usize, big: u16, p: u16, n: u16) -> usize
+    requires { ⌜ (p ≤ 25663) × (n ≤ 64) ⌝ }
+    requires { ⌜ at + length (range (belowOf big) p n) ≤ length (now out) ⌝ }
+    ensures { λ r. ⌜ Wrote at (range (belowOf big) p n) (now (out .entry)) (now (out .exit)) r ⌝ }
+{
     let mut next = at;
     let mut i: u16 = 0;
-    while i < k {
-        next = record::put_row(out, next, row::above(big, p + window::nth(looks, i)));
+    while i < n {
+        next = record::put_row(out, next, row::above(p + i, big));
         i += 1;
     }
     next
@@ -91,13 +120,32 @@ fn put_above_each(out: &mut [u8], at: usize, big: u16, p: u16, looks: Looks) -> 
 fn put_below_each(out: &mut [u8], at: usize, big: u16, p: u16, looks: Looks) -> usize
     requires { ⌜ Few looks × (p ≤ 25600) ⌝ }
     requires { ⌜ at + length (belows big looks p) ≤ length (now out) ⌝ }
-    ensures { λ r. ⌜ (r ≡ at + length (belows big looks p)) × (now (out .exit) ≡ splice at (belows big looks p) (now (out .entry))) ⌝ }
+    ensures { λ r. ⌜ Wrote at (belows big looks p) (now (out .entry)) (now (out .exit)) r ⌝ }
 {
     let k = looks.count;
+    let head = looks.head;
+    let first = p + looks.first;
+    if k <= head {
+        return put_below_range(out, at, big, first, k);
+    }
+    let next = put_below_range(out, at, big, first, head);
+    put_below_range(out, next, big, first + head + looks.skip, k - head)
+}
+
+// The terms of a row at n slots one after the other; p is the part's variable at the first of them.
+fn put_terms_range(out: &mut [u8], at: usize, coefficient: i8, p: u16, n: u16) -> usize
+    requires { ⌜ (p ≤ 25663) × (n ≤ 64) ⌝ }
+    requires { ⌜ at + length (range (termOf coefficient) p n) ≤ length (now out) ⌝ }
+    ensures { λ r. ⌜ Wrote at (range (termOf coefficient) p n) (now (out .entry)) (now (out .exit)) r ⌝ }
+{
     let mut next = at;
     let mut i: u16 = 0;
-    while i < k {
-        next = record::put_row(out, next, row::above(p + window::nth(looks, i), big));
+    while i < n {
+        let term = Term {
+            coefficient: coefficient,
+            variable: p + i,
+        };
+        next = record::put_term(out, next, term);
         i += 1;
     }
     next
@@ -107,20 +155,16 @@ fn put_below_each(out: &mut [u8], at: usize, big: u16, p: u16, looks: Looks) -> 
 fn put_terms(out: &mut [u8], at: usize, coefficient: i8, p: u16, looks: Looks) -> usize
     requires { ⌜ Few looks × (p ≤ 25600) ⌝ }
     requires { ⌜ at + length (terms coefficient looks p) ≤ length (now out) ⌝ }
-    ensures { λ r. ⌜ (r ≡ at + length (terms coefficient looks p)) × (now (out .exit) ≡ splice at (terms coefficient looks p) (now (out .entry))) ⌝ }
+    ensures { λ r. ⌜ Wrote at (terms coefficient looks p) (now (out .entry)) (now (out .exit)) r ⌝ }
 {
     let k = looks.count;
-    let mut next = at;
-    let mut i: u16 = 0;
-    while i < k {
-        let term = Term {
-            coefficient: coefficient,
-            variable: p + window::nth(looks, i),
-        };
-        next = record::put_term(out, next, term);
-        i += 1;
+    let head = looks.head;
+    let first = p + looks.first;
+    if k <= head {
+        return put_terms_range(out, at, coefficient, first, k);
     }
-    next
+    let next = put_terms_range(out, at, coefficient, first, head);
+    put_terms_range(out, next, coefficient, first + head + looks.skip, k - head)
 }
 
 // P − p(s) ≥ 0 for each slot s of a window; the sum of all p(s), less P, ≥ 0

@@ -1,3 +1,4 @@
 pub mod Ruled
 pub mod Checks
 pub mod Parts
+pub mod Limits

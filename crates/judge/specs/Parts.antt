@@ -20,29 +20,29 @@ use Rattle.slotcheck.specs.Searches.{tested, first-broken, shortfall-of, all-cl
 use Rattle.slotcheck.specs.Searches as Searches
 use Rattle.limits.specs.Tests.{outsideAt, notBinaryAt}
 
-module _ (T M e : ℕ) (ns : List Node) (xs : List ℤ) where
+module _ (T M L e : ℕ) (ns : List Node) (xs : List ℤ) where
   unfoldable pub rowsVerdict : Judge.Verdict
-  rowsVerdict = orElse (firstBroken T M e ns xs) (brokenAt T M e ns xs) (passed (length (rowsOf T M ns)) (rootError T e ns))
+  rowsVerdict = orElse (firstBroken T M L e ns xs) (brokenAt T M L e ns xs) (passed (length (rowsOf T M L ns)) (rootError T L e ns))
 
   unfoldable pub atomsVerdict : Judge.Verdict
-  atomsVerdict = orElse (firstNotBinary T M e ns xs) not-binary rowsVerdict
+  atomsVerdict = orElse (firstNotBinary T M L e ns xs) not-binary rowsVerdict
 
-  pub verdict-is : verdict T M e ns xs ≡ orElse (firstOutside T M e ns xs) outside atomsVerdict
+  pub verdict-is : verdict T M L e ns xs ≡ orElse (firstOutside T M L e ns xs) outside atomsVerdict
   unfolding verdict atomsVerdict rowsVerdict
   verdict-is = refl
 
-  pub broken-is : (s : Search) → s ≡ tested e (shortfall xs) (Clear 0) (rowsOf T M ns) → firstBroken T M e ns xs ≡ Searches.broken s
-  broken-is s p = sym (first-broken e (shortfall xs) (goalRow T M ns) (rowsOf T M ns)) ∙ ap Searches.broken (sym p)
+  pub broken-is : (s : Search) → s ≡ tested e (shortfall xs) (Clear 0) (rowsOf T M L ns) → firstBroken T M L e ns xs ≡ Searches.broken s
+  broken-is s p = sym (first-broken e (shortfall xs) (goalRow T M ns) (rowsOf T M L ns)) ∙ ap Searches.broken (sym p)
 
-  pub broken-verdict : (i : ℕ) (d : ℤ) → Broken d i ≡ tested e (shortfall xs) (Clear 0) (rowsOf T M ns) → broken i d ≡ rowsVerdict
+  pub broken-verdict : (i : ℕ) (d : ℤ) → Broken d i ≡ tested e (shortfall xs) (Clear 0) (rowsOf T M L ns) → broken i d ≡ rowsVerdict
   unfolding rowsVerdict
-  broken-verdict i d p = rw (broken-is (Broken d i) p) (ap (broken i) (shortfall-of e (shortfall xs) (goalRow T M ns) (rowsOf T M ns) i d (sym p)))
+  broken-verdict i d p = rw (broken-is (Broken d i) p) (ap (broken i) (shortfall-of e (shortfall xs) (goalRow T M ns) (rowsOf T M L ns) i d (sym p)))
 
-  pub clear-verdict : (n f : ℕ) → Clear n ≡ tested e (shortfall xs) (Clear 0) (rowsOf T M ns) → f ≡ rootError T e ns → passed n f ≡ rowsVerdict
+  pub clear-verdict : (n f : ℕ) → Clear n ≡ tested e (shortfall xs) (Clear 0) (rowsOf T M L ns) → f ≡ rootError T L e ns → passed n f ≡ rowsVerdict
   unfolding rowsVerdict
   clear-verdict n f p q =
       rw (broken-is (Clear n) p)
-      (ap₂ passed (all-clear e (shortfall xs) (rowsOf T M ns) 0 n (sym p) ∙ zero-add (length (rowsOf T M ns))) q)
+      (ap₂ passed (all-clear e (shortfall xs) (rowsOf T M L ns) 0 n (sym p) ∙ zero-add (length (rowsOf T M L ns))) q)
 
   pub atoms-found : (k v : ℕ) → k ≡ M * T → first (notBinaryAt e xs) k 0 ≡ some v → not-binary v ≡ atomsVerdict
   unfolding atomsVerdict
@@ -52,8 +52,8 @@ module _ (T M e : ℕ) (ns : List Node) (xs : List ℤ) where
   unfolding atomsVerdict
   atoms-clear k h p = sym (ap (λ (o : Option ℕ). orElse o not-binary rowsVerdict) (ap (λ (n : ℕ). first (notBinaryAt e xs) n 0) (sym h) ∙ p))
 
-  pub outside-found : (k v : ℕ) → k ≡ length xs → first (outsideAt e xs) k 0 ≡ some v → outside v ≡ verdict T M e ns xs
-  outside-found k v h p = sym (verdict-is ∙ ap (λ (o : Option ℕ). orElse o outside atomsVerdict) (ap (λ (n : ℕ). first (outsideAt e xs) n 0) (sym h) ∙ p))
+  pub outside-found : (v : ℕ) → first (outsideAt e xs) (length xs) 0 ≡ some v → outside v ≡ verdict T M L e ns xs
+  outside-found v p = sym (verdict-is ∙ ap (λ (o : Option ℕ). orElse o outside atomsVerdict) p)
 
-  pub outside-clear : (k : ℕ) → k ≡ length xs → first (outsideAt e xs) k 0 ≡ none → atomsVerdict ≡ verdict T M e ns xs
-  outside-clear k h p = sym (verdict-is ∙ ap (λ (o : Option ℕ). orElse o outside atomsVerdict) (ap (λ (n : ℕ). first (outsideAt e xs) n 0) (sym h) ∙ p))
+  pub outside-clear : first (outsideAt e xs) (length xs) 0 ≡ none → atomsVerdict ≡ verdict T M L e ns xs
+  outside-clear p = sym (verdict-is ∙ ap (λ (o : Option ℕ). orElse o outside atomsVerdict) p)

@@ -4,12 +4,14 @@ use limits::Found;
 use slotcheck::Search;
 use table::Checked;
 ghost use mathlib.Core.Path.{_≡_};
-ghost use Prim.Native.Nat.{_+_, _*_, _≤_};
+ghost use Prim.Native.Nat.{_*_, _≤_};
 ghost use lib.ListN.{length};
+ghost use Rattle.rules.specs.Rows.{variableCount};
 ghost use Rattle.rules.specs.TableTest.{recordCount, nodesIn};
 ghost use Rattle.rules.specs.Outcome.{judgeOutcome};
 ghost use Rattle.rules.specs.Verdicts as Verdicts;
 ghost use Rattle.table.specs.Checks.{Ready};
+ghost use Rattle.slotcheck.specs.Spreads.{Limited};
 ghost use Rattle.judge.specs.Ruled.{verdictOf, ruled};
 ghost use Rattle.judge.specs.Checks.{tolerated, counted};
 ghost use Rattle.judge.specs.Parts.{rowsVerdict, atomsVerdict};
@@ -31,47 +33,79 @@ pub enum Ruling {
 }
 
 // The verdict where no figure is outside and every atom is binary.
-fn rows_verdict(table: &[u8], n: usize, t: usize, m: usize, figures: &[i32], e: u16) -> Verdict
-    requires { ⌜ Ready t m (now table) × (n ≡ recordCount (now table)) ⌝ }
-    ensures { λ r. ⌜ verdictOf r ≡ rowsVerdict t m e (nodesIn (now (table .entry))) (now (figures .entry)) ⌝ }
+fn rows_verdict(
+    table: &[u8],
+    n: usize,
+    t: usize,
+    m: usize,
+    l: usize,
+    figures: &[i32],
+    e: u16,
+) -> Verdict
+    requires { ⌜ Ready t m l (now table) × (n ≡ recordCount (now table)) × Limited (now figures) ⌝ }
+    ensures { λ r. ⌜ verdictOf r ≡ rowsVerdict t m l e (nodesIn (now (table .entry))) (now (figures .entry)) ⌝ }
 {
-    let rows = search::test_all(table, n, t, m, figures, e);
+    let rows = search::test_all(table, n, t, m, l, figures, e);
     match rows {
         Search::Broken(shortfall, i) => Verdict::Broken(i, shortfall),
-        Search::Clear(i) => Verdict::Passed(i, errors::root_figure(table, n, t, m, e)),
+        Search::Clear(i) => Verdict::Passed(i, errors::root_figure(table, n, t, m, l, e)),
     }
 }
 
 // The verdict where no figure is outside.
-fn atoms_verdict(table: &[u8], n: usize, t: usize, m: usize, figures: &[i32], e: u16) -> Verdict
-    requires { ⌜ Ready t m (now table) × (n ≡ recordCount (now table)) × (m * t ≤ length (now figures)) ⌝ }
-    ensures { λ r. ⌜ verdictOf r ≡ atomsVerdict t m e (nodesIn (now (table .entry))) (now (figures .entry)) ⌝ }
+fn atoms_verdict(
+    table: &[u8],
+    n: usize,
+    t: usize,
+    m: usize,
+    l: usize,
+    figures: &[i32],
+    e: u16,
+) -> Verdict
+    requires { ⌜ Ready t m l (now table) × (n ≡ recordCount (now table)) × (m * t ≤ length (now figures)) × Limited (now figures) ⌝ }
+    ensures { λ r. ⌜ verdictOf r ≡ atomsVerdict t m l e (nodesIn (now (table .entry))) (now (figures .entry)) ⌝ }
 {
     let atoms = row::place(m, t) as usize;
     let binary = limits::first_not_binary(figures, atoms, e);
     match binary {
         Found::At(v) => Verdict::NotBinary(v),
-        Found::Nowhere => rows_verdict(table, n, t, m, figures, e),
+        Found::Nowhere => rows_verdict(table, n, t, m, l, figures, e),
     }
 }
 
 // The verdict on the figures of a checked table's variables.
-fn verdict_of(table: &[u8], n: usize, t: usize, m: usize, figures: &[i32], e: u16) -> Verdict
-    requires { ⌜ Ready t m (now table) × (n ≡ recordCount (now table)) × (length (now figures) ≡ (m + n) * t) ⌝ }
-    ensures { λ r. ⌜ verdictOf r ≡ Verdicts.verdict t m e (nodesIn (now (table .entry))) (now (figures .entry)) ⌝ }
+fn verdict_of(
+    table: &[u8],
+    n: usize,
+    t: usize,
+    m: usize,
+    l: usize,
+    figures: &[i32],
+    e: u16,
+) -> Verdict
+    requires { ⌜ Ready t m l (now table) × (n ≡ recordCount (now table)) × (length (now figures) ≡ variableCount t m l (nodesIn (now table))) ⌝ }
+    ensures { λ r. ⌜ verdictOf r ≡ Verdicts.verdict t m l e (nodesIn (now (table .entry))) (now (figures .entry)) ⌝ }
 {
-    let all = row::place(m + n, t) as usize;
+    let all = figures.len();
     let outside = limits::first_outside(figures, all, e);
     match outside {
         Found::At(v) => Verdict::Outside(v),
-        Found::Nowhere => atoms_verdict(table, n, t, m, figures, e),
+        Found::Nowhere => atoms_verdict(table, n, t, m, l, figures, e),
     }
 }
 
 // The ruling where the table is checked and the figures are as many as the variables.
-fn judge_counted(table: &[u8], n: usize, t: usize, m: usize, figures: &[i32], e: i32) -> Ruling
-    requires { ⌜ Ready t m (now table) × (n ≡ recordCount (now table)) × (length (now figures) ≡ (m + n) * t) ⌝ }
-    ensures { λ r. ⌜ ruled r ≡ tolerated t m (now (table .entry)) (now (figures .entry)) e ⌝ }
+fn judge_counted(
+    table: &[u8],
+    n: usize,
+    t: usize,
+    m: usize,
+    l: usize,
+    figures: &[i32],
+    e: i32,
+) -> Ruling
+    requires { ⌜ Ready t m l (now table) × (n ≡ recordCount (now table)) × (length (now figures) ≡ variableCount t m l (nodesIn (now table))) ⌝ }
+    ensures { λ r. ⌜ ruled r ≡ tolerated t m l (now (table .entry)) (now (figures .entry)) e ⌝ }
 {
     if e < 0 {
         return Ruling::Refused(Refusal::Tolerance);
@@ -80,29 +114,36 @@ fn judge_counted(table: &[u8], n: usize, t: usize, m: usize, figures: &[i32], e:
     if 1000 < tolerance {
         return Ruling::Refused(Refusal::Tolerance);
     }
-    Ruling::Judged(verdict_of(table, n, t, m, figures, tolerance as u16))
+    Ruling::Judged(verdict_of(table, n, t, m, l, figures, tolerance as u16))
+}
+
+// How many variables there are, of a checked table of n nodes.
+fn variable_count(table: &[u8], n: usize, t: usize, m: usize, l: usize) -> usize
+    requires { ⌜ Ready t m l (now table) × (n ≡ recordCount (now table)) ⌝ }
+    ensures { λ r. ⌜ r ≡ variableCount t m l (nodesIn (now (table .entry))) ⌝ }
+{
+    row::place(m + (n + table::kept_count(table, t, l)), t) as usize
 }
 
 // The ruling where the table is checked.
-fn judge_checked(table: &[u8], t: usize, m: usize, figures: &[i32], e: i32) -> Ruling
-    requires { ⌜ Ready t m (now table) ⌝ }
-    ensures { λ r. ⌜ ruled r ≡ counted t m (now (table .entry)) (now (figures .entry)) e ⌝ }
+fn judge_checked(table: &[u8], t: usize, m: usize, l: usize, figures: &[i32], e: i32) -> Ruling
+    requires { ⌜ Ready t m l (now table) ⌝ }
+    ensures { λ r. ⌜ ruled r ≡ counted t m l (now (table .entry)) (now (figures .entry)) e ⌝ }
 {
     let n = table::count(table);
-    let variables = row::place(m + n, t) as usize;
-    if figures.len() != variables {
+    if figures.len() != variable_count(table, n, t, m, l) {
         return Ruling::Refused(Refusal::Figures);
     }
-    judge_counted(table, n, t, m, figures, e)
+    judge_counted(table, n, t, m, l, figures, e)
 }
 
-// Judges figures, one for each variable, with a tolerance. It writes nothing.
-pub fn judge(table: &[u8], t: usize, m: usize, figures: &[i32], e: i32) -> Ruling
-    ensures { λ r. ⌜ ruled r ≡ judgeOutcome t m (now (table .entry)) (now (figures .entry)) e ⌝ }
+// Judges figures, one for each variable, with a tolerance; after slot t comes slot l again. It writes nothing.
+pub fn judge(table: &[u8], t: usize, m: usize, l: usize, figures: &[i32], e: i32) -> Ruling
+    ensures { λ r. ⌜ ruled r ≡ judgeOutcome t m l (now (table .entry)) (now (figures .entry)) e ⌝ }
 {
-    let checked = table::check(table, t, m);
+    let checked = table::check(table, t, m, l);
     match checked {
         Checked::Refused(r) => Ruling::Refused(r),
-        Checked::Passed => judge_checked(table, t, m, figures, e),
+        Checked::Passed => judge_checked(table, t, m, l, figures, e),
     }
 }

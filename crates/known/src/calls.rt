@@ -21,19 +21,19 @@ const LARGEST: usize = 4194304;
 const MOST_WORDS: usize = 512;
 
 // The most figures of a table, and of a window's row.
-const FIGURES: usize = 9216;
+const FIGURES: usize = 17344;
 
 const SLOTS: usize = 64;
 
 // The length of rowlist's page.
 const LISTING: usize = 184000;
 
-// read ROOM M:TEXT, write ROOM T M:TABLE, mps ROOM T M:TABLE
+// read ROOM M:TEXT, write ROOM T M L:TABLE, mps ROOM T M L:TABLE
 fn made(call: u8, list: &[usize; NUMBERS], bytes: &[u8], out: &mut [u8]) -> Answer {
     match call {
         b'r' => reader::read(bytes, list[2], out),
-        b'w' => rows::write_rows(bytes, list[2], list[3], out),
-        _ => pages::mps_page(bytes, list[2], list[3], out),
+        b'w' => rows::write_rows(bytes, list[2], list[3], list[4], out),
+        _ => pages::mps_page(bytes, list[2], list[3], list[4], out),
     }
 }
 
@@ -72,8 +72,8 @@ fn write(call: u8, list: &[usize; NUMBERS], bytes: &[u8]) {
 
 fn evaluated(list: &[usize; NUMBERS], table: &[u8], out: &mut [u64]) -> Answer {
     let run = cases::run(list);
-    let end = cases::end(list, 4);
-    evaluator::evaluate(table, list[2], list[3], &run[4..end], out)
+    let end = cases::end(list, 5);
+    evaluator::evaluate(table, list[2], list[3], list[4], &run[5..end], out)
 }
 
 // Lends and prints words likewise.
@@ -92,7 +92,7 @@ fn lend_words_part(list: &[usize; NUMBERS], table: &[u8], space: &mut [u64]) {
     lend_words(list, table, &mut space[0..end]);
 }
 
-// evaluate ROOM T M NUMBERS:TABLE
+// evaluate ROOM T M L NUMBERS:TABLE
 fn evaluate(list: &[usize; NUMBERS], table: &[u8]) {
     let mut space = [FILL_WORD; MOST_WORDS];
     lend_words_part(list, table, &mut space);
@@ -105,21 +105,21 @@ fn first(list: &[usize; NUMBERS]) {
     show::text(b"\n");
 }
 
-// judge T M E FIGURES:TABLE
+// judge T M L E FIGURES:TABLE
 fn judge(list: &[usize; NUMBERS], table: &[u8]) {
     let figures = cases::figures(list);
-    let end = cases::end(list, 4);
-    let e = cases::signed(list[3]);
-    show::ruling(judge::judge(table, list[1], list[2], &figures[4..end], e));
+    let end = cases::end(list, 5);
+    let e = cases::signed(list[4]);
+    show::ruling(judge::judge(table, list[1], list[2], list[3], &figures[5..end], e));
 }
 
 fn judge_in(list: &[usize; NUMBERS], table: &[u8], space: &mut [i32]) {
     let n = cases::counted(list, space);
-    let e = cases::signed(list[3]);
-    show::ruling(judge::judge(table, list[1], list[2], &space[0..n], e));
+    let e = cases::signed(list[4]);
+    show::ruling(judge::judge(table, list[1], list[2], list[3], &space[0..n], e));
 }
 
-// counted T M E and pairs of a count and a figure:TABLE
+// counted T M L E and pairs of a count and a figure:TABLE
 fn judge_counted(list: &[usize; NUMBERS], table: &[u8]) {
     let mut space = [0i32; FIGURES];
     judge_in(list, table, &mut space);

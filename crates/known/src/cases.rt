@@ -215,13 +215,13 @@ fn put_figures(into: &mut [i32], from: usize, count: usize, figure: i32) -> usiz
     n
 }
 
-// Figures that are said as pairs of a count and a figure, from place 4 on; the result is how many.
+// Figures that are said as pairs of a count and a figure, from place 5 on; the result is how many.
 pub fn counted(list: &[usize; NUMBERS], into: &mut [i32]) -> usize
     ensures { λ r. ⌜ r ≤ length (now (into .exit)) ⌝ }
 {
-    let end = end(list, 4);
+    let end = end(list, 5);
     let mut n: usize = 0;
-    let mut i: usize = 5;
+    let mut i: usize = 6;
     while i < end {
         n = put_figures(into, n, list[i - 1], signed(list[i]));
         i += 2;

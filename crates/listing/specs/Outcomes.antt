@@ -24,7 +24,7 @@ use Rattle.rules.specs.Demands.Written.{wrote}
 use Rattle.rules.specs.Outcome.{result, buffer, require, between, readOutcome, rowsOutcome}
 use Rattle.rules.specs.Theorems.{reader-exact, rows-exact}
 use Rattle.answers.specs.declared.Refusal.{Refusal}
-use Rattle.answers.specs.declared.Refusal.the-variants.{Slots, Atoms, LongText, Grammar, AtomNumber, Nodes, Table, Run, Figures, Tolerance, Room, Window}
+use Rattle.answers.specs.declared.Refusal.the-variants.{Slots, Atoms, LongText, Grammar, AtomNumber, Nodes, Table, Run, Figures, Tolerance, Room, Window, Loop}
 use Rattle.answers.specs.declared.Answer.{Answer}
 use Rattle.answers.specs.declared.Answer.the-variants.{Value, Refused}
 use Rattle.answers.specs.Told.{numberOf, told}
@@ -67,6 +67,7 @@ number-small Figures = omega arith
 number-small Tolerance = omega arith
 number-small Room = omega arith
 number-small Window = omega arith
+number-small Loop = omega arith
 
 -- ---- a rule read for T slots
 
@@ -147,15 +148,15 @@ pub record RowsWritten (T M count : ℕ) (bytes : List ℕ) : Type 0 where
   pub whole : (rest : List ℕ) → Whole count (bytes ++ rest)
   pub said : (rest : List ℕ) → rowsIn count (bytes ++ rest) ≡ rowsIn count bytes
 
-pub rows-written : (T M : ℕ) (table : List ℕ) (count : ℕ) (bytes : List ℕ) → rowsOutcome T M table 65536 ≡ answered (wrote count bytes) → RowsWritten T M count bytes
+pub rows-written : (T M : ℕ) (table : List ℕ) (count : ℕ) (bytes : List ℕ) → rowsOutcome T M T table 65536 ≡ answered (wrote count bytes) → RowsWritten T M count bytes
 rows-written T M table count bytes e =
-    let r = rows-exact T M table 65536 .answers (wrote count bytes) .0 e in
-    let rs = rowsOf T M (r .1 .0) in
+    let r = rows-exact T M T table 65536 .answers (wrote count bytes) .0 e in
+    let rs = rowsOf T M T (r .1 .0) in
     let w : wrote count bytes ≡ wrote (length rs) (rowsBytes rs) = r .1 .2 in
     let a : count ≡ length rs = cc in
     let b : bytes ≡ rowsBytes rs = cc in
     let t : T ≤ 64 = at-most T 64 (λ h. r .0 1 (RowsRefused.table-refused (TableRefused.slots (λ s. omega arith)))) in
-    let k = rows-recordable T M t (r .1 .0) in
+    let k = rows-recordable T M T t (r .1 .0) in
     record {
       slots = t;
       atoms = at-most M 16 (λ h. r .0 2 (RowsRefused.table-refused (TableRefused.atoms (λ s. omega arith))));
@@ -201,15 +202,15 @@ table-ready T M text z l r n e f v =
 -- rows written into 65,536 bytes, l after that
 pub record RowsReady (T M : ℕ) (table : List ℕ) (count : ℕ) (l : List ℕ) : Type 0 where
   pub bytes : List ℕ
-  pub is : rowsOutcome T M table 65536 ≡ answered (wrote count bytes)
+  pub is : rowsOutcome T M T table 65536 ≡ answered (wrote count bytes)
   pub written : RowsWritten T M count bytes
   pub size-is : length l ≡ 65536
   pub whole : Whole count l
   pub said : rowsIn count l ≡ rowsIn count bytes
 
-pub rows-ready : (T M : ℕ) (table z l : List ℕ) (r : Answer) (count : ℕ) → length z ≡ 65536 → told r ≡ result (rowsOutcome T M table (length z)) → l ≡ buffer (rowsOutcome T M table (length z)) z → r ≡ Value count → RowsReady T M table count l
+pub rows-ready : (T M : ℕ) (table z l : List ℕ) (r : Answer) (count : ℕ) → length z ≡ 65536 → told r ≡ result (rowsOutcome T M T table (length z)) → l ≡ buffer (rowsOutcome T M T table (length z)) z → r ≡ Value count → RowsReady T M table count l
 rows-ready T M table z l r count s e f v =
-    let w = told-value (rowsOutcome T M table 65536) r count (rw s at e) v in
+    let w = told-value (rowsOutcome T M T table 65536) r count (rw s at e) v in
     let k = rows-written T M table count (w .bytes) (w .is) in
     let rest = drop (length (w .bytes)) z in
     let g : l ≡ w .bytes ++ rest = rw s at f ∙ ap (λ (x : Demands.Answer Written). buffer x z) (w .is) in
@@ -236,9 +237,9 @@ pub printed-rows : (T M n count : ℕ) (bytes : List ℕ) (o : Demands.Answer Wr
 printed-rows T M n count bytes o e =
     ap (λ (x : Demands.Answer Written). printed (rowsThen T M n x)) e ∙ ap (λ (k : ℕ). headText k ((M + n) * T) ++ rowsText 0 (rowsIn count bytes)) (length-rowsIn count bytes)
 
-pub printed-refused : (T M n : ℕ) (table z : List ℕ) (r : Answer) (k : Refusal) → length z ≡ 65536 → told r ≡ result (rowsOutcome T M table (length z)) → r ≡ Refused k → printed (rowsThen T M n (rowsOutcome T M table 65536)) ≡ refusedText (numberOf k)
+pub printed-refused : (T M n : ℕ) (table z : List ℕ) (r : Answer) (k : Refusal) → length z ≡ 65536 → told r ≡ result (rowsOutcome T M T table (length z)) → r ≡ Refused k → printed (rowsThen T M n (rowsOutcome T M T table 65536)) ≡ refusedText (numberOf k)
 printed-refused T M n table z r k s e v =
-    ap (λ (x : Demands.Answer Written). printed (rowsThen T M n x)) (told-refused (rowsOutcome T M table 65536) r k (rw s at e) v)
+    ap (λ (x : Demands.Answer Written). printed (rowsThen T M n x)) (told-refused (rowsOutcome T M T table 65536) r k (rw s at e) v)
 
 -- the listing, by the outcome of reading the rule
 listing-read : (T M : ℕ) (text : List ℕ) (o : Demands.Answer Written) → ruleOutcome T M text ≡ o → listing T M text ≡ printed (readThen T M o)
@@ -249,10 +250,10 @@ pub listing-refused : (T M : ℕ) (text : List ℕ) (r : Answer) (k : Refusal) �
 listing-refused T M text r k e v =
     listing-read T M text (refused (numberOf k)) (told-refused (ruleOutcome T M text) r k e v)
 
-pub listing-rows : (T M n : ℕ) (text l : List ℕ) → (t : TableReady T M text n l) → listing T M text ≡ printed (rowsThen T M n (rowsOutcome T M (take (8 * n) l) 65536))
+pub listing-rows : (T M n : ℕ) (text l : List ℕ) → (t : TableReady T M text n l) → listing T M text ≡ printed (rowsThen T M n (rowsOutcome T M T (take (8 * n) l) 65536))
 listing-rows T M n text l t =
     listing-read T M text (answered (wrote n (t .table .bytes))) (t .table .is)
-    ∙ ap (λ (x : List ℕ). printed (rowsThen T M n (rowsOutcome T M x 65536))) (sym (t .table .front))
+    ∙ ap (λ (x : List ℕ). printed (rowsThen T M n (rowsOutcome T M T x 65536))) (sym (t .table .front))
 
 -- ---- the page of a state
 

@@ -24,10 +24,10 @@ abbrev pub rowsThen : (T M N : ℕ) → Answer Written → Answer Listed
 rowsThen T M N (refused k) = refused k
 rowsThen T M N (answered (wrote R bytes)) = answered (record { variables = (M + N) * T; rows = rowsIn R bytes })
 
--- "and holds 65,536 bytes of rows"
+-- "and holds 65,536 bytes of rows"; request N8: the loop slot is T, "and rowlist uses that"
 abbrev pub readThen : (T M : ℕ) → Answer Written → Answer Listed
 readThen T M (refused k) = refused k
-readThen T M (answered (wrote N table)) = rowsThen T M N (rowsOutcome T M table 65536)
+readThen T M (answered (wrote N table)) = rowsThen T M N (rowsOutcome T M T table 65536)
 
 -- a rule read for T slots: the check of T, which is no check of the reader's, and then the reader's answer. Any table fits 1024 bytes.
 unfoldable pub ruleOutcome : (T M : ℕ) (text : List ℕ) → Answer Written
@@ -35,7 +35,7 @@ ruleOutcome T M text = require (between 1 64 T) 1 (readOutcome M text 1024)
 
 -- "Of the refusals of reader and row writer, the lowest", which since request N4 is the first in the order: 1 is the row writer's, 2 both's,
 -- 3, 4, 5, 12 and 6 the reader's, 11 the row writer's.
--- The reader's table is good and fits, so 7 and the reader's 11 do not occur.
+-- The reader's table is good and fits, so 7 and the reader's 11 do not occur; the loop slot is T, so 13 does not either.
 unfoldable pub listed : (T M : ℕ) (text : List ℕ) → Answer Listed
 listed T M text = readThen T M (ruleOutcome T M text)
 

@@ -3,6 +3,7 @@ use mathlib.Core.Path.{_≡_, refl, sym, ap, ap₂, subst, _∙_}
 use mathlib.Core.Bool.{Bool, true, false}
 use mathlib.Core.List.{List}
 use Prim.Native.Nat.{ℕ, _+_, _*_, _≤_, _<_}
+use native.Mathlib.Nat.{le-refl}
 use native.Mathlib.Omega.{arith}
 use lib.ListN.{length}
 use Rattle.rules.specs.Quantities.{SlotsAllowed}
@@ -30,11 +31,11 @@ use Rattle.listing.specs.Outcomes.{at-most}
 pub data ListRefused (T M : ℕ) (text : List ℕ) : ℕ → Type 0 where
   slots : (SlotsAllowed T → ⊥) → ListRefused T M text 1
   reader : {k : ℕ} → TextRefused M text k → ListRefused T M text k
-  room : {p : Rule} → Says text p → 65536 < length (rowsBytes (rowsOf T M (nodesOf p))) → ListRefused T M text 11
+  room : {p : Rule} → Says text p → 65536 < length (rowsBytes (rowsOf T M T (nodesOf p))) → ListRefused T M text 11
 
 -- the variables and rows of the rule that the text says
 abbrev pub ListIs : (T M : ℕ) (text : List ℕ) → Listed → Type 0
-ListIs T M text x = (p : Rule) × Says text p × (x ≡ record { variables = (M + size p) * T; rows = rowsOf T M (nodesOf p) })
+ListIs T M text x = (p : Rule) × Says text p × (x ≡ record { variables = (M + size p) * T; rows = rowsOf T M T (nodesOf p) })
 
 abbrev pub ListExact : Type 0
 ListExact = (T M : ℕ) (text : List ℕ) → Exact (ListRefused T M text) (ListIs T M text) (listed T M text)
@@ -91,13 +92,14 @@ module _ (T M : ℕ) (text : List ℕ) (allowed : SlotsAllowed T) where
     nodes-same ns g = good-nodes M (tableBytes (nodesOf p)) ns g ∙ sym (good-nodes M (tableBytes (nodesOf p)) (nodesOf p) good-table)
 
     -- only the room can be short
-    only-room : {k : ℕ} → RowsRefused T M (tableBytes (nodesOf p)) 65536 k → (k ≡ 11) × (65536 < length (rowsBytes (rowsOf T M (nodesOf p))))
+    only-room : {k : ℕ} → RowsRefused T M T (tableBytes (nodesOf p)) 65536 k → (k ≡ 11) × (65536 < length (rowsBytes (rowsOf T M T (nodesOf p))))
     only-room (RowsRefused.table-refused (TableRefused.slots x)) = absurd (x allowed)
     only-room (RowsRefused.table-refused (TableRefused.atoms x)) = absurd (none 2 (ReadRefused.text-refused (TextRefused.atoms x)))
+    only-room (RowsRefused.table-refused (TableRefused.loop x)) = absurd (x (allowed .0, le-refl T))
     only-room (RowsRefused.table-refused (TableRefused.not-good x)) = absurd (x (nodesOf p) good-table)
-    only-room (RowsRefused.short {ns} g x) = (refl, subst (λ (l : List Node). 65536 < length (rowsBytes (rowsOf T M l))) (nodes-same ns g) x)
+    only-room (RowsRefused.short {ns} g x) = (refl, subst (λ (l : List Node). 65536 < length (rowsBytes (rowsOf T M T l))) (nodes-same ns g) x)
 
-    rows-refused : (k : ℕ) → Wins (RowsRefused T M (tableBytes (nodesOf p)) 65536) k → Exact (ListRefused T M text) (ListIs T M text) (refused k)
+    rows-refused : (k : ℕ) → Wins (RowsRefused T M T (tableBytes (nodesOf p)) 65536) k → Exact (ListRefused T M text) (ListIs T M text) (refused k)
     rows-refused k low =
         let r = only-room (low .applies) in
         rw (r .0) (refuse (ListRefused T M text) (ListIs T M text) 11 (λ j. from) (ListRefused.room says (r .1)))
@@ -108,9 +110,9 @@ module _ (T M : ℕ) (text : List ℕ) (allowed : SlotsAllowed T) where
         from (ListRefused.room s x) = omega arith
 
     wanted : Rule → Listed
-    wanted q = record { variables = (M + size q) * T; rows = rowsOf T M (nodesOf q) }
+    wanted q = record { variables = (M + size q) * T; rows = rowsOf T M T (nodesOf q) }
 
-    rows-listed : None (RowsRefused T M (tableBytes (nodesOf p)) 65536) → Exact (ListRefused T M text) (ListIs T M text) (answered (wanted p))
+    rows-listed : None (RowsRefused T M T (tableBytes (nodesOf p)) 65536) → Exact (ListRefused T M text) (ListIs T M text) (answered (wanted p))
     unfolding wanted
     rows-listed clear =
         exact-answered (ListRefused T M text) (ListIs T M text) (wanted p) (λ j. refuted) (p, says, refl)
@@ -119,20 +121,20 @@ module _ (T M : ℕ) (text : List ℕ) (allowed : SlotsAllowed T) where
         refuted : {j : ℕ} → ListRefused T M text j → ⊥
         refuted (ListRefused.slots x) = x allowed
         refuted (ListRefused.reader {k = j} x) = none j (ReadRefused.text-refused x)
-        refuted (ListRefused.room {p = q} s x) = clear 11 (RowsRefused.short good-table (subst (λ (r : Rule). 65536 < length (rowsBytes (rowsOf T M (nodesOf r)))) (one-reading text q p s says) x))
+        refuted (ListRefused.room {p = q} s x) = clear 11 (RowsRefused.short good-table (subst (λ (r : Rule). 65536 < length (rowsBytes (rowsOf T M T (nodesOf r)))) (one-reading text q p s says) x))
 
     -- the row writer's outcome on that table
-    rows-outcome : (o : Answer Written) → rowsOutcome T M (tableBytes (nodesOf p)) 65536 ≡ o → Exact (ListRefused T M text) (ListIs T M text) (rowsThen T M (size p) o)
+    rows-outcome : (o : Answer Written) → rowsOutcome T M T (tableBytes (nodesOf p)) 65536 ≡ o → Exact (ListRefused T M text) (ListIs T M text) (rowsThen T M (size p) o)
     unfolding wanted
-    rows-outcome (refused k) e = rows-refused k (rows-exact T M (tableBytes (nodesOf p)) 65536 .refuses k .0 e)
+    rows-outcome (refused k) e = rows-refused k (rows-exact T M T (tableBytes (nodesOf p)) 65536 .refuses k .0 e)
     rows-outcome (answered (wrote count bytes)) e =
-        let r = rows-exact T M (tableBytes (nodesOf p)) 65536 .answers (wrote count bytes) .0 e in
-        let rs = rowsOf T M (r .1 .0) in
+        let r = rows-exact T M T (tableBytes (nodesOf p)) 65536 .answers (wrote count bytes) .0 e in
+        let rs = rowsOf T M T (r .1 .0) in
         let w : wrote count bytes ≡ wrote (length rs) (rowsBytes rs) = r .1 .2 in
         let a : count ≡ length rs = cc in
         let b : bytes ≡ rowsBytes rs = cc in
-        let d : rowsIn count bytes ≡ rowsOf T M (nodesOf p) =
-        ap₂ rowsIn a b ∙ rows-back rs (rows-recordable T M (allowed .1) (r .1 .0)) ∙ ap (rowsOf T M) (nodes-same (r .1 .0) (r .1 .1)) in
+        let d : rowsIn count bytes ≡ rowsOf T M T (nodesOf p) =
+        ap₂ rowsIn a b ∙ rows-back rs (rows-recordable T M T (allowed .1) (r .1 .0)) ∙ ap (rowsOf T M T) (nodes-same (r .1 .0) (r .1 .1)) in
         let f : wanted p ≡ record { variables = (M + size p) * T; rows = rowsIn count bytes } = ap listed-of (sym d) in
         subst (λ (x : Listed). Exact (ListRefused T M text) (ListIs T M text) (answered x)) f (rows-listed (r .0))
       where
@@ -147,9 +149,9 @@ module _ (T M : ℕ) (text : List ℕ) (allowed : SlotsAllowed T) where
       let w : wrote n table ≡ wrote (size p) (tableBytes (nodesOf p)) = r .1 .2 in
       let a : n ≡ size p = cc in
       let b : table ≡ tableBytes (nodesOf p) = cc in
-      let x = rows-outcome p (r .1 .1) (r .0) (rowsOutcome T M (tableBytes (nodesOf p)) 65536) refl in
-      let y = subst (λ (l : List ℕ). Exact (ListRefused T M text) (ListIs T M text) (rowsThen T M (size p) (rowsOutcome T M l 65536))) (sym b) x in
-      subst (λ (k : ℕ). Exact (ListRefused T M text) (ListIs T M text) (rowsThen T M k (rowsOutcome T M table 65536))) (sym a) y
+      let x = rows-outcome p (r .1 .1) (r .0) (rowsOutcome T M T (tableBytes (nodesOf p)) 65536) refl in
+      let y = subst (λ (l : List ℕ). Exact (ListRefused T M text) (ListIs T M text) (rowsThen T M (size p) (rowsOutcome T M T l 65536))) (sym b) x in
+      subst (λ (k : ℕ). Exact (ListRefused T M text) (ListIs T M text) (rowsThen T M k (rowsOutcome T M T table 65536))) (sym a) y
 
 pub list-exact : ListExact
 list-exact T M text =

@@ -50,9 +50,9 @@ fn list_rows(
     out: &mut [u8; 184000],
 ) -> usize
     requires { ⌜ (n ≤ 128) × (length (now rows) ≡ 65536) ⌝ }
-    ensures { λ r. ⌜ Put 0 (printed (rowsThen t m n (rowsOutcome t m (now (table .entry)) 65536))) (now (out .entry)) (now (out .exit)) r × (r ≤ 184000) ⌝ }
+    ensures { λ r. ⌜ Put 0 (printed (rowsThen t m n (rowsOutcome t m t (now (table .entry)) 65536))) (now (out .entry)) (now (out .exit)) r × (r ≤ 184000) ⌝ }
 {
-    match rows::write_rows(table, t, m, rows) {
+    match rows::write_rows(table, t, m, t, rows) {
         answers::Answer::Refused(refusal) => put_refusal(out, refusal),
         answers::Answer::Value(count) => { put_listing(&rows[..65536], count, n, t, m, out) }
     }
@@ -61,7 +61,7 @@ fn list_rows(
 // The rows of a table of `n` nodes.
 fn list_table(table: &[u8], n: usize, t: usize, m: usize, out: &mut [u8; 184000]) -> usize
     requires { ⌜ n ≤ 128 ⌝ }
-    ensures { λ r. ⌜ Put 0 (printed (rowsThen t m n (rowsOutcome t m (now (table .entry)) 65536))) (now (out .entry)) (now (out .exit)) r × (r ≤ 184000) ⌝ }
+    ensures { λ r. ⌜ Put 0 (printed (rowsThen t m n (rowsOutcome t m t (now (table .entry)) 65536))) (now (out .entry)) (now (out .exit)) r × (r ≤ 184000) ⌝ }
 {
     let mut rows = [0u8; 65536];
     list_rows(table, n, t, m, &mut rows, out)

@@ -2,15 +2,16 @@
 use mathlib.Core.Path.{_≡_, refl, sym, ap, ap₂, _∙_}
 use mathlib.Core.Bool.{Bool, true, false, cond, _&&_, _||_}
 use mathlib.Core.Logic.{_↔_, ⊎-elim}
-use mathlib.Core.List.{List, [], _∷_, _++_}
-use Prim.Native.Nat.{ℕ, zero, suc, _+_, _≤_, _<_}
+use mathlib.Core.List.{List, [], _∷_, _++_, append-nil}
+use Prim.Native.Nat.{ℕ, zero, suc, _+_, _-_, _≤_, _<_}
 use native.Mathlib.Nat.{eq-or-lt-of-le}
 use native.Mathlib.Omega.{arith}
-use lib.Dec.{T as Is}
+use lib.Dec.{T as Is, ltb}
+use borrow.Author.Tests.{lt-ltb, le-ltb}
 use lib.ListN.{length}
 use Rattle.lists.specs.Tests.{or-cases, or-left, or-right, and-left, and-right, and-both}
 use Rattle.lists.specs.Every.{Every}
-use Rattle.lists.specs.Tabulate.{tabulate, tabulate-same}
+use Rattle.lists.specs.Tabulate.{tabulate, tabulate-same, tabulate-append}
 
 -- of the k numbers from t on
 abbrev pub passing : (ℕ → Bool) → (k t : ℕ) → List ℕ
@@ -121,3 +122,48 @@ passing-all h zero t f = refl
 passing-all h (suc k) t f =
     rw (f t (omega arith) (omega arith))
     (ap₂ _∷_ (omega arith) (passing-all h k (t + 1) (λ s u v. f s (omega arith) (omega arith)) ∙ tabulate-same k (λ i. t + 1 + i) (λ i. t + suc i) (λ i g. omega arith)))
+
+-- ---- numbers that pass in two ranges: the first `head` of them from `first` on, the others after `skip` numbers that do not
+
+abbrev pub inRanges : (first head skip i : ℕ) → ℕ
+inRanges first head skip i = first + i + cond (ltb i head) 0 skip
+
+module _ (h : ℕ → Bool) (k first head skip tail : ℕ) (low : 1 ≤ first) (high : first + head + skip + tail ≤ k + 1)
+    (in-head : (s : ℕ) → first ≤ s → s < first + head → h s ≡ true)
+    (in-tail : (s : ℕ) → first + head + skip ≤ s → s < first + head + skip + tail → h s ≡ true)
+    (before : (s : ℕ) → 1 ≤ s → s < first → h s ≡ false)
+    (between : (s : ℕ) → first + head ≤ s → s < first + head + skip → h s ≡ false)
+    (behind : (s : ℕ) → first + head + skip + tail ≤ s → s ≤ k → h s ≡ false) where
+  head-part : (n : ℕ) → passing h (head + n) first ≡ tabulate head (inRanges first head skip) ++ passing h n (first + head)
+  head-part n =
+      passing-append h head n first
+      ∙ ap (λ (l : List ℕ). l ++ passing h n (first + head))
+      (passing-all h head first (λ s u v. in-head s u v) ∙ tabulate-same head (λ i. first + i) (inRanges first head skip)
+      (λ i g. rw (lt-ltb i head g) (omega arith)))
+
+  tail-part : (n : ℕ) → passing h (tail + n) (first + head + skip) ≡
+      tabulate tail (λ i. inRanges first head skip (head + i)) ++ passing h n (first + head + skip + tail)
+  tail-part n =
+      passing-append h tail n (first + head + skip)
+      ∙ ap (λ (l : List ℕ). l ++ passing h n (first + head + skip + tail))
+      (passing-all h tail (first + head + skip) (λ s u v. in-tail s u v)
+      ∙ tabulate-same tail (λ i. first + head + skip + i) (λ i. inRanges first head skip (head + i))
+      (λ i g. rw (le-ltb (head + i) head (omega arith)) (omega arith)))
+
+  pub passing-ranges : passing h k 1 ≡ tabulate (head + tail) (inRanges first head skip)
+  passing-ranges =
+      let rest = k + 1 - (first + head + skip + tail) in
+      let e : k ≡ first - 1 + (head + (skip + (tail + rest))) = omega arith in
+      let f : 1 + (first - 1) ≡ first = omega arith in
+      ap (λ (n : ℕ). passing h n 1) e
+      ∙ passing-append h (first - 1) (head + (skip + (tail + rest))) 1
+      ∙ ap₂ _++_ (passing-none h (first - 1) 1 (λ s u v. before s u (omega arith))) (ap (passing h (head + (skip + (tail + rest)))) f)
+      ∙ head-part (skip + (tail + rest))
+      ∙ ap (λ (l : List ℕ). tabulate head (inRanges first head skip) ++ l)
+      (passing-append h skip (tail + rest) (first + head)
+      ∙ ap (λ (l : List ℕ). l ++ passing h (tail + rest) (first + head + skip)) (passing-none h skip (first + head) (λ s u v. between s u v))
+      ∙ tail-part rest
+      ∙ ap (λ (l : List ℕ). tabulate tail (λ i. inRanges first head skip (head + i)) ++ l)
+      (passing-none h rest (first + head + skip + tail) (λ s u v. behind s u (omega arith)))
+      ∙ append-nil _)
+      ∙ sym (tabulate-append head tail (inRanges first head skip))

@@ -72,7 +72,7 @@ untilPage =
     69 ∷ 78 ∷ 68 ∷ 65 ∷ 84 ∷ 65 ∷ 10 ∷  -- ENDATA
     []
 
-pub until-page : page 2 2 untilNodes ≡ untilPage
+pub until-page : page 2 2 2 untilNodes ≡ untilPage
 unfolding page pageOf rowSection columnSection rightSection boundSection typeLine rowLine numberLine numberUnlessZero eachRow costLine columnLines binaryLine upperLine field coefficient stands flat decimal digitsTo
 until-page = refl
 
@@ -125,7 +125,7 @@ mergingPage =
     69 ∷ 78 ∷ 68 ∷ 65 ∷ 84 ∷ 65 ∷ 10 ∷  -- ENDATA
     []
 
-pub merging-page : page 1 2 mergingNodes ≡ mergingPage
+pub merging-page : page 1 2 1 mergingNodes ≡ mergingPage
 unfolding page pageOf rowSection columnSection rightSection boundSection typeLine rowLine numberLine numberUnlessZero eachRow costLine columnLines binaryLine upperLine field coefficient stands flat decimal digitsTo
 merging-page = refl
 
@@ -191,6 +191,6 @@ windowPage =
     69 ∷ 78 ∷ 68 ∷ 65 ∷ 84 ∷ 65 ∷ 10 ∷  -- ENDATA
     []
 
-pub window-page : page 2 1 windowNodes ≡ windowPage
+pub window-page : page 2 1 2 windowNodes ≡ windowPage
 unfolding page pageOf rowSection columnSection rightSection boundSection typeLine rowLine numberLine numberUnlessZero eachRow costLine columnLines binaryLine upperLine field coefficient stands flat decimal digitsTo any
 window-page = refl

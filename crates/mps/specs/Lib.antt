@@ -18,3 +18,4 @@ pub mod Gathered
 pub mod PageRead
 pub mod Proved
 pub mod PageLength
+pub mod NoLoop

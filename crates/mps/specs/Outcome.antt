@@ -10,8 +10,8 @@ use Rattle.rules.specs.TableTest.{nodesIn}
 use Rattle.rules.specs.Outcome.{require, tableChecked}
 use Rattle.mps.specs.Page.{page}
 
-unfoldable pub pageOutcome : (T M : ℕ) (table : List ℕ) (room : ℕ) → Answer Written
-pageOutcome T M table room =
-    tableChecked T M table
-    (require (leb (length (page T M (nodesIn table))) room) 11
-    (answered (wrote (length (page T M (nodesIn table))) (page T M (nodesIn table)))))
+unfoldable pub pageOutcome : (T M L : ℕ) (table : List ℕ) (room : ℕ) → Answer Written
+pageOutcome T M L table room =
+    tableChecked T M L table
+    (require (leb (length (page T M L (nodesIn table))) room) 11
+    (answered (wrote (length (page T M L (nodesIn table))) (page T M L (nodesIn table)))))

@@ -7,7 +7,7 @@ use lib.IntN.{ℤ}
 use lib.ListN.{length, replicate}
 use Rattle.lists.specs.Flat.{flat}
 use Rattle.rules.specs.Table.{Node}
-use Rattle.rules.specs.Rows.{Relation, Row, rowsOf}
+use Rattle.rules.specs.Rows.{Relation, Row, variableCount, rowsOf}
 use Rattle.rules.specs.Rows.Relation.{at-least, equal}
 use Rattle.text.specs.Decimal.{decimal, signedText}
 use Rattle.mps.specs.Words.{NAME, ROWS, COLUMNS, RHS, BOUNDS, ENDATA, COST, N, G, E, BND, BV, UP, R, X}
@@ -101,5 +101,5 @@ boundSection atoms variables = ended BOUNDS ++ (flat (boundLine atoms) variables
 unfoldable pub pageOf : (atoms variables : ℕ) → List Row → List ℕ
 pageOf atoms variables rs = rowSection rs ++ (columnSection variables rs ++ (rightSection rs ++ boundSection atoms variables))
 
-unfoldable pub page : (T M : ℕ) → List Node → List ℕ
-page T M ns = pageOf (M * T) ((M + length ns) * T) (rowsOf T M ns)
+unfoldable pub page : (T M L : ℕ) → List Node → List ℕ
+page T M L ns = pageOf (M * T) (variableCount T M L ns) (rowsOf T M L ns)

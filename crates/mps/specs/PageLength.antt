@@ -19,12 +19,15 @@ use Rattle.rules.specs.Rule.Binary.{and, or, implies, until}
 use Rattle.rules.specs.Rule.Window.{within, throughout}
 use Rattle.rules.specs.Table.{Node}
 use Rattle.rules.specs.Table.Node.{atom, unary, binary, windowed}
-use Rattle.rules.specs.Rows.{Relation, Term, Row, plus, minus, ge, inWindow, windowSlots, unaryRows, binaryRows, windowRows, slack, rowsAt, slotsRows, nodesRows, slackRows, goalRow, rowsOf}
+use Rattle.rules.specs.Rows.{Relation, Term, Row, plus, minus, ge, inWindow, windowSlots, unaryRows, binaryRows, windowRows, slack, unaryLoops, binaryLoops}
+use Rattle.rules.specs.Rows.{looping, loopSlack, variableCount, goesOn, nextSlack, rowsAt, loopRowsAt, slotsRows}
+use Rattle.rules.specs.Rows.{nodeRows, nodesRows, slackRows, goalRow, rowsOf}
 use Rattle.rules.specs.Rows.Relation.{at-least, equal}
 use Rattle.rules.specs.RowRecords.{Small, Recordable, rows-recordable}
 use Rattle.rules.specs.RowCount.{rows-count}
 use Rattle.text.specs.Decimal.{decimal, signedText, below-1000, below-100000, below-1000000}
 use Rattle.mps.specs.Words.{NAME, ROWS, COLUMNS, RHS, BOUNDS, ENDATA, COST, N, G, E, BND, BV, UP, R, X}
+use Rattle.mps.specs.Proved.{looping-le, if-le}
 use Rattle.mps.specs.Merged.{coefficient, isZero, stands}
 use Rattle.mps.specs.Page.{field, ended, rowName, variableName, typeText, typeLine, rowLine, numberLine, numberUnlessZero, entryLine, rightLine, eachRow, costLine, columnLines, binaryLine, upperLine, boundLine, rowSection, columnSection, rightSection, boundSection, pageOf, page}
 
@@ -229,7 +232,7 @@ module _ (atoms n : ℕ) (rs : List Row) (few : n ≤ 1000000) (short : length r
       let h = free-short in
       simp length-append (omega arith)
 
--- ---- how many terms the rows of a table have: at most 3·T + 11 for each node and slot, and the goal row's
+-- ---- how many terms the rows of a table have: at most 3·T + 22 for each node and slot, V's with them, and the goal row's
 
 terms-append : (a b : List Row) → termCount (a ++ b) ≡ termCount a + termCount b
 terms-append [] b = omega arith
@@ -264,33 +267,57 @@ window-terms throughout P p ss =
     let long : Row = ge (plus P ∷ map (λ s. minus (p s)) ss) (negℤ (pos (length ss - 1))) in
     omega (arith, terms-append (map pair ss) (long ∷ []), pair-terms pair (λ s. refl) ss, length-map ss (λ (s : ℕ). minus (p s)))
 
-module _ (T M : ℕ) where
-  at-terms : (n : ℕ) (nd : Node) (t : ℕ) → termCount (rowsAt T M n nd t) ≤ 3 * T + 11
+-- rows that are there or not
+if-terms : (b : Bool) (rs : List Row) {k : ℕ} → termCount rs ≤ k → termCount (cond b rs []) ≤ k
+if-terms true rs h = h
+if-terms false rs h = omega arith
+
+slots-terms : (f : ℕ → List Row) (m : ℕ) → ((t : ℕ) → termCount (f t) ≤ m) → (k t : ℕ) → termCount (slotsRows f k t) ≤ m * k
+slots-terms f m h zero t = omega arith
+slots-terms f m h (suc k) t = omega (arith, terms-append (f t) (slotsRows f k (t + 1)), h t, slots-terms f m h k (t + 1))
+
+module _ (T M L : ℕ) (ns : List Node) where
+  at-terms : (n : ℕ) (nd : Node) (t : ℕ) → termCount (rowsAt T M L ns n nd t) ≤ 3 * T + 11
   at-terms n (atom a) t = omega arith
-  at-terms n (unary u c) t = omega (arith, unary-terms u (ltb t T) (slack T M n t) (slack T M c t) (slack T M n (t + 1)))
-  at-terms n (binary o l r) t = omega (arith, binary-terms o (ltb t T) (slack T M n t) (slack T M l t) (slack T M r t) (slack T M n (t + 1)))
-  at-terms n (windowed w a b c) t = omega (arith, window-terms w (slack T M n t) (slack T M c) (windowSlots T t a b), passing-length (inWindow T t a b) T 1)
+  at-terms n (unary u c) t = omega (arith, unary-terms u (goesOn T L t) (slack T M n t) (slack T M c t) (nextSlack T M L ns n t))
+  at-terms n (binary o l r) t = omega (arith, binary-terms o (goesOn T L t) (slack T M n t) (slack T M l t) (slack T M r t) (nextSlack T M L ns n t))
+  at-terms n (windowed w a b c) t = omega (arith, window-terms w (slack T M n t) (slack T M c) (windowSlots T L t a b), passing-length (inWindow T L t a b) T 1)
 
-  slots-terms : (n : ℕ) (nd : Node) (k t : ℕ) → termCount (slotsRows T M n nd k t) ≤ (3 * T + 11) * k
-  slots-terms n nd zero t = omega arith
-  slots-terms n nd (suc k) t =
-      omega (arith, terms-append (rowsAt T M n nd t) (slotsRows T M n nd k (t + 1)), at-terms n nd t, slots-terms n nd k (t + 1))
+  loop-terms : (n : ℕ) (nd : Node) (t : ℕ) → termCount (loopRowsAt T M ns n nd t) ≤ 11
+  loop-terms n (atom a) t = omega arith
+  loop-terms n (unary u c) t = if-terms (unaryLoops u) _ (unary-terms u (ltb t T) (loopSlack T M ns n t) (slack T M c t) (loopSlack T M ns n (t + 1)))
+  loop-terms n (binary o l r) t =
+      if-terms (binaryLoops o) _ (binary-terms o (ltb t T) (loopSlack T M ns n t) (slack T M l t) (slack T M r t) (loopSlack T M ns n (t + 1)))
+  loop-terms n (windowed w a b c) t = omega arith
 
-  nodes-terms : (n : ℕ) (ns : List Node) → termCount (nodesRows T M n ns) ≤ (3 * T + 11) * (length ns * T)
+  node-terms : (n : ℕ) (nd : Node) → termCount (nodeRows T M L ns n nd) ≤ (3 * T + 22) * T
+  node-terms n nd =
+      let v = slotsRows (loopRowsAt T M ns n nd) T 1 in
+      let p = slotsRows (rowsAt T M L ns n nd) T 1 in
+      omega (
+        arith,
+        terms-append (cond (ltb L T) v []) p,
+        if-terms (ltb L T) v (slots-terms (loopRowsAt T M ns n nd) 11 (loop-terms n nd) T 1),
+        slots-terms (rowsAt T M L ns n nd) (3 * T + 11) (at-terms n nd) T 1,
+      )
+
+  nodes-terms : (n : ℕ) (l : List Node) → termCount (nodesRows T M L ns n l) ≤ (3 * T + 22) * (length l * T)
   nodes-terms n [] = omega arith
-  nodes-terms n (nd ∷ ns) =
-      omega (arith, terms-append (slotsRows T M n nd T 1) (nodesRows T M (n + 1) ns), slots-terms n nd T 1, nodes-terms (n + 1) ns)
+  nodes-terms n (nd ∷ l) = omega (arith, terms-append (nodeRows T M L ns n nd) (nodesRows T M L ns (n + 1) l), node-terms n nd, nodes-terms (n + 1) l)
 
-  rows-terms : (ns : List Node) → termCount (rowsOf T M ns) ≤ (3 * T + 11) * (length ns * T) + 1
-  rows-terms ns = omega (arith, terms-append (slackRows T M ns) (goalRow T M ns ∷ []), nodes-terms 0 ns)
+  rows-terms : termCount (rowsOf T M L ns) ≤ (3 * T + 22) * (length ns * T) + 1
+  rows-terms = omega (arith, terms-append (slackRows T M L ns) (goalRow T M ns ∷ []), nodes-terms 0 ns)
 
-pub page-short : (T M : ℕ) (ns : List Node) → T ≤ 64 → M ≤ 16 → length ns ≤ 128 → length (page T M ns) ≤ 120000000
+pub page-short : (T M L : ℕ) (ns : List Node) → T ≤ 64 → M ≤ 16 → length ns ≤ 128 → length (page T M L ns) ≤ 200000000
 unfolding page
-page-short T M ns t m few =
-    let v : (M + length ns) * T ≤ 144 * 64 = mul-le-mul {n₂ = 144} {m₂ = 64} (omega arith) t in
+page-short T M L ns t m few =
+    let b = length ns + cond (ltb L T) (looping ns) 0 in
+    let i : b ≤ 256 = omega (arith, if-le (ltb L T) (looping ns), looping-le ns) in
+    let a : M * T ≤ 16 * 64 = mul-le-mul {n₂ = 16} {m₂ = 64} m t in
+    let v : b * T ≤ 256 * 64 = mul-le-mul {n₂ = 256} {m₂ = 64} i t in
     let k : length ns * T ≤ 128 * 64 = mul-le-mul {n₂ = 128} {m₂ = 64} few t in
-    let r : (T + 4) * (length ns * T) ≤ 68 * 8192 = mul-le-mul {n₂ = 68} {m₂ = 8192} (omega arith) (omega arith) in
-    let c : (3 * T + 11) * (length ns * T) ≤ 203 * 8192 = mul-le-mul {n₂ = 203} {m₂ = 8192} (omega arith) (omega arith) in
-    let rs = rowsOf T M ns in
-    let n = rows-count T M ns in
-    omega (arith, n, rows-terms T M ns, pageOf-length (M * T) ((M + length ns) * T) rs (omega arith) (omega arith) (rows-recordable T M t ns))
+    let r : (T + 8) * (length ns * T) ≤ 72 * 8192 = mul-le-mul {n₂ = 72} {m₂ = 8192} (omega arith) (omega arith) in
+    let c : (3 * T + 22) * (length ns * T) ≤ 214 * 8192 = mul-le-mul {n₂ = 214} {m₂ = 8192} (omega arith) (omega arith) in
+    let rs = rowsOf T M L ns in
+    let n = rows-count T M L ns in
+    omega (arith, n, rows-terms T M L ns, pageOf-length (M * T) (variableCount T M L ns) rs (omega arith) (omega arith) (rows-recordable T M L t ns))

@@ -8,13 +8,12 @@ use mathlib.Core.Option.{some}
 use Prim.Native.Nat.{ℕ, _+_, _*_}
 use lib.Dec.{ltb}
 use lib.IntN.{ℤ, pos}
-use lib.ListN.{length}
 use Rattle.lists.specs.Every.{Every}
 use Rattle.lists.specs.Flat.{flat}
 use Rattle.lists.specs.Tabulate.{tabulate}
-use Rattle.rules.specs.Quantities.{SlotsAllowed, AtomsAllowed}
+use Rattle.rules.specs.Quantities.{SlotsAllowed, AtomsAllowed, LoopAllowed}
 use Rattle.rules.specs.Table.{Node, Good}
-use Rattle.rules.specs.Rows.{Term, Row, rowsOf, Meets}
+use Rattle.rules.specs.Rows.{Term, Row, variableCount, rowsOf, Meets}
 use Rattle.mps.specs.Merged.{merged, stands}
 use Rattle.mps.specs.Page.{page}
 use Rattle.mps.specs.Reading.{Stated, Bound, Said, reading}
@@ -40,10 +39,10 @@ saidOf atoms variables rs =
 
 -- the free row, the rows of the table after that adding and dropping, every variable's bound, and nothing else
 abbrev pub PageSays : Type 0
-PageSays = (T M : ℕ) (table : List ℕ) (ns : List Node) → SlotsAllowed T → AtomsAllowed M → Good M table ns →
-    reading (page T M ns) ≡ some (saidOf (M * T) ((M + length ns) * T) (rowsOf T M ns))
+PageSays = (T M L : ℕ) (table : List ℕ) (ns : List Node) → SlotsAllowed T → AtomsAllowed M → LoopAllowed T L → Good M table ns →
+    reading (page T M L ns) ≡ some (saidOf (M * T) (variableCount T M L ns) (rowsOf T M L ns))
 
 -- The meaning is kept: numerators meet a row after that adding and dropping exactly when they meet the row as written.
 abbrev pub SameMeaning : Type 0
-SameMeaning = (T M : ℕ) (table : List ℕ) (ns : List Node) → SlotsAllowed T → AtomsAllowed M → Good M table ns → (D : ℕ) (xs : List ℤ) →
-    Every (λ (r : Row). Meets D xs (merged ((M + length ns) * T) r) ↔ Meets D xs r) (rowsOf T M ns)
+SameMeaning = (T M L : ℕ) (table : List ℕ) (ns : List Node) → SlotsAllowed T → AtomsAllowed M → LoopAllowed T L → Good M table ns → (D : ℕ) (xs : List ℤ) →
+    Every (λ (r : Row). Meets D xs (merged (variableCount T M L ns) r) ↔ Meets D xs r) (rowsOf T M L ns)

@@ -1,20 +1,20 @@
 -- A turn of the loops over slots and over nodes: the lines of one more slot, and of one more node.
 use mathlib.Core.Path.{_≡_, refl, sym, ap, _∙_}
+use mathlib.Core.Bool.{Bool, true, false, cond}
 use mathlib.Core.List.{List, [], _∷_, _++_}
 use Prim.Native.Nat.{ℕ, _+_, _≤_}
 use native.Mathlib.Omega.{arith}
 use lib.ListN.{length, length-append}
-use Rattle.lists.specs.Flat.{flat-zero, flat-more}
 use Rattle.rules.specs.Table.{Node}
-use Rattle.rules.specs.Rows.{Row, slotsRows, rowsOf, goalRow}
+use Rattle.rules.specs.Rows.{Row, rowsOf, goalRow}
 use Rattle.mps.specs.Page.{eachRow}
-use Rattle.row.specs.Kinds.{nodeCount, length-node}
-use Rattle.row.specs.NodeRows.{nodeRows, partRows, rowsTo, node-part, all-parts}
+use Rattle.row.specs.Kinds.{blockCount}
+use Rattle.row.specs.NodeRows.{blockRows, length-block, Kept, both-rows, nodeCount, partRows, length-part, rowsTo, rows-none, rows-more, all-parts}
 use Rattle.lines.specs.Sent.{Sent, sent-none, sent-also, sent-as}
 use Rattle.rowlines.specs.Laws.{each-append}
 use Rattle.slotlines.specs.Each.{one-line}
-use Rattle.nodelines.specs.declared.Placed.{Placed}
-use Rattle.nodelines.specs.Places.{PlacedAt}
+use Rattle.nodelines.specs.declared.Blocks.{Blocks}
+use Rattle.nodelines.specs.Places.{BlocksAt}
 
 -- the lines of the rows rs are put, numbered from `first` on, and the next row has the number `next`
 pub record Listed (line : ℕ → Row → List ℕ) (first : ℕ) (rs : List Row) (next at : ℕ) (l m : List ℕ) (to : ℕ) : Type 0 where
@@ -40,22 +40,42 @@ module _ (line : ℕ → Row → List ℕ) (first at : ℕ) (l : List ℕ) where
   listed-as {next = next} {to} {m} e d = rw e at d
 
 -- the lines of one more node, and of the goal row behind those of all n nodes
-module _ (T M : ℕ) (ns : List Node) (line : ℕ → Row → List ℕ) (at : ℕ) (l : List ℕ) where
-  pub no-nodes : Listed line 0 (rowsTo T M ns 0) 0 at l l at
-  unfolding rowsTo
-  no-nodes = listed-as line 0 at l (sym (flat-zero _)) (listed-none line 0 at l)
+module _ (T M L : ℕ) (ns : List Node) (line : ℕ → Row → List ℕ) (at : ℕ) (l : List ℕ) where
+  pub no-nodes : Listed line 0 (rowsTo T M L ns 0) 0 at l l at
+  no-nodes = listed-as line 0 at l (sym (rows-none T M L ns)) (listed-none line 0 at l)
 
-  pub one-node : {i next to next′ to′ : ℕ} {m n : List ℕ} {nd : Placed} → 1 ≤ T → PlacedAt T M ns i nd → Listed line 0 (rowsTo T M ns i) next at l m to →
-      Sent to (eachRow line next (nodeRows (nd .kind) T (nd .big) (nd .p) (nd .q) (nd .from) (nd .to))) m n to′ → next′ ≡ next + nodeCount (nd .kind) T (nd .from) (nd .to) → Listed line 0 (rowsTo T M ns (i + 1)) next′ at l n to′
-  unfolding rowsTo
-  one-node {i} {next} {nd = nd} h a d s e =
-      let part : nodeRows (nd .kind) T (nd .big) (nd .p) (nd .q) (nd .from) (nd .to) ≡ partRows T M ns i = node-part T M ns i (nd .kind) (a .left) (a .right) (nd .from) (nd .to) (a .is) (a .big-is) (a .p-is) (a .q-is) in
-      let long : length (partRows T M ns i) ≡ nodeCount (nd .kind) T (nd .from) (nd .to) =
-      ap (λ (x : Node). length (slotsRows T M i x T 1)) (sym (a .is)) ∙ length-node T M i (nd .kind) (a .left) (a .right) (nd .from) (nd .to) h in
-      listed-as line 0 at l (sym (flat-more (partRows T M ns) i))
-      (listed-more line 0 at l (partRows T M ns i) d (sent-as (ap (eachRow line next) part) s) (e ∙ ap (λ (k : ℕ). next + k) (sym long)))
+  pub one-node : (i : ℕ) {next to next′ to′ : ℕ} {m n : List ℕ} → Listed line 0 (rowsTo T M L ns i) next at l m to →
+      Sent to (eachRow line next (partRows T M L ns i)) m n to′ → next′ ≡ next + length (partRows T M L ns i) →
+      Listed line 0 (rowsTo T M L ns (i + 1)) next′ at l n to′
+  one-node i d s e = listed-as line 0 at l (sym (rows-more T M L ns i)) (listed-more line 0 at l (partRows T M L ns i) d s e)
 
-  pub all-nodes : {n next to to′ : ℕ} {m o : List ℕ} {goal : Row} → length ns ≡ n → Listed line 0 (rowsTo T M ns n) next at l m to → goal ≡ goalRow T M ns → Sent to (line next goal) m o to′ →
-      Sent at (eachRow line 0 (rowsOf T M ns)) l o to′
+  pub all-nodes : {n next to to′ : ℕ} {m o : List ℕ} {goal : Row} → length ns ≡ n → Listed line 0 (rowsTo T M L ns n) next at l m to →
+      goal ≡ goalRow T M ns → Sent to (line next goal) m o to′ → Sent at (eachRow line 0 (rowsOf T M L ns)) l o to′
   all-nodes {n} {next} e d g s =
-      listed-more line 0 at l (goalRow T M ns ∷ []) (listed-as line 0 at l (all-parts T M ns n e) d) (sent-as (one-line line next g) s) refl .sent
+      listed-more line 0 at l (goalRow T M ns ∷ []) (listed-as line 0 at l (all-parts T M L ns n e) d) (sent-as (one-line line next g) s) refl .sent
+
+  -- ---- a node's rows by its blocks
+
+  module _ {n v : ℕ} {bs : Blocks} (a : BlocksAt T M L ns n v bs) (0<T : 1 ≤ T) where
+    abbrev kept : List Row
+    kept = cond (bs .both) (blockRows (bs .kept) T L) []
+
+    pub blocks-rows : kept ++ blockRows (bs .own) T L ≡ partRows T M L ns n
+    blocks-rows =
+        ap (λ (b : Bool). cond b (blockRows (bs .kept) T L) [] ++ blockRows (bs .own) T L) (a .both-is)
+        ∙ both-rows T M L ns n v (a .node) (bs .own) (bs .kept) (a .is) (a .place) (a .own-is) (a .kept-is)
+
+    pub kept-count : length kept ≡ cond (bs .both) (blockCount (bs .own .kind) false T L (bs .own .from) (bs .own .to)) 0
+    kept-count = go (bs .both)
+      where
+        k : Kept v (bs .own) (bs .kept)
+        k = a .kept-is
+
+        go : (b : Bool) → length (cond b (blockRows (bs .kept) T L) []) ≡ cond b (blockCount (bs .own .kind) false T L (bs .own .from) (bs .own .to)) 0
+        go true = length-block (bs .kept) T L 0<T ∙ rw (k .kind-is, k .loops-is, k .from-is, k .to-is) refl
+        go false = refl
+
+    pub node-count : length (partRows T M L ns n) ≡ nodeCount (bs .own .kind) T L (bs .own .from) (bs .own .to)
+    node-count =
+        let o = a .own-is in
+        length-part T M L ns n (a .node) (a .is) 0<T ∙ sym (rw (o .kind-is, o .from-is, o .to-is) refl)

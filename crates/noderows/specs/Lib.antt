@@ -1,2 +1,2 @@
 pub mod Slots
-pub mod Node
+pub mod Blocks

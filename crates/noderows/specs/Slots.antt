@@ -3,8 +3,9 @@ use mathlib.Core.List.{List}
 use Prim.Native.Nat.{ℕ, _+_}
 use Rattle.lists.specs.Flat.{flat}
 use Rattle.rules.specs.Rule.{Window}
-use Rattle.rules.specs.Rows.{Row, rowsBytes}
+use Rattle.rules.specs.Rows.{Row, rowsBytes, untilRows}
 use Rattle.row.specs.Kinds.{overRows, windowAt}
+use Rattle.noderows.specs.declared.Reach.{Reach}
 
 -- at slot s + 1: a family over P and p, and one over P, p and q
 abbrev pub pairAt : (ℕ → ℕ → List Row) → (P p s : ℕ) → List ℕ
@@ -20,9 +21,13 @@ pairs rows P p k = flat (pairAt rows P p) k
 unfoldable pub triples : (ℕ → ℕ → ℕ → List Row) → (P p q k : ℕ) → List ℕ
 triples rows P p q k = flat (tripleAt rows P p q) k
 
--- a window's rows, at slot s + 1 and at all T slots; p is the part's variable at the first slot
-abbrev pub lookAt : Window → (T P p a b s : ℕ) → List ℕ
-lookAt w T P p a b s = rowsBytes (overRows w (P + s) (windowAt T p a b s))
+-- the rows of until before the last slot, where P' is the variable after P
+abbrev pub untilNext : (P p q : ℕ) → List Row
+untilNext P p q = untilRows P p q (P + 1)
 
-unfoldable pub windows : Window → (T P p a b : ℕ) → List ℕ
-windows w T P p a b = flat (lookAt w T P p a b) T
+-- a window's rows, at slot s + 1 and at all slots; p is the part's variable at the first slot
+abbrev pub lookAt : Window → Reach → (P p s : ℕ) → List ℕ
+lookAt w r P p s = rowsBytes (overRows w (P + s) (windowAt (r .t) (r .l) p (r .from) (r .to) s))
+
+unfoldable pub windows : Window → Reach → (P p : ℕ) → List ℕ
+windows w r P p = flat (lookAt w r P p) (r .t)

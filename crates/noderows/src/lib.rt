@@ -1,21 +1,24 @@
-// The rows of a node at all slots: a loop for each family of rows.
+// The rows of a block of slacks at all slots: a loop for each family of rows.
+use row::Block;
 use table::Kind;
+use window::Looks;
 ghost use mathlib.Core.Path.{_≡_};
+ghost use mathlib.Core.Bool.{false};
 ghost use Prim.Native.Nat.{_+_, _≤_};
 ghost use lib.ListN.{length};
-ghost use Rattle.lists.specs.Splice.{splice};
-ghost use Rattle.rules.specs.Rows.{sameRows, notRows, andRows, orRows, impliesRows};
-ghost use Rattle.rules.specs.Rule.Window.{within, throughout};
-ghost use Rattle.row.specs.Kinds.{Allowed};
-ghost use Rattle.families.specs.Put.{untilNext};
-ghost use Rattle.noderows.specs.Slots.{pairs, triples, windows};
-ghost use Rattle.noderows.specs.Node.{nodeBytes};
+ghost use Rattle.rules.specs.Rows.{rowsBytes, sameRows, notRows, andRows, orRows, impliesRows};
+ghost use Rattle.window.specs.Slots.{windowBy, variables, Few};
+ghost use Rattle.row.specs.Kinds.{Allowed, overRows};
+ghost use Rattle.row.specs.Placed.{Placed};
+ghost use Rattle.families.specs.Put.{Wrote, Put};
+ghost use Rattle.noderows.specs.Slots.{pairs, triples, untilNext, windows};
+ghost use Rattle.noderows.specs.Blocks.{blockReach, eventually, always, until, loopedBytes, keptBytes, keptPart, nodeBytes};
 
 // P − p = 0 at t slots, from the place `at` on; the result is the next place. The variables are those of the first slot.
 fn write_same(out: &mut [u8], at: usize, t: u16, big: u16, p: u16) -> usize
-    requires { ⌜ (t ≤ 64) × (big ≤ 25663) × (p ≤ 25663) ⌝ }
+    requires { ⌜ (t ≤ 64) × (big ≤ 25600) × (p ≤ 25600) ⌝ }
     requires { ⌜ at + length (pairs sameRows big p t) ≤ length (now out) ⌝ }
-    ensures { λ r. ⌜ (r ≡ at + length (pairs sameRows big p t)) × (now (out .exit) ≡ splice at (pairs sameRows big p t) (now (out .entry))) ⌝ }
+    ensures { λ r. ⌜ Wrote at (pairs sameRows big p t) (now (out .entry)) (now (out .exit)) r ⌝ }
 {
     let mut next = at;
     let mut s: u16 = 0;
@@ -30,7 +33,7 @@ fn write_same(out: &mut [u8], at: usize, t: u16, big: u16, p: u16) -> usize
 fn write_not(out: &mut [u8], at: usize, t: u16, big: u16, p: u16) -> usize
     requires { ⌜ (t ≤ 64) × (big ≤ 25600) × (p ≤ 25600) ⌝ }
     requires { ⌜ at + length (pairs notRows big p t) ≤ length (now out) ⌝ }
-    ensures { λ r. ⌜ (r ≡ at + length (pairs notRows big p t)) × (now (out .exit) ≡ splice at (pairs notRows big p t) (now (out .entry))) ⌝ }
+    ensures { λ r. ⌜ Wrote at (pairs notRows big p t) (now (out .entry)) (now (out .exit)) r ⌝ }
 {
     let mut next = at;
     let mut s: u16 = 0;
@@ -45,7 +48,7 @@ fn write_not(out: &mut [u8], at: usize, t: u16, big: u16, p: u16) -> usize
 fn write_and(out: &mut [u8], at: usize, t: u16, big: u16, p: u16, q: u16) -> usize
     requires { ⌜ (t ≤ 64) × (big ≤ 25600) × (p ≤ 25600) × (q ≤ 25601) ⌝ }
     requires { ⌜ at + length (triples andRows big p q t) ≤ length (now out) ⌝ }
-    ensures { λ r. ⌜ (r ≡ at + length (triples andRows big p q t)) × (now (out .exit) ≡ splice at (triples andRows big p q t) (now (out .entry))) ⌝ }
+    ensures { λ r. ⌜ Wrote at (triples andRows big p q t) (now (out .entry)) (now (out .exit)) r ⌝ }
 {
     let mut next = at;
     let mut s: u16 = 0;
@@ -60,7 +63,7 @@ fn write_and(out: &mut [u8], at: usize, t: u16, big: u16, p: u16, q: u16) -> usi
 fn write_or(out: &mut [u8], at: usize, t: u16, big: u16, p: u16, q: u16) -> usize
     requires { ⌜ (t ≤ 64) × (big ≤ 25600) × (p ≤ 25600) × (q ≤ 25601) ⌝ }
     requires { ⌜ at + length (triples orRows big p q t) ≤ length (now out) ⌝ }
-    ensures { λ r. ⌜ (r ≡ at + length (triples orRows big p q t)) × (now (out .exit) ≡ splice at (triples orRows big p q t) (now (out .entry))) ⌝ }
+    ensures { λ r. ⌜ Wrote at (triples orRows big p q t) (now (out .entry)) (now (out .exit)) r ⌝ }
 {
     let mut next = at;
     let mut s: u16 = 0;
@@ -75,7 +78,7 @@ fn write_or(out: &mut [u8], at: usize, t: u16, big: u16, p: u16, q: u16) -> usiz
 fn write_implies(out: &mut [u8], at: usize, t: u16, big: u16, p: u16, q: u16) -> usize
     requires { ⌜ (t ≤ 64) × (big ≤ 25600) × (p ≤ 25600) × (q ≤ 25601) ⌝ }
     requires { ⌜ at + length (triples impliesRows big p q t) ≤ length (now out) ⌝ }
-    ensures { λ r. ⌜ (r ≡ at + length (triples impliesRows big p q t)) × (now (out .exit) ≡ splice at (triples impliesRows big p q t) (now (out .entry))) ⌝ }
+    ensures { λ r. ⌜ Wrote at (triples impliesRows big p q t) (now (out .entry)) (now (out .exit)) r ⌝ }
 {
     let mut next = at;
     let mut s: u16 = 0;
@@ -86,90 +89,195 @@ fn write_implies(out: &mut [u8], at: usize, t: u16, big: u16, p: u16, q: u16) ->
     next
 }
 
-// The rows of until, at t slots, from the place `at` on; the result is the next place. The variables are those of the first slot.
-fn write_until(out: &mut [u8], at: usize, t: u16, big: u16, p: u16, q: u16) -> usize
+// The rows of until where the next slot follows, at t slots, from the place `at` on; the result is the next place. The
+// variables are those of the first slot.
+fn write_until_next(out: &mut [u8], at: usize, t: u16, big: u16, p: u16, q: u16) -> usize
     requires { ⌜ (t ≤ 64) × (big ≤ 25600) × (p ≤ 25600) × (q ≤ 25601) ⌝ }
     requires { ⌜ at + length (triples untilNext big p q t) ≤ length (now out) ⌝ }
-    ensures { λ r. ⌜ (r ≡ at + length (triples untilNext big p q t)) × (now (out .exit) ≡ splice at (triples untilNext big p q t) (now (out .entry))) ⌝ }
+    ensures { λ r. ⌜ Wrote at (triples untilNext big p q t) (now (out .entry)) (now (out .exit)) r ⌝ }
 {
     let mut next = at;
     let mut s: u16 = 0;
     while s < t {
-        next = families::put_until(out, next, big + s, p + s, q + s);
+        next = families::put_until(out, next, big + s, p + s, q + s, big + s + 1);
         s += 1;
     }
     next
 }
 
-// The rows of F[a,b], at t slots, from the place `at` on; the result is the next place. The variables are those of the first slot.
-fn write_within(out: &mut [u8], at: usize, t: u16, big: u16, p: u16, a: u16, b: u16) -> usize
-    requires { ⌜ (1 ≤ t) × (t ≤ 64) × (big ≤ 25600) × (p ≤ 25600) × (a ≤ b) × (b ≤ 63) ⌝ }
-    requires { ⌜ at + length (windows within t big p a b) ≤ length (now out) ⌝ }
-    ensures { λ r. ⌜ (r ≡ at + length (windows within t big p a b)) × (now (out .exit) ≡ splice at (windows within t big p a b) (now (out .entry))) ⌝ }
-{
-    let mut next = at;
-    let mut s: u16 = 0;
-    while s < t {
-        let looks = window::look(t, s, a, b);
-        next = families::put_within(out, next, big + s, p, looks);
-        s += 1;
-    }
-    next
-}
-
-// The rows of G[a,b], at t slots, from the place `at` on; the result is the next place. The variables are those of the first slot.
-fn write_throughout(out: &mut [u8], at: usize, t: u16, big: u16, p: u16, a: u16, b: u16) -> usize
-    requires { ⌜ (1 ≤ t) × (t ≤ 64) × (big ≤ 25600) × (p ≤ 25600) × (a ≤ b) × (b ≤ 63) ⌝ }
-    requires { ⌜ at + length (windows throughout t big p a b) ≤ length (now out) ⌝ }
-    ensures { λ r. ⌜ (r ≡ at + length (windows throughout t big p a b)) × (now (out .exit) ≡ splice at (windows throughout t big p a b) (now (out .entry))) ⌝ }
-{
-    let mut next = at;
-    let mut s: u16 = 0;
-    while s < t {
-        let looks = window::look(t, s, a, b);
-        next = families::put_throughout(out, next, big + s, p, looks);
-        s += 1;
-    }
-    next
-}
-
-// Writes the rows of a node of this kind at t slots from the place `at` on, and returns the next place.
-// `big`, `p` and `q` are the variables of the node and its parts at the first slot, and a, b is its window.
-pub fn write_node(
-    out: &mut [u8],
-    at: usize,
-    kind: Kind,
+// A window from a to b, over t slots that loop to slot l.
+struct Reach {
     t: u16,
-    big: u16,
-    p: u16,
-    q: u16,
-    a: u16,
-    b: u16,
-) -> usize
-    requires { ⌜ (1 ≤ t) × (t ≤ 64) × (big ≤ 25600) × (p ≤ 25600) × (q ≤ 25600) × Allowed kind a b ⌝ }
-    requires { ⌜ at + length (nodeBytes kind t big p q a b) ≤ length (now out) ⌝ }
-    ensures { λ r. ⌜ (r ≡ at + length (nodeBytes kind t big p q a b)) × (now (out .exit) ≡ splice at (nodeBytes kind t big p q a b) (now (out .entry))) ⌝ }
+    l: u16,
+    from: u16,
+    to: u16,
+}
+
+// The window of a block.
+fn reach_of(block: Block, t: u16, l: u16) -> Reach
+    ensures { λ r. ⌜ r ≡ blockReach block t l ⌝ }
+{
+    Reach {
+        t: t,
+        l: l,
+        from: block.from,
+        to: block.to,
+    }
+}
+
+// The rows of F[a,b], where it is `within`, or of G[a,b] at a slot, from the place `at` on; the result is the next place.
+fn put_window(out: &mut [u8], at: usize, within: bool, big: u16, p: u16, looks: Looks) -> usize
+    requires { ⌜ Few looks × (p ≤ 25600) ⌝ }
+    requires { ⌜ at + length (rowsBytes (overRows (windowBy within) big (variables looks p))) ≤ length (now out) ⌝ }
+    ensures { λ r. ⌜ Put at (overRows (windowBy within) big (variables looks p)) (now (out .entry)) (now (out .exit)) r ⌝ }
+{
+    if within {
+        return families::put_within(out, at, big, p, looks);
+    }
+    families::put_throughout(out, at, big, p, looks)
+}
+
+// The rows of F[a,b] or G[a,b], at all slots, from the place `at` on; the result is the next place. The variables are those
+// of the first slot.
+fn write_windows(out: &mut [u8], at: usize, within: bool, big: u16, p: u16, reach: Reach) -> usize
+    requires { ⌜ (1 ≤ reach .l) × (reach .l ≤ reach .t) × (reach .t ≤ 64) × (big ≤ 25600) × (p ≤ 25600) × (reach .from ≤ reach .to) × (reach .to ≤ 63) ⌝ }
+    requires { ⌜ at + length (windows (windowBy within) reach big p) ≤ length (now out) ⌝ }
+    ensures { λ r. ⌜ Wrote at (windows (windowBy within) reach big p) (now (out .entry)) (now (out .exit)) r ⌝ }
+{
+    let t = reach.t;
+    let mut next = at;
+    let mut s: u16 = 0;
+    while s < t {
+        let looks = window::look(t, reach.l, s, reach.from, reach.to);
+        next = put_window(out, next, within, big + s, p, looks);
+        s += 1;
+    }
+    next
+}
+
+// The rows of a V's block of F, G or U, which alone have one, at t slots, from the place `at` on; the result is the next
+// place. Nothing follows its last slot.
+fn write_kept(out: &mut [u8], at: usize, t: u16, block: Block) -> usize
+    requires { ⌜ (1 ≤ t) × (t ≤ 64) × Placed block × (block .loops ≡ false) ⌝ }
+    requires { ⌜ at + length (keptBytes (block .kind) block t) ≤ length (now out) ⌝ }
+    ensures { λ r. ⌜ Wrote at (keptBytes (block .kind) block t) (now (out .entry)) (now (out .exit)) r ⌝ }
+{
+    let kind = block.kind;
+    let inner = t - 1;
+    let big = block.own;
+    let p = block.left;
+    let q = block.right;
+    match kind {
+        Kind::Atom => at,
+        Kind::Not => at,
+        Kind::And => at,
+        Kind::Or => at,
+        Kind::Implies => at,
+        Kind::Eventually => {
+            let last = write_or(out, at, inner, big, p, big + 1);
+            families::put_same(out, last, big + inner, p + inner)
+        }
+        Kind::Always => {
+            let last = write_and(out, at, inner, big, p, big + 1);
+            families::put_same(out, last, big + inner, p + inner)
+        }
+        Kind::Until => {
+            let last = write_until_next(out, at, inner, big, p, q);
+            families::put_same(out, last, big + inner, q + inner)
+        }
+        Kind::Within => at,
+        Kind::Throughout => at,
+    }
+}
+
+// The rows of a node of F, at t slots, from the place `at` on; the result is the next place. Where it loops, the rows of its
+// V, whose first variable is v, come first, and its own at the last slot are those of or with what follows it;
+// else P − p = 0.
+fn write_eventually(out: &mut [u8], at: usize, t: u16, own: Block, v: u16) -> usize
+    requires { ⌜ (1 ≤ t) × (t ≤ 64) × Placed own × (v ≤ 25600) ⌝ }
+    requires { ⌜ at + length (loopedBytes (eventually own t) (keptPart t v own)) ≤ length (now out) ⌝ }
+    ensures { λ r. ⌜ Wrote at (loopedBytes (eventually own t) (keptPart t v own)) (now (out .entry)) (now (out .exit)) r ⌝ }
 {
     let inner = t - 1;
+    let big = own.own;
+    let p = own.left;
+    let loops = own.loops;
+    if loops {
+        let kept = row::kept_block(own, v);
+        let next = write_kept(out, at, t, kept);
+        let last = write_or(out, next, inner, big, p, big + 1);
+        return families::put_or(out, last, big + inner, p + inner, own.next);
+    }
+    let last = write_or(out, at, inner, big, p, big + 1);
+    families::put_same(out, last, big + inner, p + inner)
+}
+
+// The rows of a node of G, at t slots, from the place `at` on; the result is the next place. Where it loops, the rows of its
+// V, whose first variable is v, come first, and its own at the last slot are those of and with what follows it;
+// else P − p = 0.
+fn write_always(out: &mut [u8], at: usize, t: u16, own: Block, v: u16) -> usize
+    requires { ⌜ (1 ≤ t) × (t ≤ 64) × Placed own × (v ≤ 25600) ⌝ }
+    requires { ⌜ at + length (loopedBytes (always own t) (keptPart t v own)) ≤ length (now out) ⌝ }
+    ensures { λ r. ⌜ Wrote at (loopedBytes (always own t) (keptPart t v own)) (now (out .entry)) (now (out .exit)) r ⌝ }
+{
+    let inner = t - 1;
+    let big = own.own;
+    let p = own.left;
+    let loops = own.loops;
+    if loops {
+        let kept = row::kept_block(own, v);
+        let next = write_kept(out, at, t, kept);
+        let last = write_and(out, next, inner, big, p, big + 1);
+        return families::put_and(out, last, big + inner, p + inner, own.next);
+    }
+    let last = write_and(out, at, inner, big, p, big + 1);
+    families::put_same(out, last, big + inner, p + inner)
+}
+
+// The rows of a node of U, at t slots, from the place `at` on; the result is the next place. Where it loops, the rows of its
+// V, whose first variable is v, come first, and its own at the last slot are those with what follows it as P';
+// else P − q = 0.
+fn write_until(out: &mut [u8], at: usize, t: u16, own: Block, v: u16) -> usize
+    requires { ⌜ (1 ≤ t) × (t ≤ 64) × Placed own × (v ≤ 25600) ⌝ }
+    requires { ⌜ at + length (loopedBytes (until own t) (keptPart t v own)) ≤ length (now out) ⌝ }
+    ensures { λ r. ⌜ Wrote at (loopedBytes (until own t) (keptPart t v own)) (now (out .entry)) (now (out .exit)) r ⌝ }
+{
+    let inner = t - 1;
+    let big = own.own;
+    let p = own.left;
+    let q = own.right;
+    let loops = own.loops;
+    if loops {
+        let kept = row::kept_block(own, v);
+        let next = write_kept(out, at, t, kept);
+        let last = write_until_next(out, next, inner, big, p, q);
+        return families::put_until(out, last, big + inner, p + inner, q + inner, own.next);
+    }
+    let last = write_until_next(out, at, inner, big, p, q);
+    families::put_same(out, last, big + inner, q + inner)
+}
+
+// Writes the rows of a node at t slots that loop to slot l from the place `at` on, and returns the next place. `own` is its
+// own block, and v the first variable of its V, whose rows come first.
+pub fn write_node(out: &mut [u8], at: usize, t: u16, l: u16, own: Block, v: u16) -> usize
+    requires { ⌜ (1 ≤ l) × (l ≤ t) × (t ≤ 64) × Placed own × Allowed (own .kind) (own .from) (own .to) × (v ≤ 25600) ⌝ }
+    requires { ⌜ at + length (nodeBytes t l v own) ≤ length (now out) ⌝ }
+    ensures { λ r. ⌜ Wrote at (nodeBytes t l v own) (now (out .entry)) (now (out .exit)) r ⌝ }
+{
+    let kind = own.kind;
+    let big = own.own;
+    let p = own.left;
+    let q = own.right;
     match kind {
         Kind::Atom => write_same(out, at, t, big, p),
         Kind::Not => write_not(out, at, t, big, p),
         Kind::And => write_and(out, at, t, big, p, q),
         Kind::Or => write_or(out, at, t, big, p, q),
         Kind::Implies => write_implies(out, at, t, big, p, q),
-        Kind::Eventually => {
-            let last = write_or(out, at, inner, big, p, big + 1);
-            write_same(out, last, 1, big + inner, p + inner)
-        }
-        Kind::Always => {
-            let last = write_and(out, at, inner, big, p, big + 1);
-            write_same(out, last, 1, big + inner, p + inner)
-        }
-        Kind::Until => {
-            let last = write_until(out, at, inner, big, p, q);
-            write_same(out, last, 1, big + inner, q + inner)
-        }
-        Kind::Within => write_within(out, at, t, big, p, a, b),
-        Kind::Throughout => write_throughout(out, at, t, big, p, a, b),
+        Kind::Eventually => write_eventually(out, at, t, own, v),
+        Kind::Always => write_always(out, at, t, own, v),
+        Kind::Until => write_until(out, at, t, own, v),
+        Kind::Within => write_windows(out, at, true, big, p, reach_of(own, t, l)),
+        Kind::Throughout => write_windows(out, at, false, big, p, reach_of(own, t, l)),
     }
 }

@@ -52,12 +52,66 @@ step : (n : ℕ) → n < 1000000 → digitSum n + digits n ≡ digitSum (suc n)
 step n h = go (decLt n 10) (decLt n 100) (decLt n 1000) (decLt n 10000) (decLt n 100000)
   where
     go : Dec (n < 10) → Dec (n < 100) → Dec (n < 1000) → Dec (n < 10000) → Dec (n < 100000) → digitSum n + digits n ≡ digitSum (suc n)
-    go (yes a) b c d e = omega (arith, length-low n a, low n 10 (omega arith), low n 100 (omega arith), low n 1000 (omega arith), low n 10000 (omega arith), low n 100000 (omega arith))
-    go (no a) (yes b) c d e = omega (arith, two n (omega arith) b, high n 10 (omega arith), low n 100 (omega arith), low n 1000 (omega arith), low n 10000 (omega arith), low n 100000 (omega arith))
-    go (no a) (no b) (yes c) d e = omega (arith, three n (omega arith) c, high n 10 (omega arith), high n 100 (omega arith), low n 1000 (omega arith), low n 10000 (omega arith), low n 100000 (omega arith))
-    go (no a) (no b) (no c) (yes d) e = omega (arith, four n (omega arith) d, high n 10 (omega arith), high n 100 (omega arith), high n 1000 (omega arith), low n 10000 (omega arith), low n 100000 (omega arith))
-    go (no a) (no b) (no c) (no d) (yes e) = omega (arith, five n (omega arith) e, high n 10 (omega arith), high n 100 (omega arith), high n 1000 (omega arith), high n 10000 (omega arith), low n 100000 (omega arith))
-    go (no a) (no b) (no c) (no d) (no e) = omega (arith, six n (omega arith) h, high n 10 (omega arith), high n 100 (omega arith), high n 1000 (omega arith), high n 10000 (omega arith), high n 100000 (omega arith))
+    go (yes a) b c d e =
+        omega (
+          arith,
+          length-low n a,
+          low n 10 (omega arith),
+          low n 100 (omega arith),
+          low n 1000 (omega arith),
+          low n 10000 (omega arith),
+          low n 100000 (omega arith),
+        )
+    go (no a) (yes b) c d e =
+        omega (
+          arith,
+          two n (omega arith) b,
+          high n 10 (omega arith),
+          low n 100 (omega arith),
+          low n 1000 (omega arith),
+          low n 10000 (omega arith),
+          low n 100000 (omega arith),
+        )
+    go (no a) (no b) (yes c) d e =
+        omega (
+          arith,
+          three n (omega arith) c,
+          high n 10 (omega arith),
+          high n 100 (omega arith),
+          low n 1000 (omega arith),
+          low n 10000 (omega arith),
+          low n 100000 (omega arith),
+        )
+    go (no a) (no b) (no c) (yes d) e =
+        omega (
+          arith,
+          four n (omega arith) d,
+          high n 10 (omega arith),
+          high n 100 (omega arith),
+          high n 1000 (omega arith),
+          low n 10000 (omega arith),
+          low n 100000 (omega arith),
+        )
+    go (no a) (no b) (no c) (no d) (yes e) =
+        omega (
+          arith,
+          five n (omega arith) e,
+          high n 10 (omega arith),
+          high n 100 (omega arith),
+          high n 1000 (omega arith),
+          high n 10000 (omega arith),
+          low n 100000 (omega arith),
+        )
+    go (no a) (no b) (no c) (no d) (no e) =
+        omega (
+          arith,
+          six n (omega arith) h,
+          high n 10 (omega arith),
+          high n 100 (omega arith),
+          high n 1000 (omega arith),
+          high n 10000 (omega arith),
+          high n 100000 (omega arith),
+        )
 
 pub digits-below : (n : ℕ) → n ≤ 1000000 → sumTo (λ i. length (decimal i)) n ≡ digitSum n
 unfolding above

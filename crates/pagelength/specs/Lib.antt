@@ -3,7 +3,10 @@ pub mod Digits
 pub mod Terms
 pub mod RowSizes
 pub mod Windows
+pub mod Blocks
 pub mod Nodes
+pub mod Measured
 pub mod Sections
+pub mod Stands
 pub mod Idle
 pub mod Page

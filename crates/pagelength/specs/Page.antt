@@ -1,76 +1,82 @@
 -- How many bytes a page has, by the nodes of its table.
 use mathlib.Core.Path.{_≡_, refl, sym, ap, _∙_}
+use mathlib.Core.Bool.{Bool, cond, true, false}
 use mathlib.Core.List.{List, [], _∷_}
 use Prim.Native.Nat.{ℕ, _+_, _-_, _*_, _≤_, _<_}
-use native.Mathlib.Nat.{mul-comm, add-mul, mul-le-mul}
+use native.Mathlib.Nat.{mul-comm, mul-le-mul}
 use native.Mathlib.Omega.{arith}
+use lib.Dec.{ltb}
 use lib.IntN.{pos}
 use lib.ListN.{length, length-append}
 use Rattle.lists.specs.Place.{place-lt}
 use Rattle.rules.specs.Table.{Node, NodeGood, nodeAt, root}
-use Rattle.rules.specs.Rows.{slackRows, goalRow, rowsOf}
+use Rattle.rules.specs.Rows.{looping, slackCount, variableCount, slackRows, goalRow, rowsOf}
 use Rattle.rules.specs.RowCount.{rows-count}
 use Rattle.rules.specs.TableTest.{recordCount, nodesIn, length-nodesIn}
 use Rattle.table.specs.Checks.{Ready}
+use Rattle.table.specs.Looping.{looping-few, looping-all}
 use Rattle.row.specs.NodeRows.{rowsTo, all-parts}
-use Rattle.mps.specs.Page.{page, pageOf}
-use Rattle.pagelength.specs.Sums.{sumTo}
+use Rattle.mps.specs.Page.{page}
 use Rattle.pagelength.specs.Digits.{digitSum}
 use Rattle.pagelength.specs.Terms.{single, size-one}
 use Rattle.pagelength.specs.RowSizes.{weight, weight-append}
-use Rattle.pagelength.specs.Nodes.{weightTo}
-use Rattle.pagelength.specs.Sections.{idleAt, page-sections}
+use Rattle.pagelength.specs.Blocks.{all-variables}
+use Rattle.pagelength.specs.Measured.{Measured}
+use Rattle.pagelength.specs.Sections.{page-sections}
 use Rattle.pagelength.specs.Idle.{idleAtoms, idle-all}
 
--- with so many rows, such a size of their lines in COLUMNS and RHS, and so many variables in no row, of atoms, and of nodes
+-- with so many rows, such a size of their lines in COLUMNS and RHS, and so many variables in no row, of atoms, and slacks
 unfoldable pub pageSize : (rows lines idle atoms slacks : ℕ) → ℕ
 pageSize rows lines idle atoms slacks = 45 + 6 * rows + digitSum rows + lines + 26 * idle + 16 * atoms + digitSum atoms + 26 * slacks
 
-module _ (T M : ℕ) (ns : List Node) (0<T : 1 ≤ T) (T≤64 : T ≤ 64) (M≤16 : M ≤ 16) (some : 1 ≤ length ns) (few : length ns ≤ 128) (good : (n : ℕ) → n < length ns → NodeGood M n (nodeAt ns n)) where
+module _ (T M L : ℕ) (ns : List Node) (0<T : 1 ≤ T) (T≤64 : T ≤ 64) (M≤16 : M ≤ 16) (some : 1 ≤ length ns) (few : length ns ≤ 128)
+    (good : (n : ℕ) → n < length ns → NodeGood M n (nodeAt ns n)) where
   abbrev N : ℕ
   N = length ns
 
   abbrev n : ℕ
-  n = (M + N) * T
+  n = variableCount T M L ns
 
   -- the goal row's two lines
   goal-weight : weight n (goalRow T M ns ∷ []) ≡ 52
   goal-weight =
-      let h : (M + root ns) * T + (1 - 1) < n = omega (arith, place-lt {c = M + root ns} {n = M + N} {s = 0} {T = T} (omega arith) 0<T) in
-      omega (arith, single n ((M + root ns) * T + (1 - 1)) h (pos 1), size-one)
+      let k = cond (ltb L T) (looping ns) 0 in
+      let h : (M + root ns) * T + 0 < (M + (N + k)) * T = place-lt (omega arith) 0<T in
+      omega (arith, single n ((M + root ns) * T + (1 - 1)) (omega (arith, all-variables T M L ns)) (pos 1), size-one)
 
-  all-weight : weight n (rowsOf T M ns) ≡ weightTo n T M ns N + 52
-  all-weight = omega (arith, weight-append n (slackRows T M ns) (goalRow T M ns ∷ []), goal-weight, ap (weight n) (all-parts T M ns N refl))
+  all-weight : weight n (rowsOf T M L ns) ≡ weight n (rowsTo T M L ns N) + 52
+  all-weight = omega (arith, weight-append n (slackRows T M L ns) (goalRow T M ns ∷ []), goal-weight, ap (weight n) (all-parts T M L ns N refl))
 
-  all-rows : length (rowsOf T M ns) ≡ length (rowsTo T M ns N) + 1
-  all-rows = omega (arith, length-append (slackRows T M ns) (goalRow T M ns ∷ []), ap length (all-parts T M ns N refl))
+  all-rows : length (rowsOf T M L ns) ≡ length (rowsTo T M L ns N) + 1
+  all-rows = omega (arith, length-append (slackRows T M L ns) (goalRow T M ns ∷ []), ap length (all-parts T M L ns N refl))
 
-  page-size : length (page T M ns) ≡ pageSize (length (rowsTo T M ns N) + 1) (weightTo n T M ns N + 52) (idleAtoms ns N M * T) (M * T) (N * T)
+  few-slacks : slackCount T L ns ≤ 256 * 64
+  few-slacks = mul-le-mul {n₂ = 256} {m₂ = 64} (go (ltb L T)) T≤64
+    where
+      go : (c : Bool) → N + cond c (looping ns) 0 ≤ 256
+      go true = omega (arith, looping-few ns N, looping-all ns)
+      go false = omega arith
+
+  page-size : {lines idle : ℕ} → lines ≡ weight n (rowsTo T M L ns N) → idle ≡ idleAtoms ns N M * T →
+      pageSize (length (rowsTo T M L ns N) + 1) (lines + 52) idle (M * T) (slackCount T L ns) ≡ length (page T M L ns)
   unfolding page pageSize
-  page-size =
-      let rs = rowsOf T M ns in
-      let parts : M * T + N * T ≡ n = sym (add-mul M N T) in
-      let a : n ≤ 144 * 64 = mul-le-mul {n₂ = 144} {m₂ = 64} (omega arith) T≤64 in
+  page-size e f =
+      let rs = rowsOf T M L ns in
+      let a : M * T ≤ 16 * 64 = mul-le-mul {n₂ = 16} {m₂ = 64} M≤16 T≤64 in
       let k : N * T ≤ 128 * 64 = mul-le-mul {n₂ = 128} {m₂ = 64} few T≤64 in
-      let r : (T + 4) * (N * T) ≤ 68 * 8192 = mul-le-mul {n₂ = 68} {m₂ = 8192} (omega arith) (omega arith) in
-      let short : length rs ≤ 1000000 = omega (arith, rows-count T M ns) in
-      let b = page-sections (M * T) (N * T) rs (omega arith) short in
-      let idle : sumTo (idleAt rs) (M * T + N * T) ≡ idleAtoms ns N M * T = ap (sumTo (idleAt rs)) parts ∙ idle-all T M ns good ∙ mul-comm T (idleAtoms ns N M) in
-      let lines : weight (M * T + N * T) rs ≡ weightTo n T M ns N + 52 = ap (λ (v : ℕ). weight v rs) parts ∙ all-weight in
-      ap (λ (v : ℕ). length (pageOf (M * T) v rs)) (sym parts) ∙ b
-      ∙ ap (λ (x : ℕ). pageSize x (weight (M * T + N * T) rs) (sumTo (idleAt rs) (M * T + N * T)) (M * T) (N * T)) all-rows
-      ∙ ap (λ (x : ℕ). pageSize (length (rowsTo T M ns N) + 1) x (sumTo (idleAt rs) (M * T + N * T)) (M * T) (N * T)) lines
-      ∙ ap (λ (x : ℕ). pageSize (length (rowsTo T M ns N) + 1) (weightTo n T M ns N + 52) x (M * T) (N * T)) idle
+      let r : (T + 8) * (N * T) ≤ 72 * 8192 = mul-le-mul {n₂ = 72} {m₂ = 8192} (omega arith) (omega arith) in
+      let b = page-sections (M * T) (slackCount T L ns) rs (omega (arith, few-slacks)) (omega (arith, rows-count T M L ns)) in
+      omega (arith, b, e, f, all-weight, all-rows, ap digitSum all-rows, idle-all T M L ns good, mul-comm T (idleAtoms ns N M))
 
-  -- the same by numbers that a loop found, of a table of k nodes
-  page-is : (k : ℕ) {rows lines idle atoms slacks : ℕ} → k ≡ N → rows ≡ length (rowsTo T M ns k) → lines ≡ weightTo ((M + k) * T) T M ns k →
-      idle ≡ idleAtoms ns k M * T → atoms ≡ M * T → slacks ≡ k * T → pageSize (rows + 1) (lines + 52) idle atoms slacks ≡ length (page T M ns)
-  page-is k e a b c d f = rw (a, b, c, d, f, e) (sym page-size)
+  -- by numbers that a walk over the nodes of a table of k nodes found
+  page-is : (k : ℕ) {rows lines idle atoms slacks : ℕ} → k ≡ N → Measured T M L ns k rows lines → idle ≡ idleAtoms ns k M * T → atoms ≡ M * T →
+      slacks ≡ (k + cond (ltb L T) (looping ns) 0) * T → pageSize (rows + 1) (lines + 52) idle atoms slacks ≡ length (page T M L ns)
+  page-is k e m c d f = rw (m .rows-are, m .lines-are, c, d, f, e) (page-size refl refl)
 
-pub page-found : (T M : ℕ) (table : List ℕ) → Ready T M table → (k : ℕ) {rows lines idle atoms slacks : ℕ} → k ≡ recordCount table →
-    rows ≡ length (rowsTo T M (nodesIn table) k) → lines ≡ weightTo ((M + k) * T) T M (nodesIn table) k → idle ≡ idleAtoms (nodesIn table) k M * T → atoms ≡ M * T → slacks ≡ k * T →
-    pageSize (rows + 1) (lines + 52) idle atoms slacks ≡ length (page T M (nodesIn table))
-page-found T M table y k e a b c d f =
+pub page-found : (T M L : ℕ) (table : List ℕ) → Ready T M L table → (k : ℕ) {rows lines idle atoms slacks : ℕ} → k ≡ recordCount table →
+    Measured T M L (nodesIn table) k rows lines → idle ≡ idleAtoms (nodesIn table) k M * T → atoms ≡ M * T →
+    slacks ≡ (k + cond (ltb L T) (looping (nodesIn table)) 0) * T → pageSize (rows + 1) (lines + 52) idle atoms slacks ≡ length (page T M L (nodesIn table))
+page-found T M L table y k e m c d f =
     let z = length-nodesIn M table in
-    page-is T M (nodesIn table) (y .slots-low) (y .slots-high) (y .atoms-high) (omega (arith, y .some-nodes)) (omega (arith, y .few-nodes))
-    (λ n h. y .nodes n (omega arith)) k (e ∙ sym z) a b c d f
+    page-is T M L (nodesIn table) (y .slots-low) (y .slots-high) (y .atoms-high) (omega (arith, y .some-nodes)) (omega (arith, y .few-nodes))
+    (λ n h. y .nodes n (omega arith)) k (e ∙ sym z) m c d f

@@ -88,12 +88,16 @@ module _ (n P p : ℕ) (hP : P < n) (hp : p < n) (np : p ≡ P → ⊥) where
     pub implies-weight : weight n (impliesRows P p q) ≡ 238
     implies-weight = omega (arith, both, fall-q, passed, size-zero, size-one, size-less-one)
 
--- until has P′ besides, the node's variable at the next slot
+-- until has P′ besides, the variable of what follows the slot
 module _ (n P p next : ℕ) (hP : P < n) (hp : p < n) (hn : next < n) (np : p ≡ P → ⊥) (nn : next ≡ P → ⊥) (pn : next ≡ p → ⊥) where
   pub until-twice : weight n (untilRows P p p next) ≡ 292
   until-twice =
-      omega (arith, fall n P p hP hp np, first-double n p hp P hP (λ e. np (omega arith)) (pos 1) (pos 1) (negsuc 0), covered n P p hP hp np next hn nn pn, forced n P p hP hp np next hn nn pn, size-zero, size-two, size-less-one)
+      let double = first-double n p hp P hP (λ e. np (omega arith)) (pos 1) (pos 1) (negsuc 0) in
+      let on = covered n P p hP hp np next hn nn pn in
+      omega (arith, fall n P p hP hp np, double, on, forced n P p hP hp np next hn nn pn, size-zero, size-two, size-less-one)
 
   pub until-weight : (q : ℕ) → q < n → (q ≡ P → ⊥) → (q ≡ p → ⊥) → (next ≡ q → ⊥) → weight n (untilRows P p q next) ≡ 318
   until-weight q hq nq other qn =
-      omega (arith, fall n P q hP hq nq, covered n P p hP hp np q hq nq other, covered n P q hP hq nq next hn nn qn, forced n P p hP hp np next hn nn pn, size-zero, size-less-one)
+      let one = covered n P p hP hp np q hq nq other in
+      let on = covered n P q hP hq nq next hn nn qn in
+      omega (arith, fall n P q hP hq nq, one, on, forced n P p hP hp np next hn nn pn, size-zero, size-less-one)

@@ -13,10 +13,11 @@ use Rattle.rules.specs.Rows.Relation.{at-least, equal}
 use Rattle.text.specs.Decimal.{decimal, length-low}
 use Rattle.mps.specs.Words.{COST, N}
 use Rattle.mps.specs.Merged.{coefficient, isZero, stands}
-use Rattle.mps.specs.Page.{typeLine, typeText, rowName, rowLine, entryLine, rightLine, eachRow, costLine, columnLines, binaryLine, upperLine, boundLine, rowSection, columnSection, rightSection, boundSection, pageOf}
+use Rattle.mps.specs.Page.{typeLine, typeText, rowName, rowLine, entryLine, rightLine, eachRow, costLine, columnLines, binaryLine, upperLine, boundLine}
+use Rattle.mps.specs.Page.{rowSection, columnSection, rightSection, boundSection, pageOf}
 use Rattle.lines.specs.declared.Name.the-variants.{Cost, Rights, Row as RowName, Variable}
 use Rattle.lines.specs.Names.{type-length, number-length, binary-length, upper-length}
-use Rattle.pagelength.specs.Sums.{sumTo, sum-same, sum-add, sum-even, sum-split}
+use Rattle.pagelength.specs.Sums.{sumTo, sum-same, sum-add, sum-times, sum-even, sum-split}
 use Rattle.pagelength.specs.Digits.{digitSum, digits-below}
 use Rattle.pagelength.specs.Terms.{size, size-zero, line-size, total}
 use Rattle.pagelength.specs.RowSizes.{weight}
@@ -70,7 +71,8 @@ right-lines : (i : ℕ) (rs : List Row) → i + length rs ≤ 1000000 → length
 unfolding eachRow
 right-lines i [] h = refl
 right-lines i (r ∷ rs) h =
-    length-append (rightLine i r) (eachRow rightLine (i + 1) rs) ∙ ap₂ _+_ (line-size Rights i (r .right) tt (omega arith)) (right-lines (i + 1) rs (omega arith))
+    length-append (rightLine i r) (eachRow rightLine (i + 1) rs)
+    ∙ ap₂ _+_ (line-size Rights i (r .right) tt (omega arith)) (right-lines (i + 1) rs (omega arith))
 
 -- ---- COLUMNS: the lines of variable v in rows
 
@@ -113,10 +115,6 @@ column-lines rs v g h = go (stands v rs) refl
     go true e = omega (arith, entry-lines v 0 rs g (omega arith))
     go false e = omega (arith, number-length (Variable v) Cost (pos 0) g tt, length-low 0 (omega arith), column-none v rs e)
 
-sum-idle : (f : ℕ → ℕ) (n : ℕ) → sumTo (λ v. 26 * f v) n ≡ 26 * sumTo f n
-sum-idle f zero = omega arith
-sum-idle f (suc n) = omega (arith, sum-idle f n)
-
 columns-and-rights : (n : ℕ) (rs : List Row) → sumTo (λ v. column v rs) n + rights rs ≡ weight n rs
 unfolding total
 columns-and-rights n [] = omega (arith, sum-even (λ v. 0) 0 n (λ v h. refl))
@@ -130,13 +128,17 @@ bound-lines atoms k h =
     let f : ℕ → ℕ = λ v. length (boundLine atoms v) in
     let a : sumTo f atoms ≡ sumTo (λ v. 16 + length (decimal v)) atoms = sum-same f (λ v. 16 + length (decimal v)) atoms below in
     let b : sumTo (λ i. f (atoms + i)) k ≡ k * 26 = sum-even (λ i. f (atoms + i)) 26 k after in
-    omega (arith, length-parts (boundLine atoms) (atoms + k), sum-split f atoms k, sum-add (λ v. 16) (λ v. length (decimal v)) atoms, sum-even (λ v. 16) 16 atoms (λ v g. refl), digits-below atoms (omega arith))
+    let c = sum-add (λ v. 16) (λ v. length (decimal v)) atoms in
+    let d = sum-even (λ v. 16) 16 atoms (λ v g. refl) in
+    omega (arith, length-parts (boundLine atoms) (atoms + k), sum-split f atoms k, c, d, digits-below atoms (omega arith))
   where
     below : (v : ℕ) → v < atoms → length (boundLine atoms v) ≡ 16 + length (decimal v)
     below v g = ap (λ (t : Bool). length (cond t (binaryLine v) (upperLine v))) (lt-ltb v atoms g) ∙ binary-length v
 
     after : (i : ℕ) → i < k → length (boundLine atoms (atoms + i)) ≡ 26
-    after i g = ap (λ (t : Bool). length (cond t (binaryLine (atoms + i)) (upperLine (atoms + i)))) (le-ltb (atoms + i) atoms (omega arith)) ∙ upper-length (atoms + i) (omega arith)
+    after i g =
+        ap (λ (t : Bool). length (cond t (binaryLine (atoms + i)) (upperLine (atoms + i)))) (le-ltb (atoms + i) atoms (omega arith))
+        ∙ upper-length (atoms + i) (omega arith)
 
 -- ---- the page
 
@@ -148,7 +150,7 @@ module _ (atoms k : ℕ) (rs : List Row) (few : atoms + k ≤ 1000000) (short : 
   column-section =
       length-parts (columnLines rs) n
       ∙ sum-same (λ v. length (columnLines rs v)) (λ v. column v rs + 26 * idleAt rs v) n (λ v g. column-lines rs v (omega arith) short)
-      ∙ sum-add (λ v. column v rs) (λ v. 26 * idleAt rs v) n ∙ ap (λ (x : ℕ). sumTo (λ v. column v rs) n + x) (sum-idle (idleAt rs) n)
+      ∙ sum-add (λ v. column v rs) (λ v. 26 * idleAt rs v) n ∙ ap (λ (x : ℕ). sumTo (λ v. column v rs) n + x) (sum-times 26 (idleAt rs) n)
 
   pub page-sections : length (pageOf atoms n rs) ≡
       45 + 6 * length rs + digitSum (length rs) + weight n rs + 26 * sumTo (idleAt rs) n + 16 * atoms + digitSum atoms + 26 * k

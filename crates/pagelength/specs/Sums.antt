@@ -2,7 +2,7 @@
 use mathlib.Core.Path.{_≡_, refl, ap, ap₂, _∙_}
 use mathlib.Core.Bool.{Bool, true, false, cond}
 use Prim.Native.Nat.{ℕ, zero, suc, _+_, _-_, _*_, _≤_, _<_}
-use native.Mathlib.Nat.{suc-mul}
+use native.Mathlib.Nat.{suc-mul, mul-add}
 use native.Mathlib.Numerals.{add-one}
 use native.Mathlib.Omega.{arith}
 use lib.Dec.{eqb}
@@ -22,6 +22,10 @@ sum-same f g (suc n) e = ap₂ _+_ (sum-same f g n (λ i h. e i (omega arith))) 
 pub sum-add : (f g : ℕ → ℕ) (n : ℕ) → sumTo (λ i. f i + g i) n ≡ sumTo f n + sumTo g n
 sum-add f g zero = omega arith
 sum-add f g (suc n) = omega (arith, sum-add f g n)
+
+pub sum-times : (c : ℕ) (f : ℕ → ℕ) (n : ℕ) → sumTo (λ i. c * f i) n ≡ c * sumTo f n
+sum-times c f zero = omega arith
+sum-times c f (suc n) = omega (arith, sum-times c f n, mul-add c (sumTo f n) (f n))
 
 -- numbers that are all one
 pub sum-even : (f : ℕ → ℕ) (k n : ℕ) → ((i : ℕ) → i < n → f i ≡ k) → sumTo f n ≡ n * k

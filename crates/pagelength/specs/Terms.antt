@@ -69,7 +69,8 @@ module _ (n : ℕ) where
   unfolding total coefficient
   total-none = sum-even (λ v. size (pos 0)) 0 n (λ v h. size-zero) ∙ omega arith
 
-  at-variable : (c : ℤ) (a v : ℕ) (ts : List Term) → coefficient a ts ≡ pos 0 → size (coefficient v (term c a ∷ ts)) ≡ pick a (size c) v + size (coefficient v ts)
+  at-variable : (c : ℤ) (a v : ℕ) (ts : List Term) → coefficient a ts ≡ pos 0 →
+      size (coefficient v (term c a ∷ ts)) ≡ pick a (size c) v + size (coefficient v ts)
   unfolding coefficient
   at-variable c a v ts z = go (eqb a v) refl
     where
@@ -82,7 +83,8 @@ module _ (n : ℕ) where
   pub total-more : (c : ℤ) (a : ℕ) (ts : List Term) → a < n → Others a ts → total n (term c a ∷ ts) ≡ size c + total n ts
   unfolding total
   total-more c a ts h o =
-      sum-same (λ v. size (coefficient v (term c a ∷ ts))) (λ v. pick a (size c) v + size (coefficient v ts)) n (λ v g. at-variable c a v ts (coefficient-none a ts o))
+      sum-same (λ v. size (coefficient v (term c a ∷ ts))) (λ v. pick a (size c) v + size (coefficient v ts)) n
+      (λ v g. at-variable c a v ts (coefficient-none a ts o))
       ∙ sum-add (pick a (size c)) (λ v. size (coefficient v ts)) n
       ∙ ap (λ (k : ℕ). k + sumTo (λ v. size (coefficient v ts)) n) (pick-once a (size c) n h)
 
@@ -118,4 +120,5 @@ module _ (n : ℕ) where
       module _ (k : ℕ) (hk : k < n) (nf : k ≡ a → ⊥) (ng : k ≡ b → ⊥) where
         pub triple : (c d e : ℤ) → total n (term c a ∷ term d b ∷ term e k ∷ []) ≡ size c + size d + size e
         triple c d e =
-            omega (arith, total-more c a (term d b ∷ term e k ∷ []) ha (ne, (nf, tt)), total-more d b (term e k ∷ []) hb (ng, tt), total-more e k [] hk tt, total-none)
+            let x = total-more c a (term d b ∷ term e k ∷ []) ha (ne, (nf, tt)) in
+            omega (arith, total-more d b (term e k ∷ []) hb (ng, tt), total-more e k [] hk tt, total-none)

@@ -1,9 +1,12 @@
 -- The bytes of the lines of a window's rows: its variables go up, one for each slot of the window.
-use mathlib.Core.Path.{_≡_, ap, subst, _∙_}
+use mathlib.Core.Path.{_≡_, refl, ap, subst, _∙_}
 use mathlib.Core.Bool.{Bool, true, false, cond}
 use mathlib.Core.List.{List, [], _∷_, _++_, map}
 use Prim.Native.Nat.{ℕ, zero, suc, _+_, _-_, _*_, _≤_, _<_}
+use native.Mathlib.Decide.{decLt}
 use native.Mathlib.Omega.{arith}
+use lib.Dec.{leb}
+use borrow.Author.Tests.{le-leb, lt-leb}
 use lib.IntN.{pos, negsuc, negℤ}
 use lib.ListN.{length}
 use Rattle.lists.specs.Passing.{passing}
@@ -43,12 +46,12 @@ rising-map p low high (v ∷ vs) h r =
     )
 
 -- the variables of a window stand between those of their part at the first and at the last slot
-pub rising-window : (T p a b s : ℕ) → Rising p (p + T) (windowAt T p a b s)
-rising-window T p a b s =
-    let r = rising-map p 1 (1 + T) (windowSlots T (s + 1) a b) (omega arith) (rising-passing (inWindow T (s + 1) a b) T 1) in
+pub rising-window : (T L p a b s : ℕ) → Rising p (p + T) (windowAt T L p a b s)
+rising-window T L p a b s =
+    let r = rising-map p 1 (1 + T) (windowSlots T L (s + 1) a b) (omega arith) (rising-passing (inWindow T L (s + 1) a b) T 1) in
     let e : p + (1 - 1) ≡ p = omega arith in
     let f : p + (1 + T - 1) ≡ p + T = omega arith in
-    subst (λ (h : ℕ). Rising p h (windowAt T p a b s)) f (subst (λ (l : ℕ). Rising l (p + (1 + T - 1)) (windowAt T p a b s)) e r)
+    subst (λ (h : ℕ). Rising p h (windowAt T L p a b s)) f (subst (λ (l : ℕ). Rising l (p + (1 + T - 1)) (windowAt T L p a b s)) e r)
 
 pub rising-below : (low high high′ : ℕ) (vs : List ℕ) → high ≤ high′ → Rising low high vs → Rising low high′ vs
 rising-below low high high′ [] h r = tt
@@ -58,18 +61,25 @@ rising-below low high high′ (v ∷ vs) h r = (r .0, omega (arith, r .1), risin
 abbrev pub backSize : (k : ℕ) → ℕ
 backSize k = size (negℤ (pos (k - 1)))
 
-pub back-none : (k : ℕ) → k ≤ 1 → backSize k ≡ 0
+back-none : (k : ℕ) → k ≤ 1 → backSize k ≡ 0
 back-none k h = let e : k - 1 ≡ 0 = omega arith in ap (λ (j : ℕ). size (negℤ (pos j))) e ∙ size-zero
 
 back-some : (k : ℕ) → 1 < k → backSize k ≡ 26 + length (decimal (suc (k - 2)))
 unfolding size
 back-some k h = let e : k - 1 ≡ suc (k - 2) = omega arith in ap (λ (j : ℕ). size (negℤ (pos j))) e ∙ omega arith
 
-pub back-low : (k : ℕ) → 1 < k → k ≤ 10 → backSize k ≡ 27
-back-low k h g = back-some k h ∙ ap (λ (j : ℕ). 26 + j) (length-low (suc (k - 2)) (omega arith))
-
-pub back-high : (k : ℕ) → 10 < k → k ≤ 64 → backSize k ≡ 28
-back-high k h g = back-some k (omega arith) ∙ ap (λ (j : ℕ). 26 + j) (length-pair (suc (k - 2)) (omega arith) (omega arith))
+-- the number has one digit or two
+pub back-is : (k : ℕ) → k ≤ 64 → (cond (leb k 1) 0 (cond (leb k 10) 27 28) ≡ backSize k) × (backSize k ≤ 28)
+back-is k h = go (decLt 1 k) (decLt 10 k)
+  where
+    go : Dec (1 < k) → Dec (10 < k) → (cond (leb k 1) 0 (cond (leb k 10) 27 28) ≡ backSize k) × (backSize k ≤ 28)
+    go (no a) b = let e = back-none k (omega arith) in rw (le-leb k 1 (omega arith), e) (refl, omega arith)
+    go (yes a) (no b) =
+        let e : backSize k ≡ 27 = back-some k a ∙ ap (λ (j : ℕ). 26 + j) (length-low (suc (k - 2)) (omega arith)) in
+        rw (lt-leb k 1 a, le-leb k 10 (omega arith), e) (refl, omega arith)
+    go (yes a) (yes b) =
+        let e : backSize k ≡ 28 = back-some k a ∙ ap (λ (j : ℕ). 26 + j) (length-pair (suc (k - 2)) (omega arith) (omega arith)) in
+        rw (lt-leb k 1 a, lt-leb k 10 b, e) (refl, omega arith)
 
 -- ---- P is the node's variable
 
@@ -94,7 +104,8 @@ module _ (n P : ℕ) (hP : P < n) where
   pluses low [] r = omega (arith, single n P hP (negsuc 0), size-less-one)
   pluses low (v ∷ vs) r =
       let l = r .1 in
-      omega (arith, total-more n (pos 1) v (map plus vs ++ (minus P ∷ [])) (omega arith) (pluses-others v (v + 1) vs (omega arith) l (r .2)), size-one, pluses (v + 1) vs (r .2))
+      let m = total-more n (pos 1) v (map plus vs ++ (minus P ∷ [])) (omega arith) (pluses-others v (v + 1) vs (omega arith) l (r .2)) in
+      omega (arith, m, size-one, pluses (v + 1) vs (r .2))
 
   minuses-others : (a low : ℕ) (vs : List ℕ) → a < low → Rising low P vs → Others a (map minus vs)
   minuses-others a low [] h r = tt
@@ -108,7 +119,8 @@ module _ (n P : ℕ) (hP : P < n) where
   minuses low [] r = total-none n ∙ omega arith
   minuses low (v ∷ vs) r =
       let l = r .1 in
-      omega (arith, total-more n (negsuc 0) v (map minus vs) (omega arith) (minuses-others v (v + 1) vs (omega arith) (r .2)), size-less-one, minuses (v + 1) vs (r .2))
+      let m = total-more n (negsuc 0) v (map minus vs) (omega arith) (minuses-others v (v + 1) vs (omega arith) (r .2)) in
+      omega (arith, m, size-less-one, minuses (v + 1) vs (r .2))
 
   pub within-weight : (low : ℕ) (vs : List ℕ) → Rising low P vs → weight n (overRows within P vs) ≡ 79 * length vs + 27
   within-weight low vs r =
@@ -120,4 +132,5 @@ module _ (n P : ℕ) (hP : P < n) where
   throughout-weight low vs r =
       let pairs : ℕ → Row = λ v. ge (plus v ∷ minus P ∷ []) (pos 0) in
       let long : Row = ge (plus P ∷ map minus vs) (negℤ (pos (length vs - 1))) in
-      omega (arith, weight-append n (map pairs vs) (long ∷ []), rises low vs r, total-more n (pos 1) P (map minus vs) hP (own-others low vs r), size-one, minuses low vs r)
+      let m = total-more n (pos 1) P (map minus vs) hP (own-others low vs r) in
+      omega (arith, weight-append n (map pairs vs) (long ∷ []), rises low vs r, m, size-one, minuses low vs r)

@@ -2,17 +2,18 @@
 use table::Kind;
 ghost use mathlib.Core.Path.{_≡_};
 ghost use mathlib.Core.Bool.{cond};
-ghost use Prim.Native.Nat.{_+_, _-_, _*_, _≤_, _<_};
+ghost use Prim.Native.Nat.{_*_, _≤_, _<_};
 ghost use lib.ListN.{length};
 ghost use Rattle.rules.specs.TableTest.{recordCount, nodesIn};
 ghost use Rattle.table.specs.Checks.{Ready};
-ghost use Rattle.row.specs.Kinds.{Allowed, nodeCount};
-ghost use Rattle.row.specs.NodeRows.{rowsTo};
+ghost use Rattle.row.specs.Kinds.{Allowed};
+ghost use Rattle.row.specs.NodeRows.{nodeCount};
 ghost use Rattle.mps.specs.Page.{page};
 ghost use Rattle.pagelength.specs.Digits.{digitSum};
 ghost use Rattle.pagelength.specs.Digits as Digits;
 ghost use Rattle.pagelength.specs.Windows.{backSize};
-ghost use Rattle.pagelength.specs.Nodes.{backsTo, nodeWeight, weightTo};
+ghost use Rattle.pagelength.specs.Nodes.{windowCount, withinWeight, throughoutWeight, loopedSum, nodeWeight, Sized};
+ghost use Rattle.pagelength.specs.Measured.{NodeMeasured, Measured};
 ghost use Rattle.pagelength.specs.Idle.{IsAtomOf, hasAtom, idleAtoms};
 ghost use Rattle.pagelength.specs.Page.{pageSize};
 
@@ -31,35 +32,6 @@ fn digits(n: usize) -> usize
     n + above(n, 10) + above(n, 100) + above(n, 1000) + above(n, 10000) + above(n, 100000)
 }
 
-// The bytes of the line in RHS of the last row of G[a,b] over k slots: that of −(k − 1).
-fn back_size(k: u16) -> usize
-    requires { ⌜ (1 ≤ k) × (k ≤ 64) ⌝ }
-    ensures { λ r. ⌜ (r ≡ backSize k) × (r ≤ 28) ⌝ }
-{
-    if k <= 1 {
-        0
-    } else if k <= 10 {
-        27
-    } else {
-        28
-    }
-}
-
-// Those lines of a node G[a,b], from all t slots.
-fn backs(t: u16, a: u16, b: u16) -> usize
-    requires { ⌜ (1 ≤ t) × (t ≤ 64) × (a ≤ b) × (b ≤ 63) ⌝ }
-    ensures { λ r. ⌜ (r ≡ backsTo t a b t) × (r ≤ 1792) ⌝ }
-{
-    let mut sum: usize = 0;
-    let mut s: u16 = 0;
-    while s < t {
-        let looks = window::look(t, s, a, b);
-        sum += back_size(looks.count);
-        s += 1;
-    }
-    sum
-}
-
 // One of two numbers.
 fn choose(first: bool, a: usize, b: usize) -> usize
     requires { ⌜ (a ≤ 400) × (b ≤ 400) ⌝ }
@@ -68,58 +40,140 @@ fn choose(first: bool, a: usize, b: usize) -> usize
     if first { a } else { b }
 }
 
-// A slot's bytes, at k slots.
-fn times(bytes: usize, k: usize) -> usize
-    requires { ⌜ (bytes ≤ 400) × (k ≤ 64) ⌝ }
-    ensures { λ r. ⌜ (r ≡ bytes * k) × (r ≤ 25600) ⌝ }
+// The bytes of the line in RHS of the last row of G[a,b] over k slots: that of −(k − 1).
+fn back_size(k: u16) -> usize
+    requires { ⌜ (1 ≤ k) × (k ≤ 64) ⌝ }
+    ensures { λ r. ⌜ (r ≡ backSize k) × (r ≤ 28) ⌝ }
 {
-    bytes * k
+    choose(k <= 1, 0, choose(k <= 10, 27, 28))
 }
 
-// The bytes of the lines in COLUMNS and RHS of a node of this kind at t slots, where it has so many rows; `twice` says that left and right are one.
-fn node_weight(kind: Kind, twice: bool, t: u16, a: u16, b: u16, rows: usize) -> usize
-    requires { ⌜ (1 ≤ t) × (t ≤ 64) × (t ≤ rows) × (rows ≤ 4160) × Allowed kind a b ⌝ }
-    ensures { λ r. ⌜ (rows ≡ nodeCount kind t a b → r ≡ nodeWeight kind twice t a b) × (r ≤ 340000) ⌝ }
+// So many at a slot, at k slots.
+fn times(number: usize, k: usize) -> usize
+    requires { ⌜ (number ≤ 400) × (k ≤ 64) ⌝ }
+    ensures { λ r. ⌜ (r ≡ number * k) × (r ≤ 25600) ⌝ }
 {
-    let slots = t as usize;
-    match kind {
-        Kind::Atom => 53 * slots,
-        Kind::Not => 78 * slots,
-        Kind::And => times(choose(twice, 186, 213), slots),
-        Kind::Or => times(choose(twice, 159, 185), slots),
-        Kind::Implies => times(choose(twice, 185, 238), slots),
-        Kind::Eventually => 185 * (slots - 1) + 53,
-        Kind::Always => 213 * (slots - 1) + 53,
-        Kind::Until => times(choose(twice, 292, 318), slots - 1) + 53,
-        Kind::Within => 79 * (rows - slots) + 27 * slots,
-        Kind::Throughout => 80 * (rows - slots) + 26 * slots + backs(t, a, b),
-    }
+    number * k
 }
 
-// How many rows there are, and how many bytes their lines have in COLUMNS and RHS.
+// The size of rows: how many they are, and how many bytes their lines have in COLUMNS and RHS.
 struct Size {
     rows: usize,
     lines: usize,
 }
 
-// Those of the n nodes of a checked table.
-fn measure(table: &[u8], n: usize, t: usize, m: usize) -> Size
-    requires { ⌜ Ready t m (now table) × (n ≡ recordCount (now table)) ⌝ }
-    ensures { λ r. ⌜ (r .rows ≡ length (rowsTo t m (nodesIn (now (table .entry))) n)) × (r .lines ≡ weightTo ((m + n) * t) t m (nodesIn (now (table .entry))) n) × (r .rows ≤ 532480) × (r .lines ≤ 43520000) ⌝ }
+// The size of rows that are alike at all t slots, with so many rows and bytes at a slot.
+fn even(rows: usize, bytes: usize, t: u16) -> Size
+    requires { ⌜ (rows ≤ 4) × (bytes ≤ 400) × (t ≤ 64) ⌝ }
+    ensures { λ r. ⌜ Sized (rows * t) (bytes * t) (r .rows) (r .lines) × (r .rows ≤ 256) × (r .lines ≤ 25600) ⌝ }
+{
+    Size {
+        rows: times(rows, t as usize),
+        lines: times(bytes, t as usize),
+    }
+}
+
+// The size of the rows of F, G or U at t slots that loop to slot l: so many rows and bytes at a slot that something
+// follows, and one row of 53 bytes where nothing does. Where l is below t, something follows every slot of the node, and
+// its V, whose rows are counted with them, ends with slot t.
+fn looped(rows: usize, bytes: usize, t: u16, l: u16) -> Size
+    requires { ⌜ (rows ≤ 4) × (bytes ≤ 400) × (1 ≤ l) × (l ≤ t) × (t ≤ 64) ⌝ }
+    ensures { λ r. ⌜ Sized (loopedSum rows 1 t l) (loopedSum bytes 53 t l) (r .rows) (r .lines) ⌝ }
+{
+    let ended = even(rows, bytes, t - 1);
+    if l < t {
+        let own = even(rows, bytes, t);
+        return Size {
+            rows: own.rows + ended.rows + 1,
+            lines: own.lines + ended.lines + 53,
+        };
+    }
+    Size {
+        rows: ended.rows + 1,
+        lines: ended.lines + 53,
+    }
+}
+
+// The size of the rows of F[a,b] at t slots that loop to slot l.
+fn within(t: u16, l: u16, a: u16, b: u16) -> Size
+    requires { ⌜ (1 ≤ l) × (l ≤ t) × (t ≤ 64) × (a ≤ b) × (b ≤ 63) ⌝ }
+    ensures { λ r. ⌜ Sized (windowCount t l a b t) (withinWeight t l a b t) (r .rows) (r .lines) ⌝ }
+{
+    let slots = t as usize;
+    let total = window::total(t, l, a, b);
+    Size {
+        rows: total + slots,
+        lines: 79 * total + 27 * slots,
+    }
+}
+
+// The size of the rows of G[a,b] at t slots that loop to slot l.
+fn throughout(t: u16, l: u16, a: u16, b: u16) -> Size
+    requires { ⌜ (1 ≤ l) × (l ≤ t) × (t ≤ 64) × (a ≤ b) × (b ≤ 63) ⌝ }
+    ensures { λ r. ⌜ Sized (windowCount t l a b t) (throughoutWeight t l a b t) (r .rows) (r .lines) ⌝ }
+{
+    let mut rows: usize = 0;
+    let mut lines: usize = 0;
+    let mut s: u16 = 0;
+    while s < t {
+        let looks = window::look(t, l, s, a, b);
+        let count = looks.count;
+        rows += count as usize + 1;
+        lines += 80 * count as usize + 26 + back_size(count);
+        s += 1;
+    }
+    Size {
+        rows: rows,
+        lines: lines,
+    }
+}
+
+// The size of the rows of a node of this kind, its V's with them, at t slots that loop to slot l; `twice` says that left
+// and right are one.
+fn node_size(kind: Kind, twice: bool, t: u16, l: u16, a: u16, b: u16) -> Size
+    requires { ⌜ (1 ≤ l) × (l ≤ t) × (t ≤ 64) × Allowed kind a b ⌝ }
+    ensures { λ r. ⌜ Sized (nodeCount kind t l a b) (nodeWeight kind twice t l a b) (r .rows) (r .lines) ⌝ }
+{
+    match kind {
+        Kind::Atom => even(1, 53, t),
+        Kind::Not => even(1, 78, t),
+        Kind::And => even(3, choose(twice, 186, 213), t),
+        Kind::Or => even(3, choose(twice, 159, 185), t),
+        Kind::Implies => even(3, choose(twice, 185, 238), t),
+        Kind::Eventually => looped(3, 185, t, l),
+        Kind::Always => looped(3, 213, t, l),
+        Kind::Until => looped(4, choose(twice, 292, 318), t, l),
+        Kind::Within => within(t, l, a, b),
+        Kind::Throughout => throughout(t, l, a, b),
+    }
+}
+
+// The size of the rows of node i of a checked table.
+fn measure_node(table: &[u8], i: usize, t: usize, m: usize, l: usize) -> Size
+    requires { ⌜ Ready t m l (now table) × (i < recordCount (now table)) ⌝ }
+    ensures { λ r. ⌜ NodeMeasured t m l (nodesIn (now (table .entry))) i (r .rows) (r .lines) ⌝ }
+{
+    let node = table::node_at(table, i);
+    let kind = node.kind;
+    let p = row::place(row::left_part(kind, m, node.left), t);
+    let q = row::place(m + node.right, t);
+    let a = node.from as u16;
+    let b = node.to as u16;
+    node_size(kind, p == q, t as u16, l as u16, a, b)
+}
+
+// The size of the rows of the n nodes of a checked table.
+fn measure(table: &[u8], n: usize, t: usize, m: usize, l: usize) -> Size
+    requires { ⌜ Ready t m l (now table) × (n ≡ recordCount (now table)) ⌝ }
+    ensures { λ r. ⌜ Measured t m l (nodesIn (now (table .entry))) n (r .rows) (r .lines) ⌝ }
 {
     let mut rows: usize = 0;
     let mut lines: usize = 0;
     let mut i: usize = 0;
     while i < n {
-        let node = table::node_at(table, i);
-        let kind = node.kind;
-        let a = node.from as u16;
-        let b = node.to as u16;
-        let p = row::place(row::left_part(kind, m, node.left), t);
-        let q = row::place(m + node.right, t);
-        let count = row::node_count(kind, t as u16, a, b);
-        rows += count;
-        lines += node_weight(kind, p == q, t as u16, a, b, count);
+        let size = measure_node(table, i, t, m, l);
+        rows += size.rows;
+        lines += size.lines;
         i += 1;
     }
     Size {
@@ -192,14 +246,15 @@ fn sum_up(rows: usize, lines: usize, idle: usize, atoms: usize, slacks: usize) -
     45 + 6 * rows + digits(rows) + lines + 26 * idle + 16 * atoms + digits(atoms) + 26 * slacks
 }
 
-// The length of the page of a checked table of n nodes.
-pub fn page_length(table: &[u8], n: usize, t: usize, m: usize) -> usize
-    requires { ⌜ Ready t m (now table) × (n ≡ recordCount (now table)) ⌝ }
-    ensures { λ r. ⌜ r ≡ length (page t m (nodesIn (now (table .entry)))) ⌝ }
+// The length of the page of a checked table.
+pub fn page_length(table: &[u8], t: usize, m: usize, l: usize) -> usize
+    requires { ⌜ Ready t m l (now table) ⌝ }
+    ensures { λ r. ⌜ r ≡ length (page t m l (nodesIn (now (table .entry)))) ⌝ }
 {
-    let size = measure(table, n, t, m);
+    let n = table::count(table);
+    let size = measure(table, n, t, m, l);
     let idle = row::place(idle_atoms(table, n, m), t) as usize;
     let atoms = row::place(m, t) as usize;
-    let slacks = row::place(n, t) as usize;
+    let slacks = row::place(n + table::kept_count(table, t, l), t) as usize;
     sum_up(size.rows + 1, size.lines + 52, idle, atoms, slacks)
 }

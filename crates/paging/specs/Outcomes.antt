@@ -30,25 +30,26 @@ use Rattle.paging.specs.Print.{pageThen, paged, pagePrinted, pageShown}
 -- ---- the page of a table; y is the buffer z after the page writer's call
 
 -- a page that was written is as long as is said, and fits
-page-fits : (T M : ℕ) (table : List ℕ) (room n : ℕ) (bytes : List ℕ) → pageOutcome T M table room ≡ answered (wrote n bytes) → (n ≡ length bytes) × (length bytes ≤ room)
+page-fits : (T M : ℕ) (table : List ℕ) (room n : ℕ) (bytes : List ℕ) → pageOutcome T M T table room ≡ answered (wrote n bytes) → (n ≡ length bytes) × (length bytes ≤ room)
 unfolding pageOutcome tableChecked
 page-fits T M table room n bytes e =
     let w = wrote n bytes in
-    let text = page T M (nodesIn table) in
+    let text = page T M T (nodesIn table) in
     let a = passed (between 1 64 T) 1 _ w e .1 in
     let b = passed (between 1 16 M) 2 _ w a .1 in
-    let d = passed (good M table) 7 _ w b .1 in
+    let l = passed (between 1 T T) 13 _ w b .1 in
+    let d = passed (good M table) 7 _ w l .1 in
     let f = passed (leb (length text) room) 11 (answered (wrote (length text) text)) w d in
     let g : answered (wrote (length text) text) ≡ answered (wrote n bytes) = f .1 in
     let h : length text ≡ n = cc in
     let i : text ≡ bytes = cc in
     (sym h ∙ ap length i, omega (arith, ap length i, leb-true (length text) room (f .0)))
 
-pub page-written : (T M : ℕ) (table z y : List ℕ) (r : Answer) (n : ℕ) → told r ≡ result (pageOutcome T M table (length z)) → y ≡ buffer (pageOutcome T M table (length z)) z → r ≡ Value n → Put 0 (pagePrinted (pageOutcome T M table (length z))) z y n × (n ≤ length z)
+pub page-written : (T M : ℕ) (table z y : List ℕ) (r : Answer) (n : ℕ) → told r ≡ result (pageOutcome T M T table (length z)) → y ≡ buffer (pageOutcome T M T table (length z)) z → r ≡ Value n → Put 0 (pagePrinted (pageOutcome T M T table (length z))) z y n × (n ≤ length z)
 page-written T M table z y r n e f v =
-    let w = told-value (pageOutcome T M table (length z)) r n e v in
+    let w = told-value (pageOutcome T M T table (length z)) r n e v in
     let fits = page-fits T M table (length z) n (w .bytes) (w .is) in
-    let shown : pagePrinted (pageOutcome T M table (length z)) ≡ w .bytes = ap pagePrinted (w .is) in
+    let shown : pagePrinted (pageOutcome T M T table (length z)) ≡ w .bytes = ap pagePrinted (w .is) in
     let is : y ≡ w .bytes ++ drop (length (w .bytes)) z = f ∙ ap (λ (x : Demands.Answer Written). buffer x z) (w .is) in
     let room : 0 + length (w .bytes) ≤ length z = omega (arith, fits .1) in
     let start : 0 + length (w .bytes) ≡ length (w .bytes) = omega arith in
@@ -71,9 +72,9 @@ paged-read T M text room o e = ap (pageThen T M room) e
 pub rule-refused : (T M : ℕ) (text : List ℕ) (room : ℕ) (r : Answer) (k : Refusal) → told r ≡ result (ruleOutcome T M text) → r ≡ Refused k → paged T M text room ≡ refused (numberOf k)
 rule-refused T M text room r k e v = paged-read T M text room (refused (numberOf k)) (told-refused (ruleOutcome T M text) r k e v)
 
-pub rule-paged : (T M n : ℕ) (text l : List ℕ) (room : ℕ) → TableReady T M text n l → paged T M text room ≡ pageOutcome T M (take (8 * n) l) room
+pub rule-paged : (T M n : ℕ) (text l : List ℕ) (room : ℕ) → TableReady T M text n l → paged T M text room ≡ pageOutcome T M T (take (8 * n) l) room
 rule-paged T M n text l room t =
-    paged-read T M text room (answered (wrote n (t .table .bytes))) (t .table .is) ∙ ap (λ (x : List ℕ). pageOutcome T M x room) (sym (t .table .front))
+    paged-read T M text room (answered (wrote n (t .table .bytes))) (t .table .is) ∙ ap (λ (x : List ℕ). pageOutcome T M T x room) (sym (t .table .front))
 
 -- ---- what a state stands for
 

@@ -9,10 +9,10 @@ use Rattle.mps.specs.Outcome.{pageOutcome}
 use Rattle.input.specs.Scanning.{State, shaped}
 use Rattle.listing.specs.Page.{ruleOutcome, refusedText, badInput}
 
--- the page of the table that was read, in `room` bytes
+-- the page of the table that was read, with the loop slot T, in `room` bytes
 abbrev pub pageThen : (T M room : ℕ) → Answer Written → Answer Written
 pageThen T M room (refused k) = refused k
-pageThen T M room (answered (wrote N table)) = pageOutcome T M table room
+pageThen T M room (answered (wrote N table)) = pageOutcome T M T table room
 
 -- of the refusals of reader and page writer, the first in the order: 1 is the page writer's, 2 both's, 3, 4, 5, 12 and 6 the reader's, 11 the page writer's
 unfoldable pub paged : (T M : ℕ) (text : List ℕ) (room : ℕ) → Answer Written

@@ -9,9 +9,9 @@ ghost use Rattle.paging.specs.Print.{paged, pagePrinted, pageShown};
 // The page of a table, or the first refusal.
 fn page_table(table: &[u8], t: usize, m: usize, out: &mut [u8]) -> usize
     requires { ⌜ 20 ≤ length (now out) ⌝ }
-    ensures { λ r. ⌜ Put 0 (pagePrinted (pageOutcome t m (now (table .entry)) (length (now (out .entry))))) (now (out .entry)) (now (out .exit)) r × (r ≤ length (now (out .entry))) ⌝ }
+    ensures { λ r. ⌜ Put 0 (pagePrinted (pageOutcome t m t (now (table .entry)) (length (now (out .entry))))) (now (out .entry)) (now (out .exit)) r × (r ≤ length (now (out .entry))) ⌝ }
 {
-    match pages::mps_page(table, t, m, out) {
+    match pages::mps_page(table, t, m, t, out) {
         answers::Answer::Refused(refusal) => listing::put_refusal(out, refusal),
         answers::Answer::Value(n) => n,
     }

@@ -1,4 +1,5 @@
 pub mod Meaning
 pub mod Kinds
 pub mod NodeRows
+pub mod Placed
 pub mod Apart

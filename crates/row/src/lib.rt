@@ -1,12 +1,18 @@
 // Rows as values, and the places of variables.
 use table::Kind;
+use table::Node;
 ghost use mathlib.Core.Path.{_≡_};
+ghost use mathlib.Core.Bool.{_&&_, cond};
 ghost use mathlib.Core.List.{[], _∷_};
 ghost use Prim.Native.Nat.{_+_, _-_, _*_, _≤_, _<_};
+ghost use lib.Dec.{ltb};
 ghost use lib.IntN.{pos, negsuc, negℤ};
 ghost use Rattle.rules.specs.Rows as Definitions;
 ghost use Rattle.rules.specs.Rows.{ge, eq, plus, minus};
-ghost use Rattle.row.specs.Kinds.{slotCount, leftPart, Allowed, nodeCount};
+ghost use Rattle.table.specs.Looping.{loopsBy};
+ghost use Rattle.row.specs.Kinds.{slotCount, leftPart, Allowed, blockCount};
+ghost use Rattle.row.specs.NodeRows.{Own, Kept, nodeCount};
+ghost use Rattle.row.specs.Placed.{Small, Placed};
 ghost use Rattle.row.specs.Meaning.{rowOf};
 
 pub enum Relation {
@@ -29,6 +35,20 @@ pub struct Row {
     pub relation: Relation,
     pub right: i8,
     pub terms: Terms,
+}
+
+// A block of slacks, one for each slot: a node's own, or its V's where the plan loops to a slot L below T. `own` is its
+// variable at the first slot, `left` and `right` are those of the node's parts, and `from`, `to` its window. Where the
+// block `loops`, something follows its last slot: `next` is the variable.
+pub struct Block {
+    pub kind: Kind,
+    pub own: u16,
+    pub left: u16,
+    pub right: u16,
+    pub from: u16,
+    pub to: u16,
+    pub loops: bool,
+    pub next: u16,
 }
 
 // The first variable of a part of the variables, with t slots to a part.
@@ -243,10 +263,62 @@ pub fn times(a: usize, b: usize) -> usize
     a * b
 }
 
-// How many rows a node of this kind and with this window has at t slots.
-pub fn node_count(kind: Kind, t: u16, a: u16, b: u16) -> usize
-    requires { ⌜ (1 ≤ t) × (t ≤ 64) × Allowed kind a b ⌝ }
-    ensures { λ r. ⌜ (r ≡ nodeCount kind t a b) × (t ≤ r) × (r ≤ 65 * t) ⌝ }
+// The block of node n, whose V has the first variable v.
+pub fn own_block(node: Node, t: usize, m: usize, l: usize, n: usize, v: u16) -> Block
+    requires { ⌜ (1 ≤ l) × (l ≤ t) × (t ≤ 64) × (m ≤ 16) × (n < 128) × (v ≤ 25600) × Small node ⌝ }
+    ensures { λ r. ⌜ Own t m l n v node r × Placed r ⌝ }
+{
+    let kind = node.kind;
+    let own = place(m + n, t);
+    Block {
+        kind: kind,
+        own: own,
+        left: place(left_part(kind, m, node.left), t),
+        right: place(m + node.right, t),
+        from: node.from as u16,
+        to: node.to as u16,
+        loops: l < t,
+        next: v + (l - 1) as u16,
+    }
+}
+
+// The block of its V.
+pub fn kept_block(block: Block, v: u16) -> Block
+    requires { ⌜ Placed block × (v ≤ 25600) ⌝ }
+    ensures { λ r. ⌜ Kept v block r × Placed r ⌝ }
+{
+    let kind = block.kind;
+    Block {
+        kind: kind,
+        own: v,
+        left: block.left,
+        right: block.right,
+        from: block.from,
+        to: block.to,
+        loops: false,
+        next: 0,
+    }
+}
+
+// Whether a node has a V's block, of t slots that loop to slot l.
+pub fn has_kept(kind: Kind, t: usize, l: usize) -> bool
+    ensures { λ r. ⌜ r ≡ (ltb l t && loopsBy kind) ⌝ }
+{
+    table::both(l < t, table::loops(kind))
+}
+
+// How many rows F, G and U have at the last slot: one where nothing follows it.
+fn last_count(loops: bool, inner: usize) -> usize
+    requires { ⌜ (1 ≤ inner) × (inner ≤ 4) ⌝ }
+    ensures { λ r. ⌜ (r ≡ cond loops inner 1) × (1 ≤ r) × (r ≤ inner) ⌝ }
+{
+    if loops { inner } else { 1 }
+}
+
+// How many rows a block of this kind and with this window has at t slots that loop to slot l.
+pub fn block_count(kind: Kind, loops: bool, t: u16, l: u16, a: u16, b: u16) -> usize
+    requires { ⌜ (1 ≤ l) × (l ≤ t) × (t ≤ 64) × Allowed kind a b ⌝ }
+    ensures { λ r. ⌜ (r ≡ blockCount kind loops t l a b) × (t ≤ r) × (r ≤ 65 * t) ⌝ }
 {
     let slots = t as usize;
     match kind {
@@ -255,10 +327,22 @@ pub fn node_count(kind: Kind, t: u16, a: u16, b: u16) -> usize
         Kind::And => 3 * slots,
         Kind::Or => 3 * slots,
         Kind::Implies => 3 * slots,
-        Kind::Eventually => 3 * (slots - 1) + 1,
-        Kind::Always => 3 * (slots - 1) + 1,
-        Kind::Until => 4 * (slots - 1) + 1,
-        Kind::Within => window::total(t, a, b) + slots,
-        Kind::Throughout => window::total(t, a, b) + slots,
+        Kind::Eventually => 3 * (slots - 1) + last_count(loops, 3),
+        Kind::Always => 3 * (slots - 1) + last_count(loops, 3),
+        Kind::Until => 4 * (slots - 1) + last_count(loops, 4),
+        Kind::Within => window::total(t, l, a, b) + slots,
+        Kind::Throughout => window::total(t, l, a, b) + slots,
     }
+}
+
+// How many rows a node has, its V's with them.
+pub fn node_count(kind: Kind, t: u16, l: u16, a: u16, b: u16) -> usize
+    requires { ⌜ (1 ≤ l) × (l ≤ t) × (t ≤ 64) × Allowed kind a b ⌝ }
+    ensures { λ r. ⌜ (r ≡ nodeCount kind t l a b) × (r ≤ 130 * t) ⌝ }
+{
+    let own = block_count(kind, l < t, t, l, a, b);
+    if has_kept(kind, t as usize, l as usize) {
+        return block_count(kind, false, t, l, a, b) + own;
+    }
+    own
 }

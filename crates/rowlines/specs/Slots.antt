@@ -1,21 +1,18 @@
--- A text for each row of a table, by node and slot.
+-- A text for each row of a block, by slot.
 use mathlib.Core.List.{List}
 use Prim.Native.Nat.{ℕ, _+_}
 use lib.ListN.{length}
 use Rattle.lists.specs.Flat.{flat}
-use Rattle.rules.specs.Table.{Node, nodeAt}
-use Rattle.rules.specs.Rows.{Row, rowsAt}
-use Rattle.row.specs.NodeRows.{rowsTo}
+use Rattle.rules.specs.Rows.{Row}
+use Rattle.row.specs.declared.Block.{Block}
+use Rattle.row.specs.NodeRows.{blockOn}
 use Rattle.mps.specs.Page.{eachRow}
 
-module _ (T M : ℕ) (ns : List Node) where
-  -- the rows of node n at slot s + 1
-  abbrev pub slotRows : (n s : ℕ) → List Row
-  slotRows n s = rowsAt T M n (nodeAt ns n) (s + 1)
+module _ (T L : ℕ) (b : Block) where
+  -- how many rows the block has before slot s + 1
+  unfoldable pub rowsBefore : (s : ℕ) → ℕ
+  rowsBefore s = length (flat (blockOn b T L) s)
 
-  -- the number of the first of them
-  unfoldable pub firstRow : (n s : ℕ) → ℕ
-  firstRow n s = length (rowsTo T M ns n) + length (flat (slotRows n) s)
-
-  unfoldable pub slotText : (ℕ → Row → List ℕ) → (n s : ℕ) → List ℕ
-  slotText line n s = eachRow line (firstRow n s) (slotRows n s)
+  -- the texts of its rows at slot s + 1, where its first row has the number i
+  unfoldable pub slotText : (ℕ → Row → List ℕ) → (i s : ℕ) → List ℕ
+  slotText line i s = eachRow line (i + rowsBefore s) (blockOn b T L s)

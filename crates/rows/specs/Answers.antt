@@ -1,4 +1,4 @@
--- What the row writer answers once the checks of T, M and the table are passed.
+-- What the row writer answers once the checks of T, M, L and the table are passed.
 use mathlib.Core.Path.{_≡_}
 use mathlib.Core.List.{List}
 use Prim.Native.Nat.{ℕ, _≤_, _<_}
@@ -13,23 +13,23 @@ use Rattle.rules.specs.TableTest.{nodesIn}
 use Rattle.rules.specs.Outcome.{require, rowsOutcome}
 use Rattle.table.specs.Checks.{checkOf, afterCheck, checked}
 
-unfoldable pub rowsAnswer : (T M : ℕ) (table : List ℕ) (room : ℕ) → Answer Written
-rowsAnswer T M table room =
-    require (leb (length (rowsBytes (rowsOf T M (nodesIn table)))) room) 11
-    (answered (wrote (length (rowsOf T M (nodesIn table))) (rowsBytes (rowsOf T M (nodesIn table)))))
+unfoldable pub rowsAnswer : (T M L : ℕ) (table : List ℕ) (room : ℕ) → Answer Written
+rowsAnswer T M L table room =
+    require (leb (length (rowsBytes (rowsOf T M L (nodesIn table)))) room) 11
+    (answered (wrote (length (rowsOf T M L (nodesIn table))) (rowsBytes (rowsOf T M L (nodesIn table)))))
 
-pub rows-checked : (T M : ℕ) (table : List ℕ) (room : ℕ) → rowsOutcome T M table room ≡ afterCheck (checkOf T M table) (rowsAnswer T M table room)
+pub rows-checked : (T M L : ℕ) (table : List ℕ) (room : ℕ) → rowsOutcome T M L table room ≡ afterCheck (checkOf T M L table) (rowsAnswer T M L table room)
 unfolding rowsOutcome rowsAnswer
-rows-checked T M table room = checked T M table _
+rows-checked T M L table room = checked T M L table _
 
-module _ (T M : ℕ) (table : List ℕ) (room : ℕ) where
+module _ (T M L : ℕ) (table : List ℕ) (room : ℕ) where
   abbrev bytes : List ℕ
-  bytes = rowsBytes (rowsOf T M (nodesIn table))
+  bytes = rowsBytes (rowsOf T M L (nodesIn table))
 
-  pub too-short : room < length bytes → rowsAnswer T M table room ≡ refused 11
+  pub too-short : room < length bytes → rowsAnswer T M L table room ≡ refused 11
   unfolding rowsAnswer
   too-short h = rw (lt-leb (length bytes) room h)
 
-  pub long-enough : length bytes ≤ room → rowsAnswer T M table room ≡ answered (wrote (length (rowsOf T M (nodesIn table))) bytes)
+  pub long-enough : length bytes ≤ room → rowsAnswer T M L table room ≡ answered (wrote (length (rowsOf T M L (nodesIn table))) bytes)
   unfolding rowsAnswer
   long-enough h = rw (le-leb (length bytes) room h)

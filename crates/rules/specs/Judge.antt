@@ -54,10 +54,10 @@ pub data Verdict : Type 0 where
   passed : (rows error : ℕ) → Verdict
 
 -- row i of a table's rows
-abbrev pub rowAt : (T M : ℕ) → List Node → ℕ → Row
-rowAt T M ns i = getD (rowsOf T M ns) i (goalRow T M ns)
+abbrev pub rowAt : (T M L : ℕ) → List Node → ℕ → Row
+rowAt T M L ns i = getD (rowsOf T M L ns) i (goalRow T M ns)
 
-module _ (T M e : ℕ) (ns : List Node) (xs : List ℤ) where
+module _ (T M L e : ℕ) (ns : List Node) (xs : List ℤ) where
   abbrev pub OutsideAt : ℕ → Type 0
   OutsideAt v = (v < length xs) × Outside e (valueAt xs v)
 
@@ -65,7 +65,7 @@ module _ (T M e : ℕ) (ns : List Node) (xs : List ℤ) where
   NotBinaryAt v = (v < M * T) × NotBinary e (valueAt xs v)
 
   abbrev pub BrokenAt : ℕ → Type 0
-  BrokenAt i = (i < length (rowsOf T M ns)) × Broken e xs (rowAt T M ns i)
+  BrokenAt i = (i < length (rowsOf T M L ns)) × Broken e xs (rowAt T M L ns i)
 
   -- "Its verdict is the first of: outside, with the lowest variable ..; not binary, with the lowest atom variable ..;
   -- broken, with the lowest row number; passed, with the row count." Request N1: "The verdict broken then carries the shortfall".
@@ -73,6 +73,6 @@ module _ (T M e : ℕ) (ns : List Node) (xs : List ℤ) where
   pub data Judged : Verdict → Type 0 where
     is-outside : {v : ℕ} → Lowest OutsideAt v → Judged (Verdict.outside v)
     is-not-binary : {v : ℕ} → None OutsideAt → Lowest NotBinaryAt v → Judged (Verdict.not-binary v)
-    is-broken : {i : ℕ} → None OutsideAt → None NotBinaryAt → Lowest BrokenAt i → Judged (Verdict.broken i (shortfall xs (rowAt T M ns i)))
-    is-passed : {error : ℕ → ℕ} → None OutsideAt → None NotBinaryAt → None BrokenAt → ErrorFigures T M e ns error →
-        Judged (Verdict.passed (length (rowsOf T M ns)) (error (slack T M (root ns) 1)))
+    is-broken : {i : ℕ} → None OutsideAt → None NotBinaryAt → Lowest BrokenAt i → Judged (Verdict.broken i (shortfall xs (rowAt T M L ns i)))
+    is-passed : {error : ℕ → ℕ} → None OutsideAt → None NotBinaryAt → None BrokenAt → ErrorFigures T M L e ns error →
+        Judged (Verdict.passed (length (rowsOf T M L ns)) (error (slack T M (root ns) 1)))

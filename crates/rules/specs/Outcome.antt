@@ -15,7 +15,7 @@ use Rattle.rules.specs.Table.{Node, tableBytes, nodesOf, ruleAt, root}
 use Rattle.rules.specs.TableTest.{windowGood, good, nodesIn}
 use Rattle.rules.specs.Evaluation.{bitOf, truth}
 use Rattle.rules.specs.Words.{wordOf}
-use Rattle.rules.specs.Rows.{rowsOf, rowsBytes}
+use Rattle.rules.specs.Rows.{variableCount, rowsOf, rowsBytes}
 use Rattle.rules.specs.Judge.{Verdict}
 use Rattle.rules.specs.Verdicts.{verdict}
 use Rattle.rules.specs.Demands.{Answer, Written}
@@ -66,37 +66,37 @@ readOutcome M text room = require (between 1 16 M) 2 (require (leb (length text)
 
 -- ---- all but read
 
--- refusals 1, 2 and 7
-unfoldable pub tableChecked : {A : Type 0} (T M : ℕ) (table : List ℕ) → Answer A → Answer A
-tableChecked T M table rest = require (between 1 64 T) 1 (require (between 1 16 M) 2 (require (good M table) 7 rest))
+-- refusals 1, 2, 13 and 7
+unfoldable pub tableChecked : {A : Type 0} (T M L : ℕ) (table : List ℕ) → Answer A → Answer A
+tableChecked T M L table rest = require (between 1 64 T) 1 (require (between 1 16 M) 2 (require (between 1 T L) 13 (require (good M table) 7 rest)))
 
 unfoldable pub runGood : (T M : ℕ) → List ℕ → Bool
 runGood T M run = eqb (length run) T && all (λ i. ltb (getD run i 0) (2 ^ M)) (length run)
 
 -- the word of each node, bit t − 1 for slot t
-unfoldable pub truthWords : (T : ℕ) (run : List ℕ) (ns : List Node) → List ℕ
-truthWords T run ns = tabulate (length ns) (λ n. wordOf (truth T run (ruleAt ns n)) T)
+unfoldable pub truthWords : (T L : ℕ) (run : List ℕ) (ns : List Node) → List ℕ
+truthWords T L run ns = tabulate (length ns) (λ n. wordOf (truth T L run (ruleAt ns n)) T)
 
-unfoldable pub evaluateOutcome : (T M : ℕ) (table run : List ℕ) (room : ℕ) → Answer Written
-evaluateOutcome T M table run room =
-    tableChecked T M table
+unfoldable pub evaluateOutcome : (T M L : ℕ) (table run : List ℕ) (room : ℕ) → Answer Written
+evaluateOutcome T M L table run room =
+    tableChecked T M L table
     (require (runGood T M run) 8
     (require (leb (length (nodesIn table)) room) 11
-    (answered (wrote (bitOf (truth T run (ruleAt (nodesIn table) (root (nodesIn table))) 1)) (truthWords T run (nodesIn table))))))
+    (answered (wrote (bitOf (truth T L run (ruleAt (nodesIn table) (root (nodesIn table))) 1)) (truthWords T L run (nodesIn table))))))
 
-unfoldable pub rowsOutcome : (T M : ℕ) (table : List ℕ) (room : ℕ) → Answer Written
-rowsOutcome T M table room =
-    tableChecked T M table
-    (require (leb (length (rowsBytes (rowsOf T M (nodesIn table)))) room) 11
-    (answered (wrote (length (rowsOf T M (nodesIn table))) (rowsBytes (rowsOf T M (nodesIn table))))))
+unfoldable pub rowsOutcome : (T M L : ℕ) (table : List ℕ) (room : ℕ) → Answer Written
+rowsOutcome T M L table room =
+    tableChecked T M L table
+    (require (leb (length (rowsBytes (rowsOf T M L (nodesIn table)))) room) 11
+    (answered (wrote (length (rowsOf T M L (nodesIn table))) (rowsBytes (rowsOf T M L (nodesIn table))))))
 
 -- "tolerance not 0 to 1,000"
 abbrev pub withTolerance : {A : Type 0} → ℤ → (ℕ → Answer A) → Answer A
 withTolerance (pos e) f = require (leb e 1000) 10 (f e)
 withTolerance (negsuc e) f = refused 10
 
-unfoldable pub judgeOutcome : (T M : ℕ) (table : List ℕ) (figures : List ℤ) (tolerance : ℤ) → Answer Verdict
-judgeOutcome T M table figures tolerance =
-    tableChecked T M table
-    (require (eqb (length figures) ((M + length (nodesIn table)) * T)) 9
-    (withTolerance tolerance (λ e. answered (verdict T M e (nodesIn table) figures))))
+unfoldable pub judgeOutcome : (T M L : ℕ) (table : List ℕ) (figures : List ℤ) (tolerance : ℤ) → Answer Verdict
+judgeOutcome T M L table figures tolerance =
+    tableChecked T M L table
+    (require (eqb (length figures) (variableCount T M L (nodesIn table))) 9
+    (withTolerance tolerance (λ e. answered (verdict T M L e (nodesIn table) figures))))

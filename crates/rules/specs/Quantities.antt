@@ -7,6 +7,10 @@ use lib.ListN.{getD}
 abbrev pub SlotsAllowed : ℕ → Type 0
 SlotsAllowed T = (1 ≤ T) × (T ≤ 64)
 
+-- Request N8: "a loop slot L from 1 to T"
+abbrev pub LoopAllowed : (T L : ℕ) → Type 0
+LoopAllowed T L = (1 ≤ L) × (L ≤ T)
+
 -- "Atom count M: 1 to 16. Atoms are a0, a1 and so on (decimal)." (An atom is an atomic proposition.)
 abbrev pub AtomsAllowed : ℕ → Type 0
 AtomsAllowed M = (1 ≤ M) × (M ≤ 16)

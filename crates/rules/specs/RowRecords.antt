@@ -17,7 +17,9 @@ use Rattle.rules.specs.Rule.Binary.{and, or, implies, until}
 use Rattle.rules.specs.Rule.Window.{within, throughout}
 use Rattle.rules.specs.Table.{Node}
 use Rattle.rules.specs.Table.Node.{atom, unary, binary, windowed}
-use Rattle.rules.specs.Rows.{Relation, Term, Row, signedByte, signedIn, relationByte, relationIn, termsBytes, termsIn, rowBytes, rowIn, rowsBytes, rowsIn, plus, minus, ge, inWindow, windowSlots, unaryRows, binaryRows, windowRows, slack, rowsAt, slotsRows, nodesRows, slackRows, goalRow, rowsOf}
+use Rattle.rules.specs.Rows.{Relation, Term, Row, signedByte, signedIn, relationByte, relationIn, termsBytes, termsIn, rowBytes, rowIn, rowsBytes}
+use Rattle.rules.specs.Rows.{rowsIn, plus, minus, ge, inWindow, windowSlots, unaryRows, binaryRows, windowRows, unaryLoops, binaryLoops, slack, goesOn}
+use Rattle.rules.specs.Rows.{rowsAt, loopRowsAt, slotsRows, nodeRows, nodesRows, slackRows, goalRow, rowsOf}
 use Rattle.rules.specs.Rows.Relation.{at-least, equal}
 
 -- ---- a record
@@ -134,22 +136,39 @@ window-recordable throughout P p ss h =
       (record { few = omega (arith, length-map ss (λ (s : ℕ). minus (p s))); right-small = small-less (length ss) h; small = (omega arith, minuses-small p ss) }, tt),
     )
 
-module _ (T M : ℕ) (T≤64 : T ≤ 64) where
-  pub at-recordable : (n : ℕ) (nd : Node) (t : ℕ) → Every Recordable (rowsAt T M n nd t)
+if-recordable : (b : Bool) (rs : List Row) → Every Recordable rs → Every Recordable (cond b rs [])
+if-recordable true rs h = h
+if-recordable false rs h = tt
+
+slots-recordable : (f : ℕ → List Row) → ((t : ℕ) → Every Recordable (f t)) → (k t : ℕ) → Every Recordable (slotsRows f k t)
+slots-recordable f h zero t = tt
+slots-recordable f h (suc k) t = every-append Recordable (f t) (slotsRows f k (t + 1)) .1 (h t, slots-recordable f h k (t + 1))
+
+module _ (T M L : ℕ) (T≤64 : T ≤ 64) (ns : List Node) where
+  pub at-recordable : (n : ℕ) (nd : Node) (t : ℕ) → Every Recordable (rowsAt T M L ns n nd t)
   at-recordable n (atom a) t = omega arith
-  at-recordable n (unary u c) t = unary-recordable u (ltb t T) _ _ _
-  at-recordable n (binary o l r) t = binary-recordable o (ltb t T) _ _ _ _
-  at-recordable n (windowed w a b c) t = window-recordable w (slack T M n t) (slack T M c) (windowSlots T t a b) (omega (arith, passing-length (inWindow T t a b) T 1))
+  at-recordable n (unary u c) t = unary-recordable u (goesOn T L t) _ _ _
+  at-recordable n (binary o l r) t = binary-recordable o (goesOn T L t) _ _ _ _
+  at-recordable n (windowed w a b c) t =
+      window-recordable w (slack T M n t) (slack T M c) (windowSlots T L t a b) (omega (arith, passing-length (inWindow T L t a b) T 1))
 
-  slots-recordable : (n : ℕ) (nd : Node) (k t : ℕ) → Every Recordable (slotsRows T M n nd k t)
-  slots-recordable n nd zero t = tt
-  slots-recordable n nd (suc k) t =
-      every-append Recordable (rowsAt T M n nd t) (slotsRows T M n nd k (t + 1)) .1 (at-recordable n nd t, slots-recordable n nd k (t + 1))
+  pub loop-recordable : (n : ℕ) (nd : Node) (t : ℕ) → Every Recordable (loopRowsAt T M ns n nd t)
+  loop-recordable n (atom a) t = tt
+  loop-recordable n (unary u c) t = if-recordable (unaryLoops u) _ (unary-recordable u (ltb t T) _ _ _)
+  loop-recordable n (binary o l r) t = if-recordable (binaryLoops o) _ (binary-recordable o (ltb t T) _ _ _ _)
+  loop-recordable n (windowed w a b c) t = tt
 
-  nodes-recordable : (n : ℕ) (ns : List Node) → Every Recordable (nodesRows T M n ns)
+  node-recordable : (n : ℕ) (nd : Node) → Every Recordable (nodeRows T M L ns n nd)
+  node-recordable n nd =
+      every-append Recordable (cond (ltb L T) (slotsRows (loopRowsAt T M ns n nd) T 1) []) (slotsRows (rowsAt T M L ns n nd) T 1) .1 (
+        if-recordable (ltb L T) _ (slots-recordable (loopRowsAt T M ns n nd) (loop-recordable n nd) T 1),
+        slots-recordable (rowsAt T M L ns n nd) (at-recordable n nd) T 1,
+      )
+
+  nodes-recordable : (n : ℕ) (l : List Node) → Every Recordable (nodesRows T M L ns n l)
   nodes-recordable n [] = tt
-  nodes-recordable n (nd ∷ ns) =
-      every-append Recordable (slotsRows T M n nd T 1) (nodesRows T M (n + 1) ns) .1 (slots-recordable n nd T 1, nodes-recordable (n + 1) ns)
+  nodes-recordable n (nd ∷ l) =
+      every-append Recordable (nodeRows T M L ns n nd) (nodesRows T M L ns (n + 1) l) .1 (node-recordable n nd, nodes-recordable (n + 1) l)
 
-  pub rows-recordable : (ns : List Node) → Every Recordable (rowsOf T M ns)
-  rows-recordable ns = every-append Recordable (slackRows T M ns) (goalRow T M ns ∷ []) .1 (nodes-recordable 0 ns, omega arith)
+  pub rows-recordable : Every Recordable (rowsOf T M L ns)
+  rows-recordable = every-append Recordable (slackRows T M L ns) (goalRow T M ns ∷ []) .1 (nodes-recordable 0 ns, omega arith)

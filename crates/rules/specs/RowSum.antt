@@ -48,13 +48,14 @@ Broken e xs r = BrokenBy (r .relation) e (r .right *ℤ pos one) (rowSum xs (r .
 abbrev pub shortfall : List ℤ → Row → ℤ
 shortfall xs r = shortfallBy (r .relation) (r .right *ℤ pos one) (rowSum xs (r .terms) .whole)
 
-module _ (T M e : ℕ) (ns : List Node) (xs : List ℤ) where
+module _ (T M L e : ℕ) (ns : List Node) (xs : List ℤ) where
   abbrev pub BrokenAt : ℕ → Type 0
-  BrokenAt i = (i < length (rowsOf T M ns)) × Broken e xs (rowAt T M ns i)
+  BrokenAt i = (i < length (rowsOf T M L ns)) × Broken e xs (rowAt T M L ns i)
 
   pub data Judged : Verdict → Type 0 where
-    is-outside : {v : ℕ} → Lowest (OutsideAt T M e ns xs) v → Judged (Verdict.outside v)
-    is-not-binary : {v : ℕ} → None (OutsideAt T M e ns xs) → Lowest (NotBinaryAt T M e ns xs) v → Judged (Verdict.not-binary v)
-    is-broken : {i : ℕ} → None (OutsideAt T M e ns xs) → None (NotBinaryAt T M e ns xs) → Lowest BrokenAt i → Judged (Verdict.broken i (shortfall xs (rowAt T M ns i)))
-    is-passed : {error : ℕ → ℕ} → None (OutsideAt T M e ns xs) → None (NotBinaryAt T M e ns xs) → None BrokenAt → ErrorFigures T M e ns error →
-        Judged (Verdict.passed (length (rowsOf T M ns)) (error (slack T M (root ns) 1)))
+    is-outside : {v : ℕ} → Lowest (OutsideAt T M L e ns xs) v → Judged (Verdict.outside v)
+    is-not-binary : {v : ℕ} → None (OutsideAt T M L e ns xs) → Lowest (NotBinaryAt T M L e ns xs) v → Judged (Verdict.not-binary v)
+    is-broken : {i : ℕ} → None (OutsideAt T M L e ns xs) → None (NotBinaryAt T M L e ns xs) → Lowest BrokenAt i →
+        Judged (Verdict.broken i (shortfall xs (rowAt T M L ns i)))
+    is-passed : {error : ℕ → ℕ} → None (OutsideAt T M L e ns xs) → None (NotBinaryAt T M L e ns xs) → None BrokenAt → ErrorFigures T M L e ns error →
+        Judged (Verdict.passed (length (rowsOf T M L ns)) (error (slack T M (root ns) 1)))

@@ -1,10 +1,10 @@
--- "Rows", with the windows of request N4: the linear rows of a table, their records, and what it is for numerators to meet a row.
+-- "Rows", with windows (request N4) and a loop slot L (request N8): the linear rows of a table, their records, and what it is for numerators to meet a row.
 use mathlib.Core.Path.{_≡_}
-use mathlib.Core.Bool.{Bool, cond, _&&_}
+use mathlib.Core.Bool.{Bool, true, false, cond, _&&_, _||_}
 use mathlib.Core.List.{List, [], _∷_, _++_, map}
 use Prim.Native.Nat.{ℕ, zero, suc, _+_, _-_, _*_, _/_, _%_}
 use lib.Dec.{eqb, leb, ltb}
-use lib.ListN.{length, getD, drop}
+use lib.ListN.{length, getD, take, drop}
 use lib.IntN.{ℤ, pos, negsuc, negℤ, _+ℤ_, _*ℤ_}
 use lib.Signed.{_≤ℤ_}
 use Rattle.lists.specs.Any.{any}
@@ -36,6 +36,40 @@ atomVariable T a t = a * T + (t - 1)
 
 abbrev pub slack : (T M n t : ℕ) → ℕ
 slack T M n t = (M + n) * T + (t - 1)
+
+-- Request N8: "each node of kinds 6, 7 and 8 gets a second set of slacks V",
+abbrev pub unaryLoops : Unary → Bool
+unaryLoops not = false
+unaryLoops eventually = true
+unaryLoops always = true
+
+abbrev pub binaryLoops : Binary → Bool
+binaryLoops and = false
+binaryLoops or = false
+binaryLoops implies = false
+binaryLoops until = true
+
+abbrev pub loops : Node → Bool
+loops (atom a) = false
+loops (unary u c) = unaryLoops u
+loops (binary o l r) = binaryLoops o
+loops (windowed w a b c) = false
+
+-- how many of some nodes do
+abbrev pub looping : List Node → ℕ
+looping [] = 0
+looping (nd ∷ ns) = cond (loops nd) (suc (looping ns)) (looping ns)
+
+-- "one per slot, numbered on after the nodes in node order": the V of node n at slot t
+abbrev pub loopSlack : (T M : ℕ) → List Node → (n t : ℕ) → ℕ
+loopSlack T M ns n t = (M + (length ns + looping (take n ns))) * T + (t - 1)
+
+-- "With L equal to T everything is as it was. .. Otherwise": how many slacks there are, and how many variables
+abbrev pub slackCount : (T L : ℕ) → List Node → ℕ
+slackCount T L ns = (length ns + cond (ltb L T) (looping ns) 0) * T
+
+abbrev pub variableCount : (T M L : ℕ) → List Node → ℕ
+variableCount T M L ns = M * T + slackCount T L ns
 
 -- ---- "rows at slot t, in this order". "P is the node, p left, q right (for an atom node, p is the atom's variable), at slot t; P' is the node at t + 1."
 
@@ -89,13 +123,13 @@ binaryRows or inner P p q P′ = orRows P p q
 binaryRows implies inner P p q P′ = impliesRows P p q
 binaryRows until inner P p q P′ = cond inner (untilRows P p q P′) (sameRows P q)
 
--- Request N4. Whether slot s is one that the window of a, b looks at from slot t: "slots t + a to t + b, and a slot after T counts as T"
-abbrev pub inWindow : (T t a b s : ℕ) → Bool
-inWindow T t a b s = any (λ j. leb a j && eqb (slotOf T (t + j)) s) (b + 1)
+-- Request N4. Whether slot s is one that the window of a, b looks at from slot t: "slots t + a to t + b", by the slots of these times
+abbrev pub inWindow : (T L t a b s : ℕ) → Bool
+inWindow T L t a b s = any (λ j. leb a j && eqb (slotOf T L (t + j)) s) (b + 1)
 
 -- "the different slots of the window, k of them, lowest slot first both in rows and in terms"
-abbrev pub windowSlots : (T t a b : ℕ) → List ℕ
-windowSlots T t a b = passing (inWindow T t a b) T 1
+abbrev pub windowSlots : (T L t a b : ℕ) → List ℕ
+windowSlots T L t a b = passing (inWindow T L t a b) T 1
 
 -- Kinds 9 and 10; `p s` is the part at slot s, and `ss` has the slots of the window. "F has P − p(s) ≥ 0 for each s, then the sum of all p(s),
 -- less P, ≥ 0. G has p(s) − P ≥ 0 for each s, then P less all p(s) ≥ −(k − 1)."
@@ -105,32 +139,52 @@ windowRows within P p ss =
 windowRows throughout P p ss =
     map (λ s. ge (plus (p s) ∷ minus P ∷ []) (pos 0)) ss ++ (ge (plus P ∷ map (λ s. minus (p s)) ss) (negℤ (pos (length ss - 1))) ∷ [])
 
--- the rows of node n at slot t
-abbrev pub rowsAt : (T M n : ℕ) → Node → (t : ℕ) → List Row
-rowsAt T M n (atom a) t = sameRows (slack T M n t) (atomVariable T a t)
-rowsAt T M n (unary u c) t = unaryRows u (ltb t T) (slack T M n t) (slack T M c t) (slack T M n (t + 1))
-rowsAt T M n (binary o l r) t = binaryRows o (ltb t T) (slack T M n t) (slack T M l t) (slack T M r t) (slack T M n (t + 1))
-rowsAt T M n (windowed w a b c) t = windowRows w (slack T M n t) (slack T M c) (windowSlots T t a b)
+-- Request N8: "P has the rows for t < T at every slot, and at T its P' is V at L." With L equal to T, slot T has its own rows.
+abbrev pub goesOn : (T L t : ℕ) → Bool
+goesOn T L t = ltb t T || ltb L T
 
--- "Nodes run in number order, slots within a node, rows within a slot.": k slots from slot t on; the nodes from node n on
-abbrev pub slotsRows : (T M n : ℕ) → Node → (k t : ℕ) → List Row
-slotsRows T M n nd zero t = []
-slotsRows T M n nd (suc k) t = rowsAt T M n nd t ++ slotsRows T M n nd k (t + 1)
+abbrev pub nextSlack : (T M L : ℕ) → List Node → (n t : ℕ) → ℕ
+nextSlack T M L ns n t = cond (ltb t T) (slack T M n (t + 1)) (loopSlack T M ns n L)
 
-abbrev pub nodesRows : (T M n : ℕ) → List Node → List Row
-nodesRows T M n [] = []
-nodesRows T M n (nd ∷ ns) = slotsRows T M n nd T 1 ++ nodesRows T M (n + 1) ns
+-- the rows of node n at slot t, of the table ns
+abbrev pub rowsAt : (T M L : ℕ) → List Node → (n : ℕ) → Node → (t : ℕ) → List Row
+rowsAt T M L ns n (atom a) t = sameRows (slack T M n t) (atomVariable T a t)
+rowsAt T M L ns n (unary u c) t = unaryRows u (goesOn T L t) (slack T M n t) (slack T M c t) (nextSlack T M L ns n t)
+rowsAt T M L ns n (binary o l r) t = binaryRows o (goesOn T L t) (slack T M n t) (slack T M l t) (slack T M r t) (nextSlack T M L ns n t)
+rowsAt T M L ns n (windowed w a b c) t = windowRows w (slack T M n t) (slack T M c) (windowSlots T L t a b)
+
+-- "V has the rows that P had until now."
+abbrev pub loopRowsAt : (T M : ℕ) → List Node → (n : ℕ) → Node → (t : ℕ) → List Row
+loopRowsAt T M ns n (atom a) t = []
+loopRowsAt T M ns n (unary u c) t = cond (unaryLoops u) (unaryRows u (ltb t T) (loopSlack T M ns n t) (slack T M c t) (loopSlack T M ns n (t + 1))) []
+loopRowsAt T M ns n (binary o l r) t =
+    cond (binaryLoops o) (binaryRows o (ltb t T) (loopSlack T M ns n t) (slack T M l t) (slack T M r t) (loopSlack T M ns n (t + 1))) []
+loopRowsAt T M ns n (windowed w a b c) t = []
+
+-- "Nodes run in number order, slots within a node, rows within a slot.": k slots from slot t on
+abbrev pub slotsRows : (ℕ → List Row) → (k t : ℕ) → List Row
+slotsRows f zero t = []
+slotsRows f (suc k) t = f t ++ slotsRows f k (t + 1)
+
+-- "All of a node's V rows, by slot, come before its P rows."
+abbrev pub nodeRows : (T M L : ℕ) → List Node → (n : ℕ) → Node → List Row
+nodeRows T M L ns n nd = cond (ltb L T) (slotsRows (loopRowsAt T M ns n nd) T 1) [] ++ slotsRows (rowsAt T M L ns n nd) T 1
+
+-- the nodes from node n on
+abbrev pub nodesRows : (T M L : ℕ) → List Node → (n : ℕ) → List Node → List Row
+nodesRows T M L ns n [] = []
+nodesRows T M L ns n (nd ∷ l) = nodeRows T M L ns n nd ++ nodesRows T M L ns (n + 1) l
 
 -- every row but the goal row
-abbrev pub slackRows : (T M : ℕ) → List Node → List Row
-slackRows T M ns = nodesRows T M 0 ns
+abbrev pub slackRows : (T M L : ℕ) → List Node → List Row
+slackRows T M L ns = nodesRows T M L ns 0 ns
 
 -- "Last comes the goal row: root at slot 1 = 1."
 abbrev pub goalRow : (T M : ℕ) → List Node → Row
 goalRow T M ns = eq (plus (slack T M (root ns) 1) ∷ []) (pos 1)
 
-abbrev pub rowsOf : (T M : ℕ) → List Node → List Row
-rowsOf T M ns = slackRows T M ns ++ (goalRow T M ns ∷ [])
+abbrev pub rowsOf : (T M L : ℕ) → List Node → List Row
+rowsOf T M L ns = slackRows T M L ns ++ (goalRow T M ns ∷ [])
 
 -- ---- "A row record has ..: mark 52 57 (hexadecimal), relation (1 for ≥, 2 for =), term count, right side as a signed byte,
 -- then .. terms of a signed coefficient byte and a 16-bit variable, low byte first." Request N4: "Row records now end after their last term,

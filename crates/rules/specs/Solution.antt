@@ -2,5 +2,6 @@
 pub mod Integers
 pub mod Families
 pub mod Ranked
+pub mod Looping
 pub mod Truths
 pub mod Bytes

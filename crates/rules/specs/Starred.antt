@@ -22,7 +22,8 @@ use Rattle.rules.specs.Demands.Answer.{refused, answered}
 use Rattle.rules.specs.Demands.Written.{wrote}
 use Rattle.rules.specs.Outcome.{readOutcome, tableChecked, runGood, truthWords, evaluateOutcome, judgeOutcome}
 
--- A line: a rule text, and a run of T 3 and M 2 with the root's truth at its slots; or the kinds read; or, at T 1 and M 1, figures, a tolerance and the verdict.
+-- A line: a rule text, and a run of T 3, M 2 and L 3 with the root's truth at its slots; or the kinds read; or, at T 1, M 1 and L 1, figures, a tolerance and
+-- the verdict.
 pub data Line : Type 0 where
   truths : (text run gives : List ℕ) → Line
   kinds : (text gives : List ℕ) → Line
@@ -41,9 +42,9 @@ abbrev pub lastBits : List ℕ → List ℕ
 lastBits l = map (slotBit (getD l (length l - 1) 0)) (1 ∷ 2 ∷ 3 ∷ [])
 
 abbrev pub Shown : Line → Type 0
-Shown (truths text run gives) = lastBits (written (evaluateOutcome 3 2 (table 2 text) run 128)) ≡ gives
+Shown (truths text run gives) = lastBits (written (evaluateOutcome 3 2 3 (table 2 text) run 128)) ≡ gives
 Shown (kinds text gives) = map kindOf (nodesIn (table 2 text)) ≡ gives
-Shown (judged text figures e gives) = judgeOutcome 1 1 (table 1 text) figures e ≡ answered gives
+Shown (judged text figures e gives) = judgeOutcome 1 1 1 (table 1 text) figures e ≡ answered gives
 
 abbrev pub starred : List Line
 starred =

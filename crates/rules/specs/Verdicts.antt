@@ -13,7 +13,7 @@ use lib.IntN.{ℤ, pos, negℤ, _-ℤ_, natAbs}
 use lib.Signed.{ltZ, _<ℤ_}
 use Rattle.lists.specs.Tests.{or-cases, or-left, or-right, and-left, and-right, and-both}
 use Rattle.lists.specs.First.{first, first-found, Found}
-use Rattle.rules.specs.Quantities.{one}
+use Rattle.rules.specs.Quantities.{one, LoopAllowed}
 use Rattle.rules.specs.Table.{Node}
 use Rattle.rules.specs.TableRules.{NodesGood}
 use Rattle.rules.specs.Rows.{Row, valueAt, rowsOf}
@@ -72,7 +72,7 @@ abbrev pub orElse : {A : Type 0} → Option ℕ → (ℕ → A) → A → A
 orElse none f v = v
 orElse (some k) f v = f k
 
-module _ (T M e : ℕ) (ns : List Node) (xs : List ℤ) where
+module _ (T M L e : ℕ) (ns : List Node) (xs : List ℤ) where
   abbrev pub firstOutside : Option ℕ
   firstOutside = first (λ v. isOutside e (valueAt xs v)) (length xs) 0
 
@@ -80,14 +80,15 @@ module _ (T M e : ℕ) (ns : List Node) (xs : List ℤ) where
   firstNotBinary = first (λ v. isNotBinary e (valueAt xs v)) (M * T) 0
 
   abbrev pub firstBroken : Option ℕ
-  firstBroken = first (λ i. isBroken e xs (rowAt T M ns i)) (length (rowsOf T M ns)) 0
+  firstBroken = first (λ i. isBroken e xs (rowAt T M L ns i)) (length (rowsOf T M L ns)) 0
 
   -- row i and its shortfall
   abbrev pub brokenAt : ℕ → Verdict
-  brokenAt i = broken i (shortfall xs (rowAt T M ns i))
+  brokenAt i = broken i (shortfall xs (rowAt T M L ns i))
 
   unfoldable pub verdict : Verdict
-  verdict = orElse firstOutside outside (orElse firstNotBinary not-binary (orElse firstBroken brokenAt (passed (length (rowsOf T M ns)) (rootError T e ns))))
+  verdict =
+      orElse firstOutside outside (orElse firstNotBinary not-binary (orElse firstBroken brokenAt (passed (length (rowsOf T M L ns)) (rootError T L e ns))))
 
 -- ---- it is the verdict
 
@@ -114,63 +115,64 @@ search-none : (P : ℕ → Type 0) (o : Option ℕ) → Search P o → None P �
 search-none P none s h = refl
 search-none P (some k) s h = absurd (h k (s .holds))
 
-module _ (T M e : ℕ) (ns : List Node) (xs : List ℤ) where
+module _ (T M L e : ℕ) (ns : List Node) (xs : List ℤ) where
   abbrev P₁ : ℕ → Type 0
-  P₁ = OutsideAt T M e ns xs
+  P₁ = OutsideAt T M L e ns xs
 
   abbrev P₂ : ℕ → Type 0
-  P₂ = NotBinaryAt T M e ns xs
+  P₂ = NotBinaryAt T M L e ns xs
 
   abbrev P₃ : ℕ → Type 0
-  P₃ = BrokenAt T M e ns xs
+  P₃ = BrokenAt T M L e ns xs
 
-  outside-found : Search P₁ (firstOutside T M e ns xs)
+  outside-found : Search P₁ (firstOutside T M L e ns xs)
   outside-found =
       searched P₁ (λ v. isOutside e (valueAt xs v)) (length xs)
       (λ v. (λ h. (h .0, outside-iff e (valueAt xs v) .0 (h .1)), λ h. (h .0, outside-iff e (valueAt xs v) .1 (h .1))))
-      (firstOutside T M e ns xs) (first-found (λ v. isOutside e (valueAt xs v)) (length xs) 0)
+      (firstOutside T M L e ns xs) (first-found (λ v. isOutside e (valueAt xs v)) (length xs) 0)
 
-  not-binary-found : Search P₂ (firstNotBinary T M e ns xs)
+  not-binary-found : Search P₂ (firstNotBinary T M L e ns xs)
   not-binary-found =
       searched P₂ (λ v. isNotBinary e (valueAt xs v)) (M * T)
       (λ v. (λ h. (h .0, not-binary-iff e (valueAt xs v) .0 (h .1)), λ h. (h .0, not-binary-iff e (valueAt xs v) .1 (h .1))))
-      (firstNotBinary T M e ns xs) (first-found (λ v. isNotBinary e (valueAt xs v)) (M * T) 0)
+      (firstNotBinary T M L e ns xs) (first-found (λ v. isNotBinary e (valueAt xs v)) (M * T) 0)
 
-  broken-found : Search P₃ (firstBroken T M e ns xs)
+  broken-found : Search P₃ (firstBroken T M L e ns xs)
   broken-found =
-      searched P₃ (λ i. isBroken e xs (rowAt T M ns i)) (length (rowsOf T M ns))
-      (λ i. let iff = broken-iff e xs (rowAt T M ns i) in (λ h. (h .0, iff .0 (h .1)), λ h. (h .0, iff .1 (h .1))))
-      (firstBroken T M e ns xs) (first-found (λ i. isBroken e xs (rowAt T M ns i)) (length (rowsOf T M ns)) 0)
+      searched P₃ (λ i. isBroken e xs (rowAt T M L ns i)) (length (rowsOf T M L ns))
+      (λ i. let iff = broken-iff e xs (rowAt T M L ns i) in (λ h. (h .0, iff .0 (h .1)), λ h. (h .0, iff .1 (h .1))))
+      (firstBroken T M L e ns xs) (first-found (λ i. isBroken e xs (rowAt T M L ns i)) (length (rowsOf T M L ns)) 0)
 
-  no-outside : None P₁ → firstOutside T M e ns xs ≡ none
-  no-outside h = search-none P₁ (firstOutside T M e ns xs) outside-found h
+  no-outside : None P₁ → firstOutside T M L e ns xs ≡ none
+  no-outside h = search-none P₁ (firstOutside T M L e ns xs) outside-found h
 
-  no-not-binary : None P₂ → firstNotBinary T M e ns xs ≡ none
-  no-not-binary h = search-none P₂ (firstNotBinary T M e ns xs) not-binary-found h
+  no-not-binary : None P₂ → firstNotBinary T M L e ns xs ≡ none
+  no-not-binary h = search-none P₂ (firstNotBinary T M L e ns xs) not-binary-found h
 
   -- of a table whose nodes are good, which has one error figure for each variable
-  module _ (good : NodesGood M ns) (0<N : 1 ≤ length ns) (0<T : 1 ≤ T) where
-    all-hold : None P₁ → None P₂ → None P₃ → Judged T M e ns xs (passed (length (rowsOf T M ns)) (rootError T e ns))
+  module _ (good : NodesGood M ns) (0<N : 1 ≤ length ns) (loop : LoopAllowed T L) where
+    all-hold : None P₁ → None P₂ → None P₃ → Judged T M L e ns xs (passed (length (rowsOf T M L ns)) (rootError T L e ns))
     all-hold p q r =
-        let figures = figures-exist T M e ns good in
-        subst (λ (k : ℕ). Judged T M e ns xs (passed (length (rowsOf T M ns)) k)) (root-figure T M e ns good (figureOf T M e ns good) figures 0<N 0<T)
-        (is-passed p q r figures)
+        let figures = figures-exist T M L e ns loop good in
+        subst (λ (k : ℕ). Judged T M L e ns xs (passed (length (rowsOf T M L ns)) k))
+        (root-figure T M L e ns loop good (figureOf T M L e ns loop good) figures 0<N) (is-passed p q r figures)
 
-    pub verdict-judged : Judged T M e ns xs (verdict T M e ns xs)
+    pub verdict-judged : Judged T M L e ns xs (verdict T M L e ns xs)
     unfolding verdict
-    verdict-judged = go (firstOutside T M e ns xs) (firstNotBinary T M e ns xs) (firstBroken T M e ns xs) outside-found not-binary-found broken-found
+    verdict-judged = go (firstOutside T M L e ns xs) (firstNotBinary T M L e ns xs) (firstBroken T M L e ns xs) outside-found not-binary-found broken-found
       where
         go : (a b c : Option ℕ) → Search P₁ a → Search P₂ b → Search P₃ c →
-            Judged T M e ns xs (orElse a outside (orElse b not-binary (orElse c (brokenAt T M e ns xs) (passed (length (rowsOf T M ns)) (rootError T e ns)))))
+            Judged T M L e ns xs
+            (orElse a outside (orElse b not-binary (orElse c (brokenAt T M L e ns xs) (passed (length (rowsOf T M L ns)) (rootError T L e ns)))))
         go (some v) b c p q r = is-outside p
         go none (some v) c p q r = is-not-binary p q
         go none none (some i) p q r = is-broken p q r
         go none none none p q r = all-hold p q r
 
-    pub judged-verdict : {v : Verdict} → Judged T M e ns xs v → verdict T M e ns xs ≡ v
+    pub judged-verdict : {v : Verdict} → Judged T M L e ns xs v → verdict T M L e ns xs ≡ v
     unfolding verdict
-    judged-verdict (is-outside {v} h) = rw (search-lowest P₁ (firstOutside T M e ns xs) v outside-found h) refl
-    judged-verdict (is-not-binary {v} p h) = rw (no-outside p, search-lowest P₂ (firstNotBinary T M e ns xs) v not-binary-found h) refl
-    judged-verdict (is-broken {i} p q h) = rw (no-outside p, no-not-binary q, search-lowest P₃ (firstBroken T M e ns xs) i broken-found h) refl
+    judged-verdict (is-outside {v} h) = rw (search-lowest P₁ (firstOutside T M L e ns xs) v outside-found h) refl
+    judged-verdict (is-not-binary {v} p h) = rw (no-outside p, search-lowest P₂ (firstNotBinary T M L e ns xs) v not-binary-found h) refl
+    judged-verdict (is-broken {i} p q h) = rw (no-outside p, no-not-binary q, search-lowest P₃ (firstBroken T M L e ns xs) i broken-found h) refl
     judged-verdict (is-passed {error} p q r figures) =
-        rw (no-outside p, no-not-binary q, search-none P₃ (firstBroken T M e ns xs) broken-found r, root-figure T M e ns good error figures 0<N 0<T) refl
+        rw (no-outside p, no-not-binary q, search-none P₃ (firstBroken T M L e ns xs) broken-found r, root-figure T M L e ns loop good error figures 0<N) refl

@@ -1,4 +1,4 @@
--- Windows of request N4, worked by hand, as one list with one theorem.
+-- Windows of request N4, worked by hand, as one list with one theorem; L is T.
 use mathlib.Core.Path.{_≡_, refl}
 use mathlib.Core.List.{List, [], _∷_}
 use Prim.Native.Nat.{ℕ}
@@ -25,8 +25,8 @@ pub data Line : Type 0 where
 
 abbrev pub Shown : Line → Type 0
 Shown (reads M text room gives) = readOutcome M text room ≡ gives
-Shown (truths T M text run gives) = written (evaluateOutcome T M (table M text) run 128) ≡ gives
-Shown (rows T M text count gives) = rowsOutcome T M (table M text) 65536 ≡ answered (wrote count gives)
+Shown (truths T M text run gives) = written (evaluateOutcome T M T (table M text) run 128) ≡ gives
+Shown (rows T M text count gives) = rowsOutcome T M T (table M text) 65536 ≡ answered (wrote count gives)
 
 abbrev pub lines : List Line
 lines =

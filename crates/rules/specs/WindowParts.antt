@@ -1,59 +1,66 @@
 -- A window's rows by the variables of its slots, and their records as parts one after the other: a loop over the slots writes them.
 use mathlib.Core.Path.{_≡_, refl, sym, ap, ap₂, _∙_}
-use mathlib.Core.Bool.{Bool, true, false, _&&_}
-use mathlib.Core.List.{List, [], _∷_, _++_, map, append-nil}
-use Prim.Native.Nat.{ℕ, zero, suc, _+_, _-_, _≤_, _<_}
+use mathlib.Core.Bool.{true}
+use mathlib.Core.List.{List, [], _∷_, _++_, map}
+use Prim.Native.Nat.{ℕ, zero, suc, _+_, _-_, _≤_, _<_, min}
+use native.Mathlib.Decide.{decLt}
 use native.Mathlib.Omega.{arith}
-use lib.Dec.{leb}
-use borrow.Author.Tests.{le-leb, lt-leb}
 use lib.ListN.{length-map}
 use lib.IntN.{pos, negℤ}
 use Rattle.lists.specs.Flat.{flat, flat-zero, flat-first}
 use Rattle.lists.specs.Tabulate.{tabulate}
-use Rattle.lists.specs.Passing.{passing, passing-append, passing-none, passing-all}
+use Rattle.lists.specs.Passing.{inRanges, passing-ranges}
+use Rattle.rules.specs.Quantities.{LoopAllowed}
 use Rattle.rules.specs.Rule.{Window}
 use Rattle.rules.specs.Rule.Window.{within, throughout}
-use Rattle.rules.specs.Truth.{slotOf}
 use Rattle.rules.specs.Rows.{Term, Row, plus, minus, ge, termBytes, termsBytes, rowBytes, rowsBytes, inWindow, windowSlots, windowRows}
-use Rattle.rules.specs.Windows.{between-ends, window-test}
+use Rattle.rules.specs.Slots.{slot-pos, slot-le}
+use Rattle.rules.specs.Windows.{start, end, in-plain, in-wrapped, in-neither}
 
--- ---- which slots they are: those from the slot of one end to that of the other
+-- ---- which slots they are: one range, or two
 
-module _ (T t a b : ℕ) (ends : a ≤ b) (0<T : 1 ≤ T) (0<t : 1 ≤ t) where
-  abbrev low : ℕ
-  low = slotOf T (t + a)
+module _ (T L t a b : ℕ) (loop : LoopAllowed T L) (ends : a ≤ b) (0<t : 1 ≤ t) where
+  abbrev x : ℕ
+  x = start T L t a b loop ends
 
-  abbrev high : ℕ
-  high = slotOf T (t + b)
+  abbrev y : ℕ
+  y = end T L t a b loop ends
 
-  looks : (s : ℕ) → inWindow T t a b s ≡ between-ends T t a b s ends
-  looks s = window-test T t a b s ends
+  bounds : (1 ≤ x) × (x ≤ T)
+  bounds = (slot-pos T L loop (t + a) (omega arith), slot-le T L loop (t + a))
 
-  inside : (s : ℕ) → low ≤ s → s ≤ high → inWindow T t a b s ≡ true
-  inside s l h = looks s ∙ rw (le-leb low s l, le-leb s high h) refl
+  -- the window ends by slot T
+  pub window-plain : y ≤ T → windowSlots T L t a b ≡ tabulate (y - x + 1 + 0) (inRanges x (y - x + 1) 0)
+  window-plain h =
+      let neither = in-neither T L t a b loop ends in
+      passing-ranges (inWindow T L t a b) T x (y - x + 1) 0 0 (bounds .0) (omega arith)
+      (λ s u v. in-plain T L t a b loop ends s u (omega arith) (omega arith)) (λ s u v. absurd (omega arith))
+      (λ s u v. neither s (λ p. omega (arith, p)) (λ p. omega (arith, p))) (λ s u v. absurd (omega arith))
+      (λ s u v. neither s (λ p. omega (arith, p)) (λ p. omega (arith, p)))
 
-  below : (s : ℕ) → s < low → inWindow T t a b s ≡ false
-  below s l = looks s ∙ rw (lt-leb low s l) refl
-
-  above : (s : ℕ) → high < s → inWindow T t a b s ≡ false
-  above s h = looks s ∙ go (leb low s) (lt-leb s high h)
+  -- it goes on from slot L, and reaches its own first slot, or the one before it
+  pub window-joined : T < y → x ≤ L + (y - T) → windowSlots T L t a b ≡ tabulate (T + 1 - min L x + 0) (inRanges (min L x) (T + 1 - min L x) 0)
+  window-joined h g =
+      let neither = in-neither T L t a b loop ends in
+      passing-ranges (inWindow T L t a b) T (min L x) (T + 1 - min L x) 0 0 (omega (arith, bounds, loop)) (omega (arith, bounds))
+      (λ s u v. inside s u (omega (arith, bounds)) (decLt s x)) (λ s u v. absurd (omega arith))
+      (λ s u v. neither s (λ p. omega (arith, p)) (λ p. omega (arith, p))) (λ s u v. absurd (omega arith))
+      (λ s u v. absurd (omega (arith, bounds)))
     where
-      go : (x : Bool) → leb s high ≡ false → (x && leb s high) ≡ false
-      go true e = e
-      go false e = refl
+      inside : (s : ℕ) → min L x ≤ s → s ≤ T → Dec (s < x) → inWindow T L t a b s ≡ true
+      inside s u v (yes l) = in-wrapped T L t a b loop ends s (omega arith) (omega arith) v
+      inside s u v (no l) = in-plain T L t a b loop ends s (omega arith) (omega arith) v
 
-  pub window-range : windowSlots T t a b ≡ tabulate (high - low + 1) (λ i. low + i)
-  window-range =
-      let h = inWindow T t a b in
-      let k = high - low + 1 in
-      let e : T ≡ low - 1 + (k + (T - high)) = omega arith in
-      let f : 1 + (low - 1) ≡ low = omega arith in
-      ap (λ (n : ℕ). passing h n 1) e
-      ∙ passing-append h (low - 1) (k + (T - high)) 1
-      ∙ ap₂ _++_ (passing-none h (low - 1) 1 (λ s u v. below s (omega arith)))
-      (ap (passing h (k + (T - high))) f ∙ passing-append h k (T - high) low
-      ∙ ap₂ _++_ (passing-all h k low (λ s u v. inside s u (omega arith))) (passing-none h (T - high) (low + k) (λ s u v. above s (omega arith))))
-      ∙ append-nil _
+  -- or does not reach them
+  pub window-parted : T < y → L + (y - T) < x → windowSlots T L t a b ≡ tabulate (y - T + (T + 1 - x)) (inRanges L (y - T) (x - (L + (y - T))))
+  window-parted h g =
+      let neither = in-neither T L t a b loop ends in
+      passing-ranges (inWindow T L t a b) T L (y - T) (x - (L + (y - T))) (T + 1 - x) (loop .0) (omega (arith, bounds))
+      (λ s u v. in-wrapped T L t a b loop ends s u v (omega (arith, bounds)))
+      (λ s u v. in-plain T L t a b loop ends s (omega arith) (omega (arith, bounds)) (omega (arith, bounds)))
+      (λ s u v. neither s (λ p. omega (arith, p)) (λ p. omega (arith, p)))
+      (λ s u v. neither s (λ p. omega (arith, p)) (λ p. omega (arith, p)))
+      (λ s u v. absurd (omega (arith, bounds)))
 
 -- ---- the rows by the variables
 

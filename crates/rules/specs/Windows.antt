@@ -1,46 +1,70 @@
 -- Windows, computed: which slots they look at, and how long their rows are.
-use mathlib.Core.Path.{_≡_, refl, ap, _∙_}
-use mathlib.Core.Bool.{Bool, true, false, _&&_}
-use mathlib.Core.Logic.{_↔_}
+use mathlib.Core.Path.{_≡_, refl, sym, ap, _∙_}
+use mathlib.Core.Bool.{true, false}
 use mathlib.Core.List.{List, [], _∷_, _++_, map}
 use Prim.Native.Nat.{ℕ, _+_, _-_, _*_, _≤_, _<_}
 use native.Mathlib.Decide.{decLt}
 use native.Mathlib.Omega.{arith}
-use lib.Dec.{T as Is, leb, leb→le, le→leb}
 use lib.IntN.{pos, negℤ}
 use lib.ListN.{length, length-append, length-map}
-use Rattle.lists.specs.Tests.{and-left, and-right, and-both, same-tests}
+use Rattle.lists.specs.Tests.{is-true, is-false}
+use Rattle.rules.specs.Quantities.{LoopAllowed}
 use Rattle.rules.specs.Rule.{Window}
 use Rattle.rules.specs.Rule.Window.{within, throughout}
 use Rattle.rules.specs.Truth.{slotOf}
+use Rattle.rules.specs.Slots.{slot-le, slot-is, slot-ahead, slot-past, slot-low, slot-high}
 use Rattle.rules.specs.Rows.{Row, rowBytes, rowsBytes, plus, minus, ge, inWindow, windowRows}
 use Rattle.rules.specs.RowParts.{rowsBytes-append}
 use Rattle.rules.specs.RowRecords.{rowLength, length-row}
 use Rattle.rules.specs.Evaluation.{window-at, at-window}
 
--- ---- a slot is one of the window where it stands between the slots of its ends
+-- ---- a slot is one of the window where the times up to T have it, or those after T, which go on from slot L
 
-module _ (T t a b s : ℕ) (ends : a ≤ b) where
-  abbrev pub between-ends : Bool
-  between-ends = leb (slotOf T (t + a)) s && leb s (slotOf T (t + b))
+module _ (T L t a b : ℕ) (loop : LoopAllowed T L) (ends : a ≤ b) where
+  -- the slot that the window looks at first, and how far it goes
+  abbrev pub start : ℕ
+  start = slotOf T L (t + a)
 
-  to-ends : Is (inWindow T t a b s) → Is between-ends
-  to-ends x =
-      let d = at-window T a b t s x in
-      and-both (leb (slotOf T (t + a)) s) (leb s (slotOf T (t + b))) (le→leb (slotOf T (t + a)) s (omega (arith, d .1, d .3))) (le→leb s (slotOf T (t + b)) (omega (arith, d .2, d .3)))
+  abbrev pub end : ℕ
+  end = start + (b - a)
 
-  from-ends : Is between-ends → Is (inWindow T t a b s)
-  from-ends x =
-      let l = leb→le (slotOf T (t + a)) s (and-left (leb (slotOf T (t + a)) s) (leb s (slotOf T (t + b))) x) in
-      let u = leb→le s (slotOf T (t + b)) (and-right (leb (slotOf T (t + a)) s) (leb s (slotOf T (t + b))) x) in
-      go l u (decLt s T)
+  from-start : (i : ℕ) → slotOf T L (t + (a + i)) ≡ slotOf T L (start + i)
+  from-start i = let e : t + (a + i) ≡ t + a + i = omega arith in ap (slotOf T L) e ∙ sym (slot-ahead T L loop (t + a) i)
+
+  slot-in : (s i : ℕ) → i ≤ b - a → slotOf T L (start + i) ≡ s → inWindow T L t a b s ≡ true
+  slot-in s i h e =
+      is-true (inWindow T L t a b s) (rw (from-start i ∙ e) at (window-at T L a b t (a + i) (omega arith) (omega arith)))
+
+  pub in-plain : (s : ℕ) → start ≤ s → s ≤ end → s ≤ T → inWindow T L t a b s ≡ true
+  in-plain s l h u =
+      let e : start + (s - start) ≡ s = omega arith in
+      slot-in s (s - start) (omega arith) (ap (slotOf T L) e ∙ slot-is T L loop s u)
+
+  pub in-wrapped : (s : ℕ) → L ≤ s → s < L + (end - T) → s ≤ T → inWindow T L t a b s ≡ true
+  in-wrapped s l h u =
+      let f = slot-le T L loop (t + a) in
+      let e : start + (T + 1 + (s - L) - start) ≡ T + 1 + (s - L) = omega arith in
+      let g : L + (s - L) ≡ s = omega arith in
+      slot-in s (T + 1 + (s - L) - start) (omega arith)
+      (ap (slotOf T L) e ∙ slot-past T L loop (s - L) ∙ ap (slotOf T L) g ∙ slot-is T L loop s u)
+
+  -- and no other
+  pub in-neither : (s : ℕ) → ((start ≤ s) × (s ≤ end) → ⊥) → ((L ≤ s) × (s < L + (end - T)) → ⊥) → inWindow T L t a b s ≡ false
+  in-neither s f g = is-false (inWindow T L t a b s) (λ x.
+      let d = at-window T L a b t s x in
+      let i = d .0 - a in
+      let e : a + i ≡ d .0 = omega (arith, d .1) in
+      let is : slotOf T L (start + i) ≡ s = sym (from-start i) ∙ ap (λ (j : ℕ). slotOf T L (t + j)) e ∙ d .3 in
+      let few : i ≤ b - a = omega (arith, d .2) in
+      go i few is (decLt T (start + i)))
     where
-      go : slotOf T (t + a) ≤ s → s ≤ slotOf T (t + b) → Dec (s < T) → Is (inWindow T t a b s)
-      go l u (yes h) = let e : slotOf T (t + (s - t)) ≡ s = omega arith in rw e at (window-at T a b t (s - t) (omega arith) (omega arith))
-      go l u (no h) = let e : slotOf T (t + b) ≡ s = omega arith in rw e at (window-at T a b t b ends (omega arith))
-
-  pub window-test : inWindow T t a b s ≡ between-ends
-  window-test = same-tests (inWindow T t a b s) between-ends (to-ends, from-ends)
+      go : (i : ℕ) → i ≤ b - a → slotOf T L (start + i) ≡ s → Dec (T < start + i) → ⊥
+      go i few is (no h) = let p = slot-is T L loop (start + i) (omega arith) in f (omega (arith, is, p), omega (arith, is, p))
+      go i few is (yes h) =
+          let j = start + i - (T + 1) in
+          let e : start + i ≡ T + 1 + j = omega arith in
+          let p : slotOf T L (L + j) ≡ s = sym (slot-past T L loop j) ∙ ap (slotOf T L) (sym e) ∙ is in
+          g (omega (arith, slot-low T L loop j, p), omega (arith, slot-high T L loop (L + j), p))
 
 -- ---- the bytes of a window's rows, by how many slots it has
 

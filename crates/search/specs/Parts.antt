@@ -11,8 +11,8 @@ use Rattle.slotcheck.specs.declared.Search.{Search}
 use Rattle.slotcheck.specs.declared.Search.the-variants.{Clear}
 use Rattle.slotcheck.specs.Searches.{tested, tested-append, tested-one, next}
 
-pub all-tested : (T M : ℕ) (ns : List Node) (e : ℕ) (f : Row → ℤ) (n v : ℕ) {s : Search} → length ns ≡ n → s ≡ tested e f (Clear 0) (rowsTo T M ns n) → v ≡ slack T M (n - 1) 1 →
-    next e f s (eq (plus v ∷ []) (pos 1)) ≡ tested e f (Clear 0) (rowsOf T M ns)
-all-tested T M ns e f n v {s} k p q =
-    rw (goal-is T M ns n k q, p, all-parts T M ns n k)
-    (sym (tested-append e f (Clear 0) (slackRows T M ns) (goalRow T M ns ∷ []) ∙ tested-one e f _ (goalRow T M ns)))
+pub all-tested : (T M L : ℕ) (ns : List Node) (e : ℕ) (f : Row → ℤ) (n v : ℕ) {s : Search} → length ns ≡ n → s ≡ tested e f (Clear 0) (rowsTo T M L ns n) →
+    v ≡ slack T M (n - 1) 1 → next e f s (eq (plus v ∷ []) (pos 1)) ≡ tested e f (Clear 0) (rowsOf T M L ns)
+all-tested T M L ns e f n v {s} k p q =
+    rw (goal-is T M L ns n k q, p, all-parts T M L ns n k)
+    (sym (tested-append e f (Clear 0) (slackRows T M L ns) (goalRow T M ns ∷ []) ∙ tested-one e f _ (goalRow T M ns)))

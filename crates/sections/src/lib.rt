@@ -1,32 +1,31 @@
 // The sections of an MPS page but COLUMNS.
 use lines::Name;
 use rowlines::Text;
-ghost use mathlib.Core.Path.{_≡_};
 ghost use Prim.Native.Nat.{_+_, _≤_, _<_};
 ghost use Rattle.rules.specs.Rows.{rowsOf};
-ghost use Rattle.rules.specs.TableTest.{recordCount, nodesIn};
+ghost use Rattle.rules.specs.TableTest.{nodesIn};
 ghost use Rattle.table.specs.Checks.{Ready};
 ghost use Rattle.lines.specs.Sent.{Sent};
 ghost use Rattle.mps.specs.Page.{rowSection, rightSection, boundLine, boundSection};
 
 // NAME and ROWS: the free row, and a line for each row.
-pub fn put_rows(out: &mut [u8], at: usize, table: &[u8], n: usize, t: usize, m: usize) -> usize
-    requires { ⌜ (at ≤ 1099480000000) × Ready t m (now table) × (n ≡ recordCount (now table)) ⌝ }
-    ensures { λ r. ⌜ Sent at (rowSection (rowsOf t m (nodesIn (now (table .entry))))) (now (out .entry)) (now (out .exit)) r × (r ≤ at + 21400000) ⌝ }
+pub fn put_rows(out: &mut [u8], at: usize, table: &[u8], t: usize, m: usize, l: usize) -> usize
+    requires { ⌜ (at ≤ 1099300000000) × Ready t m l (now table) ⌝ }
+    ensures { λ r. ⌜ Sent at (rowSection (rowsOf t m l (nodesIn (now (table .entry))))) (now (out .entry)) (now (out .exit)) r × (r ≤ at + 42700000) ⌝ }
 {
     let rows = lines::put_text(out, at, b"NAME\n");
     let free = lines::put_text(out, rows, b"ROWS\n");
     let first = lines::put_type_line(out, free, b'N', Name::Cost);
-    nodelines::put_all(out, first, Text::Typed, table, n, t, m)
+    nodelines::put_all(out, first, Text::Typed, table, t, m, l)
 }
 
 // RHS: the right sides that are not 0.
-pub fn put_rights(out: &mut [u8], at: usize, table: &[u8], n: usize, t: usize, m: usize) -> usize
-    requires { ⌜ (at ≤ 1099480000000) × Ready t m (now table) × (n ≡ recordCount (now table)) ⌝ }
-    ensures { λ r. ⌜ Sent at (rightSection (rowsOf t m (nodesIn (now (table .entry))))) (now (out .entry)) (now (out .exit)) r × (r ≤ at + 21400000) ⌝ }
+pub fn put_rights(out: &mut [u8], at: usize, table: &[u8], t: usize, m: usize, l: usize) -> usize
+    requires { ⌜ (at ≤ 1099300000000) × Ready t m l (now table) ⌝ }
+    ensures { λ r. ⌜ Sent at (rightSection (rowsOf t m l (nodesIn (now (table .entry))))) (now (out .entry)) (now (out .exit)) r × (r ≤ at + 42700000) ⌝ }
 {
     let first = lines::put_text(out, at, b"RHS\n");
-    nodelines::put_all(out, first, Text::Right, table, n, t, m)
+    nodelines::put_all(out, first, Text::Right, table, t, m, l)
 }
 
 // The bound of a variable; the first ones are the atoms'.

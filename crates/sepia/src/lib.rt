@@ -17,7 +17,7 @@ use words::FirstSlot;
 pub extern "C" fn sepia_version() -> u32
     ensures { λ r. ⌜ r ≡ version ⌝ }
 {
-    7
+    8
 }
 
 // A refusal's number, or 0 and the result.
@@ -58,13 +58,14 @@ pub extern "C" fn sepia_evaluate(
     table: &[u8],
     t: usize,
     m: usize,
+    l: usize,
     run: &[u16],
     out: &mut [u64],
 ) -> SepiaAnswer
-    ensures { λ r. ⌜ r ≡ inC (result (evaluateOutcome t m (now (table .entry)) (now (run .entry)) (length (now (out .entry))))) ⌝ }
-    ensures { λ _. ⌜ now (out .exit) ≡ buffer (evaluateOutcome t m (now (table .entry)) (now (run .entry)) (length (now (out .entry)))) (now (out .entry)) ⌝ }
+    ensures { λ r. ⌜ r ≡ inC (result (evaluateOutcome t m l (now (table .entry)) (now (run .entry)) (length (now (out .entry))))) ⌝ }
+    ensures { λ _. ⌜ now (out .exit) ≡ buffer (evaluateOutcome t m l (now (table .entry)) (now (run .entry)) (length (now (out .entry)))) (now (out .entry)) ⌝ }
 {
-    plain(evaluator::evaluate(table, t, m, run, out))
+    plain(evaluator::evaluate(table, t, m, l, run, out))
 }
 
 // The first slot at which a truth word has a set bit, and 0 where it has none.
@@ -80,20 +81,32 @@ pub extern "C" fn sepia_first_slot(word: u64) -> u32
 
 // Writes a table's rows.
 #[no_mangle]
-pub extern "C" fn sepia_rows(table: &[u8], t: usize, m: usize, out: &mut [u8]) -> SepiaAnswer
-    ensures { λ r. ⌜ r ≡ inC (result (rowsOutcome t m (now (table .entry)) (length (now (out .entry))))) ⌝ }
-    ensures { λ _. ⌜ now (out .exit) ≡ buffer (rowsOutcome t m (now (table .entry)) (length (now (out .entry)))) (now (out .entry)) ⌝ }
+pub extern "C" fn sepia_rows(
+    table: &[u8],
+    t: usize,
+    m: usize,
+    l: usize,
+    out: &mut [u8],
+) -> SepiaAnswer
+    ensures { λ r. ⌜ r ≡ inC (result (rowsOutcome t m l (now (table .entry)) (length (now (out .entry))))) ⌝ }
+    ensures { λ _. ⌜ now (out .exit) ≡ buffer (rowsOutcome t m l (now (table .entry)) (length (now (out .entry)))) (now (out .entry)) ⌝ }
 {
-    plain(rows::write_rows(table, t, m, out))
+    plain(rows::write_rows(table, t, m, l, out))
 }
 
 // Writes the fixed-column MPS page of a table's rows.
 #[no_mangle]
-pub extern "C" fn sepia_mps(table: &[u8], t: usize, m: usize, out: &mut [u8]) -> SepiaAnswer
-    ensures { λ r. ⌜ r ≡ inC (result (pageOutcome t m (now (table .entry)) (length (now (out .entry))))) ⌝ }
-    ensures { λ _. ⌜ now (out .exit) ≡ buffer (pageOutcome t m (now (table .entry)) (length (now (out .entry)))) (now (out .entry)) ⌝ }
+pub extern "C" fn sepia_mps(
+    table: &[u8],
+    t: usize,
+    m: usize,
+    l: usize,
+    out: &mut [u8],
+) -> SepiaAnswer
+    ensures { λ r. ⌜ r ≡ inC (result (pageOutcome t m l (now (table .entry)) (length (now (out .entry))))) ⌝ }
+    ensures { λ _. ⌜ now (out .exit) ≡ buffer (pageOutcome t m l (now (table .entry)) (length (now (out .entry)))) (now (out .entry)) ⌝ }
 {
-    plain(pages::mps_page(table, t, m, out))
+    plain(pages::mps_page(table, t, m, l, out))
 }
 
 // A refusal's number; or 0, the verdict's number, its value, its error figure and its shortfall.
@@ -178,10 +191,11 @@ pub extern "C" fn sepia_judge(
     table: &[u8],
     t: usize,
     m: usize,
+    l: usize,
     figures: &[i32],
     e: i32,
 ) -> SepiaVerdict
-    ensures { λ r. ⌜ r ≡ verdictInC (judgeOutcome t m (now (table .entry)) (now (figures .entry)) e) ⌝ }
+    ensures { λ r. ⌜ r ≡ verdictInC (judgeOutcome t m l (now (table .entry)) (now (figures .entry)) e) ⌝ }
 {
-    plain_verdict(judge::judge(table, t, m, figures, e))
+    plain_verdict(judge::judge(table, t, m, l, figures, e))
 }

@@ -1,5 +1,4 @@
 pub mod Searches
 pub mod Windows
-pub mod Plain
 pub mod Holding
 pub mod Spreads

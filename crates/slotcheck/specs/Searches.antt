@@ -102,7 +102,8 @@ module _ (e : ℕ) (f : Row → ℤ) where
   unfolding tested
   one-tested t p = record { is = step-next t p; by-many = omega (arith, p .by-one) }
 
-  pub three-tested : {i j k : ℤ} {a b c : Row} {s x y z : Search} → i ≡ f a → j ≡ f b → k ≡ f c → Step e i s x → Step e j x y → Step e k y z → Tested e f s (a ∷ b ∷ c ∷ []) z
+  pub three-tested : {i j k : ℤ} {a b c : Row} {s x y z : Search} → i ≡ f a → j ≡ f b → k ≡ f c → Step e i s x → Step e j x y → Step e k y z →
+      Tested e f s (a ∷ b ∷ c ∷ []) z
   unfolding tested
   three-tested {b = b} {c = c} t u v p q r =
       record {
@@ -115,7 +116,8 @@ module _ (e : ℕ) (f : Row → ℤ) where
   unfolding tested
   four-tested {b = b} {c = c} {d = d} t u v w p q r o =
       record {
-        is = step-next w o ∙ ap (λ (o : Search). next e f o d) (step-next v r ∙ ap (λ (o : Search). next e f o c) (step-next u q ∙ ap (λ (o : Search). next e f o b) (step-next t p)));
+        is = step-next w o ∙ ap (λ (o : Search). next e f o d)
+            (step-next v r ∙ ap (λ (o : Search). next e f o c) (step-next u q ∙ ap (λ (o : Search). next e f o b) (step-next t p)));
         by-many = omega (arith, p .by-one, q .by-one, r .by-one, o .by-one);
       }
 
@@ -127,7 +129,8 @@ module _ (e : ℕ) (f : Row → ℤ) where
       ∙ sym (tested-more e f s (λ i. h i ∷ []) k ∙ tested-one e f (tested e f s (flat (λ i. h i ∷ []) k)) (h k))
 
   -- at most 64 rows, and a last one
-  pub last-tested : (rs : List Row) (a : Row) {d : ℤ} {n : ℕ} {s y x : Search} → y ≡ tested e f s rs → reached y ≤ reached s + n → n ≤ 64 → d ≡ f a → Step e d y x →
+  pub last-tested : (rs : List Row) (a : Row) {d : ℤ} {n : ℕ} {s y x : Search} → y ≡ tested e f s rs → reached y ≤ reached s + n → n ≤ 64 → d ≡ f a →
+      Step e d y x →
       Tested e f s (rs ++ (a ∷ [])) x
   last-tested rs a {s = s} p b h t o =
       record {
@@ -145,6 +148,12 @@ module _ (e : ℕ) (f : Row → ℤ) where
 abbrev pub over : Search → Bool
 over (Clear i) = false
 over (Broken x i) = true
+
+-- one that is not is known by its count
+pub clear-is : (x : Search) → over x ≡ false → Clear (reached x) ≡ x
+unfolding reached
+clear-is (Clear i) o = refl
+clear-is (Broken x i) o = let z : _≡_ {A = ℕ} 0 1 = cc in absurd (omega arith)
 
 stays : (e : ℕ) (f : Row → ℤ) (x : Search) (rs : List Row) → over x ≡ true → tested e f x rs ≡ x
 stays e f (Broken x i) rs o = stuck e f i x rs
@@ -198,7 +207,8 @@ module _ (e : ℕ) (f : Row → ℤ) (d : Row) where
     where
       go : (b : Bool) → isShort e (f r) ≡ b → getD l (length p) d ≡ r → length (p ++ (r ∷ [])) ≡ suc (length p) →
           broken (tested e f (Clear (length (p ++ (r ∷ [])))) rs) ≡ first (breaks l) (length rs) (length (p ++ (r ∷ []))) →
-          broken (tested e f (cond (isShort e (f r)) (Broken (f r) (length p)) (Clear (length p + 1))) rs) ≡ cond (breaks l (length p)) (some (length p)) (first (breaks l) (length rs) (suc (length p)))
+          broken (tested e f (cond (isShort e (f r)) (Broken (f r) (length p)) (Clear (length p + 1))) rs) ≡ cond (breaks l (length p)) (some (length p))
+          (first (breaks l) (length rs) (suc (length p)))
       go true t here size rest = rw (here, t) (ap broken (stuck e f (length p) (f r) rs))
       go false t here size rest = rw (here, t, add-one (length p), ← size) rest
 

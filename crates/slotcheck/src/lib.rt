@@ -1,22 +1,19 @@
 // The rows of a node at a slot, tested one after the other.
-use table::Kind;
 use window::Looks;
 ghost use mathlib.Core.Path.{_≡_};
 ghost use mathlib.Core.Bool.{true};
-ghost use mathlib.Core.List.{List};
-ghost use Prim.Native.Nat.{ℕ, _+_, _≤_, _<_};
-ghost use lib.IntN.{natAbs};
+ghost use Prim.Native.Nat.{_+_, _≤_, _<_};
+ghost use lib.IntN.{natAbs, _+ℤ_};
 ghost use lib.ListN.{length};
 ghost use lib.Signed.{_≤ℤ_};
 ghost use Rattle.rules.specs.Rows.{sameRows, notRows, andRows, orRows, impliesRows, untilRows};
 ghost use Rattle.rules.specs.Judge.{shortfall};
 ghost use Rattle.rules.specs.Verdicts.{isShort};
 ghost use Rattle.rules.specs.Rule.Window.{within, throughout};
-ghost use Rattle.row.specs.Kinds.{kindRows, overRows};
-ghost use Rattle.window.specs.Slots.{Few, variables};
-ghost use Rattle.slotcheck.specs.Plain.{lookingOf, Plain};
+ghost use Rattle.row.specs.Kinds.{overRows};
+ghost use Rattle.window.specs.Slots.{Few, variableAt, variables};
 ghost use Rattle.slotcheck.specs.Searches.{Step, Tested, reached, over};
-ghost use Rattle.slotcheck.specs.Spreads.{Spreads};
+ghost use Rattle.slotcheck.specs.Spreads.{Limited, SpreadOf, Joined};
 ghost use Rattle.slotcheck.specs.Holding.{Held, passed};
 
 // A search for a broken row.
@@ -29,7 +26,7 @@ pub enum Search {
 
 // One more row, of this shortfall, is tested, if none was broken.
 pub fn step(state: Search, shortfall: i64, e: u16) -> Search
-    requires { ⌜ (reached state ≤ 1000000) × (natAbs shortfall ≤ 1099511627776) ⌝ }
+    requires { ⌜ (reached state ≤ 1300000) × (natAbs shortfall ≤ 1099511627776) ⌝ }
     ensures { λ r. ⌜ Step e shortfall state r ⌝ }
 {
     match state {
@@ -55,9 +52,19 @@ pub fn is_over(state: Search) -> bool
     }
 }
 
+// How many rows were tested and hold.
+pub fn row_count(state: Search) -> usize
+    ensures { λ r. ⌜ r ≡ reached state ⌝ }
+{
+    match state {
+        Search::Broken(_, i) => i,
+        Search::Clear(i) => i,
+    }
+}
+
 // So many more rows hold, if none was broken.
 fn go_on(state: Search, rows: u16) -> Search
-    requires { ⌜ reached state ≤ 1000000 ⌝ }
+    requires { ⌜ reached state ≤ 1300000 ⌝ }
     ensures { λ r. ⌜ r ≡ passed rows state ⌝ }
 {
     match state {
@@ -80,8 +87,8 @@ fn is_short(shortfall: i64, e: u16) -> bool
 }
 
 // P − p = 0
-fn test_same(state: Search, big: u16, p: u16, figures: &[i32], e: u16) -> Search
-    requires { ⌜ reached state ≤ 900000 ⌝ }
+pub fn test_same(state: Search, big: u16, p: u16, figures: &[i32], e: u16) -> Search
+    requires { ⌜ reached state ≤ 1200000 ⌝ }
     ensures { λ r. ⌜ Tested e (shortfall (now (figures .entry))) state (sameRows big p) r ⌝ }
 {
     let x = sums::figure_of(figures, big);
@@ -90,8 +97,8 @@ fn test_same(state: Search, big: u16, p: u16, figures: &[i32], e: u16) -> Search
 }
 
 // P + p = 1
-fn test_not(state: Search, big: u16, p: u16, figures: &[i32], e: u16) -> Search
-    requires { ⌜ reached state ≤ 900000 ⌝ }
+pub fn test_not(state: Search, big: u16, p: u16, figures: &[i32], e: u16) -> Search
+    requires { ⌜ reached state ≤ 1200000 ⌝ }
     ensures { λ r. ⌜ Tested e (shortfall (now (figures .entry))) state (notRows big p) r ⌝ }
 {
     let x = sums::figure_of(figures, big);
@@ -100,8 +107,8 @@ fn test_not(state: Search, big: u16, p: u16, figures: &[i32], e: u16) -> Search
 }
 
 // p − P ≥ 0; q − P ≥ 0; P − p − q ≥ −1
-fn test_and(state: Search, big: u16, p: u16, q: u16, figures: &[i32], e: u16) -> Search
-    requires { ⌜ reached state ≤ 900000 ⌝ }
+pub fn test_and(state: Search, big: u16, p: u16, q: u16, figures: &[i32], e: u16) -> Search
+    requires { ⌜ reached state ≤ 1200000 ⌝ }
     ensures { λ r. ⌜ Tested e (shortfall (now (figures .entry))) state (andRows big p q) r ⌝ }
 {
     let x = sums::figure_of(figures, big);
@@ -113,8 +120,8 @@ fn test_and(state: Search, big: u16, p: u16, q: u16, figures: &[i32], e: u16) ->
 }
 
 // P − p ≥ 0; P − q ≥ 0; p + q − P ≥ 0
-fn test_or(state: Search, big: u16, p: u16, q: u16, figures: &[i32], e: u16) -> Search
-    requires { ⌜ reached state ≤ 900000 ⌝ }
+pub fn test_or(state: Search, big: u16, p: u16, q: u16, figures: &[i32], e: u16) -> Search
+    requires { ⌜ reached state ≤ 1200000 ⌝ }
     ensures { λ r. ⌜ Tested e (shortfall (now (figures .entry))) state (orRows big p q) r ⌝ }
 {
     let x = sums::figure_of(figures, big);
@@ -126,8 +133,8 @@ fn test_or(state: Search, big: u16, p: u16, q: u16, figures: &[i32], e: u16) -> 
 }
 
 // P + p ≥ 1; P − q ≥ 0; q − p − P ≥ −1
-fn test_implies(state: Search, big: u16, p: u16, q: u16, figures: &[i32], e: u16) -> Search
-    requires { ⌜ reached state ≤ 900000 ⌝ }
+pub fn test_implies(state: Search, big: u16, p: u16, q: u16, figures: &[i32], e: u16) -> Search
+    requires { ⌜ reached state ≤ 1200000 ⌝ }
     ensures { λ r. ⌜ Tested e (shortfall (now (figures .entry))) state (impliesRows big p q) r ⌝ }
 {
     let x = sums::figure_of(figures, big);
@@ -139,8 +146,16 @@ fn test_implies(state: Search, big: u16, p: u16, q: u16, figures: &[i32], e: u16
 }
 
 // P − q ≥ 0; p + q − P ≥ 0; q + P' − P ≥ 0; P − p − P' ≥ −1
-fn test_until(state: Search, big: u16, p: u16, q: u16, next: u16, figures: &[i32], e: u16) -> Search
-    requires { ⌜ reached state ≤ 900000 ⌝ }
+pub fn test_until(
+    state: Search,
+    big: u16,
+    p: u16,
+    q: u16,
+    next: u16,
+    figures: &[i32],
+    e: u16,
+) -> Search
+    requires { ⌜ reached state ≤ 1200000 ⌝ }
     ensures { λ r. ⌜ Tested e (shortfall (now (figures .entry))) state (untilRows big p q next) r ⌝ }
 {
     let x = sums::figure_of(figures, big);
@@ -153,9 +168,9 @@ fn test_until(state: Search, big: u16, p: u16, q: u16, next: u16, figures: &[i32
     step(third, sums::triple_short(1, x, -1, y, -1, w, -1), e)
 }
 
-// Some figures: their sum, the least and the largest.
+// Some figures within limits: their sum, the least and the largest.
 struct Spread {
-    sum: i64,
+    sum: i32,
     least: i32,
     most: i32,
 }
@@ -172,18 +187,26 @@ fn larger(a: i32, b: i32) -> i32
     if a < b { b } else { a }
 }
 
+// The sum of two sums of figures within limits.
+fn together(a: i32, b: i32) -> i32
+    requires { ⌜ (natAbs a ≤ 70400000) × (natAbs b ≤ 70400000) ⌝ }
+    ensures { λ r. ⌜ r ≡ a +ℤ b ⌝ }
+{
+    a + b
+}
+
 // Of the k figures from a place on, without a branch.
 fn spread_of(figures: &[i32], from: usize, k: usize) -> Spread
-    requires { ⌜ (1 ≤ k) × (k ≤ 64) × (from + k ≤ length (now figures)) ⌝ }
-    ensures { λ r. ⌜ Spreads (now (figures .entry)) from k (r .sum) (r .least) (r .most) ⌝ }
+    requires { ⌜ (1 ≤ k) × (k ≤ 64) × (from + k ≤ length (now figures)) × Limited (now figures) ⌝ }
+    ensures { λ r. ⌜ SpreadOf (now (figures .entry)) (λ i. from + i) k r ⌝ }
 {
     let mut least = figures[from];
     let mut most = least;
-    let mut sum: i64 = 0;
+    let mut sum: i32 = 0;
     let mut i: usize = 0;
     while i < k {
         let y = figures[from + i];
-        sum = sums::grown(sum, y);
+        sum = together(sum, y);
         least = lesser(least, y);
         most = larger(most, y);
         i += 1;
@@ -195,6 +218,18 @@ fn spread_of(figures: &[i32], from: usize, k: usize) -> Spread
     }
 }
 
+// Two spreads as one.
+fn joined(a: Spread, b: Spread) -> Spread
+    requires { ⌜ (natAbs (a .sum) ≤ 70400000) × (natAbs (b .sum) ≤ 70400000) ⌝ }
+    ensures { λ r. ⌜ Joined a b r ⌝ }
+{
+    Spread {
+        sum: together(a.sum, b.sum),
+        least: lesser(a.least, b.least),
+        most: larger(a.most, b.most),
+    }
+}
+
 // The part's variable at the first slot of a window.
 fn start(p: u16, looks: Looks) -> usize
     ensures { λ r. ⌜ (r ≡ p + looks .first) × (r < 131072) ⌝ }
@@ -202,47 +237,66 @@ fn start(p: u16, looks: Looks) -> usize
     wide(p) + wide(looks.first)
 }
 
-// All rows of F[a,b] at a slot hold: the one with the largest figure does, and the last one. False tells nothing.
-fn within_holds(big: u16, p: u16, looks: Looks, figures: &[i32], e: u16) -> bool
-    requires { ⌜ Few looks ⌝ }
-    ensures { λ r. ⌜ (r ≡ true → Held e (shortfall (now (figures .entry))) (overRows within big (variables looks p))) ⌝ }
+// The end of the part's variables at the slots of a window.
+fn past(p: u16, looks: Looks) -> usize
+    ensures { λ r. ⌜ r ≡ p + looks .first + looks .count + looks .skip ⌝ }
+{
+    start(p, looks) + wide(looks.count) + wide(looks.skip)
+}
+
+// Of a part's figures at the slots of a window, which are in one range or in two.
+fn window_spread(figures: &[i32], p: u16, looks: Looks) -> Spread
+    requires { ⌜ Few looks × (p + looks .first + looks .count + looks .skip ≤ length (now figures)) × Limited (now figures) ⌝ }
+    ensures { λ r. ⌜ SpreadOf (now (figures .entry)) (variableAt looks p) (looks .count) r ⌝ }
 {
     let from = start(p, looks);
-    let k = wide(looks.count);
-    if figures.len() < from + k {
+    let head = wide(looks.head);
+    let rest = wide(looks.rest);
+    let first = spread_of(figures, from, head);
+    if 0 < rest {
+        let second = spread_of(figures, from + head + wide(looks.skip), rest);
+        return joined(first, second);
+    }
+    first
+}
+
+// All rows of F[a,b] at a slot hold: the one with the largest figure does, and the last one. False tells nothing.
+fn within_holds(big: u16, p: u16, looks: Looks, figures: &[i32], e: u16) -> bool
+    requires { ⌜ Few looks × Limited (now figures) ⌝ }
+    ensures { λ r. ⌜ (r ≡ true → Held e (shortfall (now (figures .entry))) (overRows within big (variables looks p))) ⌝ }
+{
+    if figures.len() < past(p, looks) {
         return false;
     }
     let x = sums::figure_of(figures, big);
-    let seen = spread_of(figures, from, k);
+    let seen = window_spread(figures, p, looks);
     if is_short(sums::pair_short(1, x, -1, seen.most, 0), e) {
         return false;
     }
-    let last = sums::within_sum(seen.sum, x);
+    let last = sums::within_sum(seen.sum as i64, x);
     !is_short(sums::short(0, last.whole), e)
 }
 
 // All rows of G[a,b] at a slot hold: the one with the least figure does, and the last one. False tells nothing.
 fn throughout_holds(big: u16, p: u16, looks: Looks, figures: &[i32], e: u16) -> bool
-    requires { ⌜ Few looks ⌝ }
+    requires { ⌜ Few looks × Limited (now figures) ⌝ }
     ensures { λ r. ⌜ (r ≡ true → Held e (shortfall (now (figures .entry))) (overRows throughout big (variables looks p))) ⌝ }
 {
-    let from = start(p, looks);
-    let k = wide(looks.count);
-    if figures.len() < from + k {
+    if figures.len() < past(p, looks) {
         return false;
     }
     let x = sums::figure_of(figures, big);
-    let seen = spread_of(figures, from, k);
+    let seen = window_spread(figures, p, looks);
     if is_short(sums::pair_short(1, seen.least, -1, x, 0), e) {
         return false;
     }
-    let last = sums::throughout_sum(seen.sum, x);
+    let last = sums::throughout_sum(seen.sum as i64, x);
     !is_short(sums::short(row::less_one(looks.count), last.whole), e)
 }
 
 // The rows of F[a,b] at a slot, row by row.
 fn search_within(state: Search, big: u16, p: u16, looks: Looks, figures: &[i32], e: u16) -> Search
-    requires { ⌜ Few looks × (p ≤ 25600) × (reached state ≤ 900000) ⌝ }
+    requires { ⌜ Few looks × (p ≤ 25600) × (reached state ≤ 1200000) ⌝ }
     ensures { λ r. ⌜ Tested e (shortfall (now (figures .entry))) state (overRows within big (variables looks p)) r ⌝ }
 {
     let k = looks.count;
@@ -272,7 +326,7 @@ fn search_throughout(
     figures: &[i32],
     e: u16,
 ) -> Search
-    requires { ⌜ Few looks × (p ≤ 25600) × (reached state ≤ 900000) ⌝ }
+    requires { ⌜ Few looks × (p ≤ 25600) × (reached state ≤ 1200000) ⌝ }
     ensures { λ r. ⌜ Tested e (shortfall (now (figures .entry))) state (overRows throughout big (variables looks p)) r ⌝ }
 {
     let k = looks.count;
@@ -295,7 +349,7 @@ fn search_throughout(
 
 // P − p(s) ≥ 0 for each slot s of a window; the sum of all p(s), less P, ≥ 0. p is the part's variable at the first slot of all.
 pub fn test_within(state: Search, big: u16, p: u16, looks: Looks, figures: &[i32], e: u16) -> Search
-    requires { ⌜ Few looks × (p ≤ 25600) × (reached state ≤ 900000) ⌝ }
+    requires { ⌜ Few looks × (p ≤ 25600) × (reached state ≤ 1200000) × Limited (now figures) ⌝ }
     ensures { λ r. ⌜ Tested e (shortfall (now (figures .entry))) state (overRows within big (variables looks p)) r ⌝ }
 {
     if within_holds(big, p, looks, figures, e) {
@@ -314,83 +368,12 @@ pub fn test_throughout(
     figures: &[i32],
     e: u16,
 ) -> Search
-    requires { ⌜ Few looks × (p ≤ 25600) × (reached state ≤ 900000) ⌝ }
+    requires { ⌜ Few looks × (p ≤ 25600) × (reached state ≤ 1200000) × Limited (now figures) ⌝ }
     ensures { λ r. ⌜ Tested e (shortfall (now (figures .entry))) state (overRows throughout big (variables looks p)) r ⌝ }
 {
     if throughout_holds(big, p, looks, figures, e) {
         go_on(state, looks.count + 1)
     } else {
         search_throughout(state, big, p, looks, figures, e)
-    }
-}
-
-// Where a kind's rows at a slot look: at that slot and the next, or at some or all slots of a window.
-pub enum Looking {
-    Here,
-    Some,
-    All,
-}
-
-pub fn looks_at(kind: Kind) -> Looking
-    ensures { λ r. ⌜ r ≡ lookingOf kind ⌝ }
-{
-    match kind {
-        Kind::Atom => Looking::Here,
-        Kind::Not => Looking::Here,
-        Kind::And => Looking::Here,
-        Kind::Or => Looking::Here,
-        Kind::Implies => Looking::Here,
-        Kind::Eventually => Looking::Here,
-        Kind::Always => Looking::Here,
-        Kind::Until => Looking::Here,
-        Kind::Within => Looking::Some,
-        Kind::Throughout => Looking::All,
-    }
-}
-
-// Tests the rows of a node without a window at a slot. `big`, `p` and `q` are the variables of the node and its parts
-// there, and `inner` is whether a slot follows.
-pub fn test_slot(
-    state: Search,
-    kind: Kind,
-    inner: bool,
-    big: u16,
-    p: u16,
-    q: u16,
-    figures: &[i32],
-    e: u16,
-) -> Search
-    requires { ⌜ Plain kind × (big < 65535) × (reached state ≤ 900000) ⌝ }
-    ensures { λ r. ⌜ ((vs : List ℕ) → Tested e (shortfall (now (figures .entry))) state (kindRows kind inner big p q vs) r) ⌝ }
-{
-    match kind {
-        Kind::Atom => test_same(state, big, p, figures, e),
-        Kind::Not => test_not(state, big, p, figures, e),
-        Kind::And => test_and(state, big, p, q, figures, e),
-        Kind::Or => test_or(state, big, p, q, figures, e),
-        Kind::Implies => test_implies(state, big, p, q, figures, e),
-        Kind::Eventually => {
-            if inner {
-                test_or(state, big, p, big + 1, figures, e)
-            } else {
-                test_same(state, big, p, figures, e)
-            }
-        }
-        Kind::Always => {
-            if inner {
-                test_and(state, big, p, big + 1, figures, e)
-            } else {
-                test_same(state, big, p, figures, e)
-            }
-        }
-        Kind::Until => {
-            if inner {
-                test_until(state, big, p, q, big + 1, figures, e)
-            } else {
-                test_same(state, big, q, figures, e)
-            }
-        }
-        Kind::Within => state,
-        Kind::Throughout => state,
     }
 }

@@ -1,25 +1,10 @@
 -- The lines of rows, one after the other.
 use mathlib.Core.Path.{_≡_, refl, sym, ap, _∙_}
 use mathlib.Core.List.{List, [], _∷_, _++_, append-nil}
-use Prim.Native.Nat.{ℕ, _+_, _≤_}
+use Prim.Native.Nat.{ℕ, _+_}
 use native.Mathlib.Omega.{arith}
 use Rattle.rules.specs.Rows.{Row}
-use Rattle.table.specs.declared.Kind.{Kind}
-use Rattle.table.specs.declared.Kind.the-variants.{Atom, Not, And, Or, Implies, Eventually, Always, Until, Within, Throughout}
 use Rattle.mps.specs.Page.{eachRow}
-
--- of a kind with a window: what is known of the part's variables at its slots
-abbrev pub Seen : Kind → (P first count : ℕ) → Type 0
-Seen Atom P first count = Unit {0}
-Seen Not P first count = Unit {0}
-Seen And P first count = Unit {0}
-Seen Or P first count = Unit {0}
-Seen Implies P first count = Unit {0}
-Seen Eventually P first count = Unit {0}
-Seen Always P first count = Unit {0}
-Seen Until P first count = Unit {0}
-Seen Within P first count = (1 ≤ count) × (count ≤ 64) × (first + count ≤ P)
-Seen Throughout P first count = (1 ≤ count) × (count ≤ 64) × (first + count ≤ P)
 
 module _ (line : ℕ → Row → List ℕ) (i : ℕ) where
   -- one row; a row before others; three rows

@@ -1,17 +1,44 @@
-// The lines of the rows of a node: at a slot, at all slots; and of all rows of a table.
+// The lines of the rows of a node at a slot.
 use row::Row;
 use rowlines::Text;
 use table::Kind;
+use window::Looks;
+use windowlines::Over;
+ghost use mathlib.Core.Path.{_≡_};
 ghost use mathlib.Core.List.{[], _∷_};
-ghost use Prim.Native.Nat.{_+_, _*_, _-_, _≤_, _<_};
+ghost use Prim.Native.Nat.{_+_, _≤_};
 ghost use Rattle.rules.specs.Rows.{sameRows, notRows, andRows, orRows, impliesRows, untilRows};
 ghost use Rattle.mps.specs.Page.{eachRow};
 ghost use Rattle.row.specs.Meaning.{rowOf};
-ghost use Rattle.row.specs.Kinds.{overRows, kindRows};
-ghost use Rattle.windowlines.specs.Over.{windowBy, run};
-ghost use Rattle.slotlines.specs.Each.{Seen};
+ghost use Rattle.slotlines.specs.Spots.{overOf, spotRows, Seen};
 ghost use Rattle.lines.specs.Sent.{Sent};
 ghost use Rattle.rowlines.specs.Texts.{lineOf, TextFits};
+
+// A node at a slot: its variable there, its parts', and, where something follows (`inner`), that one's. A window looks at some slots; `first` is its
+// part's variable at the first slot of all.
+pub struct Spot {
+    pub kind: Kind,
+    pub inner: bool,
+    pub own: u16,
+    pub left: u16,
+    pub right: u16,
+    pub next: u16,
+    pub first: u16,
+    pub looks: Looks,
+}
+
+// A window's rows at a slot, of F[a,b] where `within`, and otherwise of G[a,b].
+fn over(spot: Spot, within: bool) -> Over
+    ensures { λ r. ⌜ r ≡ overOf spot within ⌝ }
+{
+    let looks = spot.looks;
+    Over {
+        within: within,
+        own: spot.own,
+        left: spot.first,
+        looks: looks,
+    }
+}
 
 // The lines of three rows, from row i on.
 fn put_three(out: &mut [u8], at: usize, text: Text, i: usize, a: Row, b: Row, c: Row) -> usize
@@ -88,88 +115,62 @@ fn put_implies(out: &mut [u8], at: usize, text: Text, i: usize, big: u16, p: u16
 }
 
 // P − q ≥ 0; p + q − P ≥ 0; q + P' − P ≥ 0; P − p − P' ≥ −1
-fn put_until(out: &mut [u8], at: usize, text: Text, i: usize, big: u16, p: u16, q: u16) -> usize
-    requires { ⌜ (at ≤ 1099511600000) × TextFits text × (i + 4 ≤ 1000000) × (big ≤ 30000) ⌝ }
-    ensures { λ r. ⌜ Sent at (eachRow (lineOf text) i (untilRows big p q (big + 1))) (now (out .entry)) (now (out .exit)) r × (r ≤ at + 160) ⌝ }
+fn put_until(out: &mut [u8], at: usize, text: Text, i: usize, spot: Spot) -> usize
+    requires { ⌜ (at ≤ 1099511600000) × TextFits text × (i + 4 ≤ 1000000) ⌝ }
+    ensures { λ r. ⌜ Sent at (eachRow (lineOf text) i (untilRows (spot .own) (spot .left) (spot .right) (spot .next))) (now (out .entry)) (now (out .exit)) r × (r ≤ at + 160) ⌝ }
 {
-    let next = big + 1;
-    let second = rowlines::put_row(out, at, text, i, row::above(big, q));
+    let own = spot.own;
+    let right = spot.right;
+    let next = spot.next;
+    let second = rowlines::put_row(out, at, text, i, row::above(own, right));
     put_three(
         out,
         second,
         text,
         i + 1,
-        row::covered(p, q, big),
-        row::covered(q, next, big),
-        row::forced(big, p, next),
+        row::covered(spot.left, right, own),
+        row::covered(right, next, own),
+        row::forced(own, spot.left, next),
     )
 }
 
-// The rows of a window at a slot: the part's variables at its slots are the `count` from `first` on.
-fn put_window(
-    out: &mut [u8],
-    at: usize,
-    text: Text,
-    i: usize,
-    within: bool,
-    big: u16,
-    first: u16,
-    count: u16,
-) -> usize
-    requires { ⌜ (at ≤ 1099511600000) × TextFits text × (i + 65 ≤ 1000000) × (1 ≤ count) × (count ≤ 64) × (first + count ≤ big) × (big ≤ 30000) ⌝ }
-    ensures { λ r. ⌜ Sent at (eachRow (lineOf text) i (overRows (windowBy within) big (run first count))) (now (out .entry)) (now (out .exit)) r × (r ≤ at + 2600) ⌝ }
+// The lines of the rows of a node at a slot, from row i on.
+pub fn put_slot(out: &mut [u8], at: usize, text: Text, i: usize, spot: Spot) -> usize
+    requires { ⌜ (at ≤ 1099511600000) × TextFits text × (i + 65 ≤ 1000000) × Seen spot ⌝ }
+    ensures { λ r. ⌜ Sent at (eachRow (lineOf text) i (spotRows spot)) (now (out .entry)) (now (out .exit)) r × (r ≤ at + 2600) ⌝ }
 {
-    let own = big as usize;
-    let from = first as usize;
-    windowlines::put_window(out, at, text, i, within, own, from, count as usize)
-}
-
-// The lines of the rows of a node of this kind at a slot, from row i on. `inner` is whether a slot follows. For windows, the part's variables at
-// the slots of the window are the `count` from `first` on.
-pub fn put_slot(
-    out: &mut [u8],
-    at: usize,
-    text: Text,
-    i: usize,
-    kind: Kind,
-    inner: bool,
-    big: u16,
-    p: u16,
-    q: u16,
-    first: u16,
-    count: u16,
-) -> usize
-    requires { ⌜ (at ≤ 1099511600000) × TextFits text × (i + 65 ≤ 1000000) × (big ≤ 30000) × Seen kind big first count ⌝ }
-    ensures { λ r. ⌜ Sent at (eachRow (lineOf text) i (kindRows kind inner big p q (run first count))) (now (out .entry)) (now (out .exit)) r × (r ≤ at + 2600) ⌝ }
-{
+    let kind = spot.kind;
+    let own = spot.own;
+    let left = spot.left;
+    let right = spot.right;
     match kind {
-        Kind::Atom => put_same(out, at, text, i, big, p),
-        Kind::Not => put_not(out, at, text, i, big, p),
-        Kind::And => put_and(out, at, text, i, big, p, q),
-        Kind::Or => put_or(out, at, text, i, big, p, q),
-        Kind::Implies => put_implies(out, at, text, i, big, p, q),
+        Kind::Atom => put_same(out, at, text, i, own, left),
+        Kind::Not => put_not(out, at, text, i, own, left),
+        Kind::And => put_and(out, at, text, i, own, left, right),
+        Kind::Or => put_or(out, at, text, i, own, left, right),
+        Kind::Implies => put_implies(out, at, text, i, own, left, right),
         Kind::Eventually => {
-            if inner {
-                put_or(out, at, text, i, big, p, big + 1)
+            if spot.inner {
+                put_or(out, at, text, i, own, left, spot.next)
             } else {
-                put_same(out, at, text, i, big, p)
+                put_same(out, at, text, i, own, left)
             }
         }
         Kind::Always => {
-            if inner {
-                put_and(out, at, text, i, big, p, big + 1)
+            if spot.inner {
+                put_and(out, at, text, i, own, left, spot.next)
             } else {
-                put_same(out, at, text, i, big, p)
+                put_same(out, at, text, i, own, left)
             }
         }
         Kind::Until => {
-            if inner {
-                put_until(out, at, text, i, big, p, q)
+            if spot.inner {
+                put_until(out, at, text, i, spot)
             } else {
-                put_same(out, at, text, i, big, q)
+                put_same(out, at, text, i, own, right)
             }
         }
-        Kind::Within => put_window(out, at, text, i, true, big, first, count),
-        Kind::Throughout => put_window(out, at, text, i, false, big, first, count),
+        Kind::Within => windowlines::put_window(out, at, text, i, over(spot, true)),
+        Kind::Throughout => windowlines::put_window(out, at, text, i, over(spot, false)),
     }
 }

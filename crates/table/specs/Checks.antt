@@ -16,7 +16,7 @@ use Rattle.rules.specs.Table.{NodeGood, nodeAt}
 use Rattle.rules.specs.TableTest.{good, recordGood, recordCount, nodesIn, good-sound, length-nodesIn}
 use Rattle.answers.specs.Told.{numberOf}
 use Rattle.answers.specs.declared.Refusal.{Refusal}
-use Rattle.answers.specs.declared.Refusal.the-variants.{Slots, Atoms, Table}
+use Rattle.answers.specs.declared.Refusal.the-variants.{Slots, Atoms, Loop, Table}
 use Rattle.table.specs.declared.Checked.{Checked}
 use Rattle.table.specs.declared.Checked.the-variants.{Passed, Refused}
 
@@ -25,9 +25,11 @@ abbrev pub unless : Bool → Checked → Checked → Checked
 unless true r rest = rest
 unless false r rest = r
 
--- refusals 1, 2 and 7: the first that applies
-unfoldable pub checkOf : (T M : ℕ) → List ℕ → Checked
-checkOf T M table = unless (between 1 64 T) (Refused Slots) (unless (between 1 16 M) (Refused Atoms) (unless (good M table) (Refused Table) Passed))
+-- refusals 1, 2, 13 and 7: the first that applies
+unfoldable pub checkOf : (T M L : ℕ) → List ℕ → Checked
+checkOf T M L table =
+    unless (between 1 64 T) (Refused Slots)
+    (unless (between 1 16 M) (Refused Atoms) (unless (between 1 T L) (Refused Loop) (unless (good M table) (Refused Table) Passed)))
 
 -- what is answered after a check
 abbrev pub afterCheck : {A : Type 0} → Checked → Answer A → Answer A
@@ -53,17 +55,20 @@ pub then-passed : (c more : Checked) → andThen c more ≡ Passed → (c ≡ Pa
 then-passed Passed more e = (refl, e)
 then-passed (Refused r) more e = let z : _≡_ {A = ℕ} 0 1 = cc in absurd (omega arith)
 
-pub checked : {A : Type 0} (T M : ℕ) (table : List ℕ) (rest : Answer A) → tableChecked T M table rest ≡ afterCheck (checkOf T M table) rest
+pub checked : {A : Type 0} (T M L : ℕ) (table : List ℕ) (rest : Answer A) → tableChecked T M L table rest ≡ afterCheck (checkOf T M L table) rest
 unfolding tableChecked checkOf
-checked T M table rest =
+checked T M L table rest =
     require-is (between 1 64 T) 1 (Refused Slots) _ rest _ refl
     (require-is (between 1 16 M) 2 (Refused Atoms) _ rest _ refl
-    (require-is (good M table) 7 (Refused Table) Passed rest rest refl refl))
+    (require-is (between 1 T L) 13 (Refused Loop) _ rest _ refl
+    (require-is (good M table) 7 (Refused Table) Passed rest rest refl refl)))
 
 -- what a call may count on
-pub record Ready (T M : ℕ) (table : List ℕ) : Type 0 where
+pub record Ready (T M L : ℕ) (table : List ℕ) : Type 0 where
   pub slots-low : 1 ≤ T
   pub slots-high : T ≤ 64
+  pub loop-low : 1 ≤ L
+  pub loop-high : L ≤ T
   pub atoms-low : 1 ≤ M
   pub atoms-high : M ≤ 16
   pub table-good : good M table ≡ true
@@ -86,19 +91,23 @@ good-whole M table e =
     let t = and-left (eqb (8 * N) (length table) && (leb 1 N && leb N 128)) (all (recordGood M table) N) (rw e tt) in
     sym (eqb→eq (8 * N) (length table) (and-left (eqb (8 * N) (length table)) (leb 1 N && leb N 128) t))
 
-pub ready : (T M : ℕ) (table : List ℕ) → checkOf T M table ≡ Passed → Ready T M table
+pub ready : (T M L : ℕ) (table : List ℕ) → checkOf T M L table ≡ Passed → Ready T M L table
 unfolding checkOf
-ready T M table e =
+ready T M L table e =
     let a = unless-passed (between 1 64 T) Slots _ e in
     let b = unless-passed (between 1 16 M) Atoms _ (a .1) in
-    let c = unless-passed (good M table) Table _ (b .1) .0 in
+    let d = unless-passed (between 1 T L) Loop _ (b .1) in
+    let c = unless-passed (good M table) Table _ (d .1) .0 in
     let t = between-true 1 64 T (a .0) in
     let m = between-true 1 16 M (b .0) in
+    let l = between-true 1 T L (d .0) in
     let g = good-sound M table (rw c tt) in
     let n = length-nodesIn M table in
     record {
       slots-low = t .0;
       slots-high = t .1;
+      loop-low = l .0;
+      loop-high = l .1;
       atoms-low = m .0;
       atoms-high = m .1;
       table-good = c;

@@ -1,4 +1,5 @@
 pub mod Nodes
+pub mod Looping
 pub mod Checks
 pub mod Heights
 pub mod Ends

@@ -1,15 +1,18 @@
 // The node table: reading a node, the table test, and the checks that all calls but read share.
 ghost use mathlib.Core.Path.{_≡_};
-ghost use mathlib.Core.Bool.{_&&_, cond};
-ghost use Prim.Native.Nat.{_+_, _*_, _/_, _<_, max};
-ghost use lib.Dec.{eqb};
+ghost use mathlib.Core.Bool.{_&&_, _||_, cond};
+ghost use Prim.Native.Nat.{_+_, _*_, _/_, _≤_, _<_, max};
+ghost use lib.Dec.{eqb, ltb};
 ghost use lib.ListN.{length, getD};
+ghost use Rattle.rules.specs.Rows as Rows;
+ghost use Rattle.rules.specs.Table.{nodeAt};
 ghost use Rattle.rules.specs.TableTest as TableTest;
-ghost use Rattle.rules.specs.TableTest.{nodeIn, byteAt, nodeGood, someGood, nodeTest, heightTest, recordGood, recordCount};
+ghost use Rattle.rules.specs.TableTest.{nodeIn, byteAt, nodeGood, someGood, nodeTest, heightTest, recordGood, recordCount, nodesIn};
 ghost use Rattle.rules.specs.Outcome.{between};
 ghost use Rattle.table.specs.Nodes.{kindIn, nodeBy, NodeRead};
 ghost use Rattle.table.specs.Ends.{isAtom, isBinary, hasWindow};
 ghost use Rattle.table.specs.Heights.{FirstLow, ChildrenKnown};
+ghost use Rattle.table.specs.Looping.{loopsBy};
 ghost use Rattle.table.specs.Checks.{checkOf};
 
 // The mark of a node record.
@@ -50,6 +53,13 @@ pub struct Node {
 pub enum Checked {
     Passed,
     Refused(answers::Refusal),
+}
+
+// At least one of two tests passes.
+pub fn either(a: bool, b: bool) -> bool
+    ensures { λ r. ⌜ r ≡ (a || b) ⌝ }
+{
+    if a { true } else { b }
 }
 
 // Both tests pass.
@@ -171,7 +181,7 @@ fn has_window(kind: Kind) -> bool
     }
 }
 
-fn pick(first: bool, a: usize, b: usize) -> usize
+pub fn pick(first: bool, a: usize, b: usize) -> usize
     ensures { λ r. ⌜ r ≡ cond first a b ⌝ }
 {
     if first { a } else { b }
@@ -346,9 +356,9 @@ fn within(n: usize, high: usize) -> bool
     both(1 <= n, n <= high)
 }
 
-// The checks that all calls but read make first: refusals 1, 2 and 7.
-pub fn check(table: &[u8], t: usize, m: usize) -> Checked
-    ensures { λ r. ⌜ r ≡ checkOf t m (now (table .entry)) ⌝ }
+// The checks that all calls but read make first: refusals 1, 2, 13 and 7.
+pub fn check(table: &[u8], t: usize, m: usize, l: usize) -> Checked
+    ensures { λ r. ⌜ r ≡ checkOf t m l (now (table .entry)) ⌝ }
 {
     if !within(t, 64) {
         return Checked::Refused(answers::Refusal::Slots);
@@ -356,8 +366,72 @@ pub fn check(table: &[u8], t: usize, m: usize) -> Checked
     if !within(m, 16) {
         return Checked::Refused(answers::Refusal::Atoms);
     }
+    if !within(l, t) {
+        return Checked::Refused(answers::Refusal::Loop);
+    }
     if !good(table, m) {
         return Checked::Refused(answers::Refusal::Table);
     }
     Checked::Passed
+}
+
+// Whether a node of this kind has a second set of slacks where L is below T: F, G and U.
+pub fn loops(kind: Kind) -> bool
+    ensures { λ r. ⌜ r ≡ loopsBy kind ⌝ }
+{
+    match kind {
+        Kind::Atom => false,
+        Kind::Not => false,
+        Kind::And => false,
+        Kind::Or => false,
+        Kind::Implies => false,
+        Kind::Eventually => true,
+        Kind::Always => true,
+        Kind::Until => true,
+        Kind::Within => false,
+        Kind::Throughout => false,
+    }
+}
+
+// Whether node n is of such a kind.
+pub fn loops_at(table: &[u8], n: usize) -> bool
+    requires { ⌜ n < recordCount (now table) ⌝ }
+    ensures { λ r. ⌜ r ≡ Rows.loops (nodeAt (nodesIn (now (table .entry))) n) ⌝ }
+{
+    let read = kind_of(table[8 * n + 2]);
+    match read {
+        KindRead::Known(kind) => loops(kind),
+        KindRead::Unknown => false,
+    }
+}
+
+// A count with one more, if there is one.
+pub fn one_more(count: usize, more: bool) -> usize
+    requires { ⌜ count < 128 ⌝ }
+    ensures { λ r. ⌜ r ≡ cond more (count + 1) count ⌝ }
+{
+    pick(more, count + 1, count)
+}
+
+// How many of the nodes are.
+pub fn looping(table: &[u8]) -> usize
+    requires { ⌜ recordCount (now table) ≤ 128 ⌝ }
+    ensures { λ r. ⌜ (r ≡ Rows.looping (nodesIn (now (table .entry)))) × (r ≤ recordCount (now (table .entry))) ⌝ }
+{
+    let records = count(table);
+    let mut found: usize = 0;
+    let mut n: usize = 0;
+    while n < records {
+        found = one_more(found, loops_at(table, n));
+        n += 1;
+    }
+    found
+}
+
+// How many nodes have V's slacks, of t slots that loop to slot l.
+pub fn kept_count(table: &[u8], t: usize, l: usize) -> usize
+    requires { ⌜ recordCount (now table) ≤ 128 ⌝ }
+    ensures { λ r. ⌜ (r ≡ cond (ltb l t) (Rows.looping (nodesIn (now (table .entry)))) 0) × (r ≤ 128) ⌝ }
+{
+    if l < t { looping(table) } else { 0 }
 }

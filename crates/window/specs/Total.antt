@@ -8,9 +8,9 @@ use lib.ListN.{length, length-append}
 use Rattle.lists.specs.Flat.{flat, flat-zero, flat-more}
 use Rattle.rules.specs.Rows.{windowSlots}
 
-module _ (T a b : ℕ) where
+module _ (T L a b : ℕ) where
   abbrev pub slotsAt : ℕ → List ℕ
-  slotsAt s = windowSlots T (s + 1) a b
+  slotsAt s = windowSlots T L (s + 1) a b
 
   -- from the first k slots
   unfoldable pub totalTo : (k : ℕ) → ℕ
@@ -36,7 +36,8 @@ module _ (T a b : ℕ) where
     flat-to (suc k) =
         let x = length-append (flat f k) (f k) in
         let y = length-append (flat slotsAt k) (slotsAt k) in
-        let z : c * length (flat slotsAt (suc k)) ≡ c * length (flat slotsAt k) + c * length (slotsAt k) = ap (λ (n : ℕ). c * n) y ∙ mul-add c (length (flat slotsAt k)) (length (slotsAt k)) in
+        let z : c * length (flat slotsAt (suc k)) ≡ c * length (flat slotsAt k) + c * length (slotsAt k) =
+        ap (λ (n : ℕ). c * n) y ∙ mul-add c (length (flat slotsAt k)) (length (slotsAt k)) in
         let w : d * suc k ≡ d * k + d = omega arith in
         omega (arith, x, z, w, h k, flat-to k)
 

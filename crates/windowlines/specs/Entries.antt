@@ -3,7 +3,7 @@
 use mathlib.Core.Path.{_≡_, refl, sym, ap, ap₂, _∙_}
 use mathlib.Core.Bool.{Bool, true, false, cond, not}
 use mathlib.Core.List.{List, [], _∷_, _++_, map, append-nil}
-use Prim.Native.Nat.{ℕ, zero, suc, _+_, _-_, _≤_, _<_}
+use Prim.Native.Nat.{ℕ, zero, suc, _+_, _-_, _<_}
 use native.Mathlib.Omega.{arith}
 use lib.Dec.{eqb}
 use borrow.Author.Tests.{ne-eqb, eq-eqb}
@@ -21,7 +21,8 @@ use Rattle.row.specs.Kinds.{overRows}
 use Rattle.lines.specs.Units.{one, unitLine}
 use Rattle.rowlines.specs.Laws.{each-append}
 use Rattle.rowlines.specs.Absent.{Lacks, absent, coefficient-none}
-use Rattle.windowlines.specs.Over.{windowBy, run, pairRow, longRow, over-text, run-text}
+use Rattle.window.specs.Slots.{windowBy}
+use Rattle.windowlines.specs.Over.{pairRow, longRow, over-text, each-text}
 
 -- whether the node's variable has 1 in the rows of one slot each; it has the opposite in the last row, and the parts' have the opposite of it
 abbrev pub ups : Window → Bool
@@ -70,20 +71,17 @@ unfolding numberUnlessZero
 unit-line v i true c e = rw e refl
 unit-line v i false c e = rw e refl
 
-run-others : (v first k : ℕ) → ((j : ℕ) → j < k → first + j ≡ v → ⊥) → Others v (run first k)
-run-others v first k h = go k (λ j. first + j) h
-  where
-    go : (k : ℕ) (f : ℕ → ℕ) → ((j : ℕ) → j < k → f j ≡ v → ⊥) → Others v (tabulate k f)
-    go zero f h = tt
-    go (suc k) f h = (h 0 (omega arith), go k (λ j. f (suc j)) (λ j l. h (suc j) (omega arith)))
+others : (v k : ℕ) (f : ℕ → ℕ) → ((j : ℕ) → j < k → f j ≡ v → ⊥) → Others v (tabulate k f)
+others v zero f h = tt
+others v (suc k) f h = (h 0 (omega arith), others v k (λ j. f (suc j)) (λ j l. h (suc j) (omega arith)))
 
-pub own-text : (i : ℕ) (w : Window) (P first k : ℕ) → first + k ≤ P →
-    flat (λ j. unitLine P (i + j) (ups w)) k ++ unitLine P (i + k) (downs w) ≡ eachRow (entryLine P) i (overRows w P (run first k))
-own-text i w P first k h =
-    let f : ℕ → List ℕ = λ j. unitLine P (i + j) (ups w) in
-    ap₂ _++_ (flat-same f (λ j. entryLine P (i + j) (pairRow w P (first + j))) k (λ j l. sym (unit-line P (i + j) (ups w) _ (own-pair w P (first + j) (λ e. omega arith)))))
-    (sym (unit-line P (i + k) (downs w) _ (own-long w P (run first k) (run-others P first k (λ j l e. omega arith)))))
-    ∙ sym (run-text (entryLine P) i w P first k)
+pub own-text : (i : ℕ) (w : Window) (P k : ℕ) (f : ℕ → ℕ) → ((j : ℕ) → j < k → f j ≡ P → ⊥) →
+    flat (λ j. unitLine P (i + j) (ups w)) k ++ unitLine P (i + k) (downs w) ≡ eachRow (entryLine P) i (overRows w P (tabulate k f))
+own-text i w P k f h =
+    let g : ℕ → List ℕ = λ j. unitLine P (i + j) (ups w) in
+    ap₂ _++_ (flat-same g (λ j. entryLine P (i + j) (pairRow w P (f j))) k (λ j l. sym (unit-line P (i + j) (ups w) _ (own-pair w P (f j) (h j l)))))
+    (sym (unit-line P (i + k) (downs w) _ (own-long w P (tabulate k f) (others P k f h))))
+    ∙ sym (each-text (entryLine P) i w P k f)
 
 -- ---- other variables: rows of variables that are not v have none of it
 
@@ -103,8 +101,9 @@ pub over-lacks : (w : Window) (P v : ℕ) (vs : List ℕ) → (P ≡ v → ⊥) 
 over-lacks within P v vs a h = every-append (Lacks v) (map (pairRow within P) vs) _ .1 (pairs-lack within P v vs a h, (long-lacks within P v vs a h, tt))
 over-lacks throughout P v vs a h = every-append (Lacks v) (map (pairRow throughout P) vs) _ .1 (pairs-lack throughout P v vs a h, (long-lacks throughout P v vs a h, tt))
 
-pub other-text : (i : ℕ) (w : Window) (P first k v : ℕ) → (P ≡ v → ⊥) → ((j : ℕ) → j < k → first + j ≡ v → ⊥) → [] ≡ eachRow (entryLine v) i (overRows w P (run first k))
-other-text i w P first k v a h = sym (absent v i (overRows w P (run first k)) (over-lacks w P v (run first k) a (run-others v first k h)))
+pub other-text : (i : ℕ) (w : Window) (P k : ℕ) (f : ℕ → ℕ) (v : ℕ) → (P ≡ v → ⊥) → ((j : ℕ) → j < k → f j ≡ v → ⊥) →
+    [] ≡ eachRow (entryLine v) i (overRows w P (tabulate k f))
+other-text i w P k f v a h = sym (absent v i (overRows w P (tabulate k f)) (over-lacks w P v (tabulate k f) a (others v k f h)))
 
 -- ---- the part's variable at a slot of the window: v between variables that are not v
 
@@ -151,7 +150,7 @@ module _ (w : Window) (P v : ℕ) (a : P ≡ v → ⊥) where
     part-lines : (i : ℕ) → eachRow (entryLine v) i (overRows w P (before ++ (v ∷ after))) ≡ unitLine v (i + length before) (downs w) ++ unitLine v (i + length (before ++ (v ∷ after))) (ups w)
     part-lines i = over-text (entryLine v) i w P (before ++ (v ∷ after)) ∙ ap₂ _++_ (pairs-text i) (unit-line v _ (ups w) _ part-long)
 
--- the variables of a run about one of them
+-- the variables about one of them
 split : (k j : ℕ) (f : ℕ → ℕ) (rest : List ℕ) → tabulate k (λ i. f (j + suc i)) ≡ rest → tabulate (j + suc k) f ≡ tabulate j f ++ (f j ∷ rest)
 split k zero f rest e =
     let z : zero + suc k ≡ suc k = omega arith in
@@ -162,44 +161,42 @@ split k (suc j) f rest e =
     ap (λ (n : ℕ). tabulate n f) z
     ∙ ap (λ (l : List ℕ). f 0 ∷ l) (split k j g rest (tabulate-same k (λ i. g (j + suc i)) (λ i. f (suc j + suc i)) (λ i h. ap f (omega arith)) ∙ e))
 
-run-split : (first j k : ℕ) → run first (j + suc k) ≡ run first j ++ ((first + j) ∷ run (first + suc j) k)
-run-split first j k =
-    split k j (λ i. first + i) (run (first + suc j) k) (tabulate-same k (λ i. first + (j + suc i)) (λ i. first + suc j + i) (λ i h. omega arith))
-
-pub part-text : (i : ℕ) (w : Window) (P first k v : ℕ) → first + k ≤ P → first ≤ v → v < first + k →
-    unitLine v (i + (v - first)) (downs w) ++ unitLine v (i + k) (ups w) ≡ eachRow (entryLine v) i (overRows w P (run first k))
-part-text i w P first k v h l g =
-    let j = v - first in
+-- v is the j-th of them, and no other
+pub part-text : (i : ℕ) (w : Window) (P k : ℕ) (f : ℕ → ℕ) (v j : ℕ) → (P ≡ v → ⊥) → j < k → f j ≡ v → ((n : ℕ) → f n ≡ v → n ≡ j) →
+    unitLine v (i + j) (downs w) ++ unitLine v (i + k) (ups w) ≡ eachRow (entryLine v) i (overRows w P (tabulate k f))
+part-text i w P k f v j a h e one =
     let m = k - suc j in
-    let e : first + j ≡ v = omega arith in
     let n : j + suc m ≡ k = omega arith in
-    let split : run first k ≡ run first j ++ (v ∷ run (first + suc j) m) =
-    ap (run first) (sym n) ∙ run-split first j m ∙ ap (λ (x : ℕ). run first j ++ (x ∷ run (first + suc j) m)) e in
-    let long : length (run first j ++ (v ∷ run (first + suc j) m)) ≡ k = ap length (sym split) ∙ length-tabulate k (λ i. first + i) in
+    let before = tabulate j f in
+    let after = tabulate m (λ n. f (j + suc n)) in
+    let parts : tabulate k f ≡ before ++ (v ∷ after) =
+    ap (λ (x : ℕ). tabulate x f) (sym n) ∙ split m j f after refl ∙ ap (λ (x : ℕ). before ++ (x ∷ after)) e in
+    let long : length (before ++ (v ∷ after)) ≡ k = ap length (sym parts) ∙ length-tabulate k f in
     sym (
-    ap (λ (vs : List ℕ). eachRow (entryLine v) i (overRows w P vs)) split
-    ∙ part-lines w P v (λ q. omega arith) (run first j) (run (first + suc j) m) (run-others v first j (λ x y q. omega arith)) (run-others v (first + suc j) m (λ x y q. omega arith)) i
-    ∙ ap₂ (λ (x y : ℕ). unitLine v (i + x) (downs w) ++ unitLine v (i + y) (ups w)) (length-tabulate j (λ i. first + i)) long)
+    ap (λ (vs : List ℕ). eachRow (entryLine v) i (overRows w P vs)) parts
+    ∙ part-lines w P v a before after (others v j f (λ x y q. let z = one x q in omega arith))
+    (others v m (λ n. f (j + suc n)) (λ x y q. let z = one (j + suc x) q in omega arith)) i
+    ∙ ap₂ (λ (x y : ℕ). unitLine v (i + x) (downs w) ++ unitLine v (i + y) (ups w)) (length-tabulate j f) long)
 
 -- ---- by the code's flag
 
-module _ (i : ℕ) (b : Bool) (P first k v : ℕ) (h : first + k ≤ P) where
+module _ (i : ℕ) (b : Bool) (P k : ℕ) (f : ℕ → ℕ) (v : ℕ) where
   abbrev lines : List ℕ
-  lines = eachRow (entryLine v) i (overRows (windowBy b) P (run first k))
+  lines = eachRow (entryLine v) i (overRows (windowBy b) P (tabulate k f))
 
-  pub own-lines : v ≡ P → flat (λ j. unitLine v (i + j) b) k ++ unitLine v (i + k) (not b) ≡ lines
-  own-lines e = rw e (go b)
+  pub own-lines : v ≡ P → ((j : ℕ) → j < k → f j ≡ P → ⊥) → flat (λ j. unitLine v (i + j) b) k ++ unitLine v (i + k) (not b) ≡ lines
+  own-lines e h = rw e (go b)
     where
-      go : (b : Bool) → flat (λ j. unitLine P (i + j) b) k ++ unitLine P (i + k) (not b) ≡ eachRow (entryLine P) i (overRows (windowBy b) P (run first k))
-      go true = own-text i within P first k h
-      go false = own-text i throughout P first k h
+      go : (b : Bool) → flat (λ j. unitLine P (i + j) b) k ++ unitLine P (i + k) (not b) ≡ eachRow (entryLine P) i (overRows (windowBy b) P (tabulate k f))
+      go true = own-text i within P k f h
+      go false = own-text i throughout P k f h
 
-  pub slot-lines : first ≤ v → v < first + k → unitLine v (i + (v - first)) (not b) ++ unitLine v (i + k) b ≡ lines
-  slot-lines l g = go b
+  pub slot-lines : (v ≡ P → ⊥) → (j : ℕ) → j < k → f j ≡ v → ((n : ℕ) → f n ≡ v → n ≡ j) → unitLine v (i + j) (not b) ++ unitLine v (i + k) b ≡ lines
+  slot-lines a j h e one = go b
     where
-      go : (b : Bool) → unitLine v (i + (v - first)) (not b) ++ unitLine v (i + k) b ≡ eachRow (entryLine v) i (overRows (windowBy b) P (run first k))
-      go true = part-text i within P first k v h l g
-      go false = part-text i throughout P first k v h l g
+      go : (b : Bool) → unitLine v (i + j) (not b) ++ unitLine v (i + k) b ≡ eachRow (entryLine v) i (overRows (windowBy b) P (tabulate k f))
+      go true = part-text i within P k f v j (λ z. a (sym z)) h e one
+      go false = part-text i throughout P k f v j (λ z. a (sym z)) h e one
 
-  pub no-lines : (v ≡ P → ⊥) → ((j : ℕ) → j < k → first + j ≡ v → ⊥) → [] ≡ lines
-  no-lines a f = other-text i (windowBy b) P first k v (λ e. a (sym e)) f
+  pub no-lines : (v ≡ P → ⊥) → ((j : ℕ) → j < k → f j ≡ v → ⊥) → [] ≡ lines
+  no-lines a g = other-text i (windowBy b) P k f v (λ e. a (sym e)) g

@@ -13,17 +13,10 @@ use Rattle.rules.specs.Rule.Window.{within, throughout}
 use Rattle.rules.specs.Rows.{Row, plus, minus, ge}
 use Rattle.mps.specs.Words.{G, RHS}
 use Rattle.mps.specs.Page.{rowName, typeLine, rowLine, rightLine, numberLine, numberUnlessZero, eachRow}
+use Rattle.window.specs.Slots.{windowBy}
 use Rattle.row.specs.Kinds.{overRows}
 use Rattle.rowlines.specs.Laws.{each-append}
 use Rattle.rowlines.specs.Coefficients.{some-line}
-
-abbrev pub windowBy : (within : Bool) → Window
-windowBy true = within
-windowBy false = throughout
-
--- k variables one after the other
-abbrev pub run : (first k : ℕ) → List ℕ
-run first k = tabulate k (λ j. first + j)
 
 abbrev pub pairRow : Window → (P v : ℕ) → Row
 pairRow within P v = ge (plus P ∷ minus v ∷ []) (pos 0)
@@ -55,13 +48,13 @@ each-tabulate line f i (suc k) =
     ∙ flat-same (λ j. line (i + 1 + j) (f (suc j))) (λ j. line (i + suc j) (f (suc j))) k (λ j h. ap (λ (n : ℕ). line n (f (suc j))) (omega arith)))
     ∙ sym (flat-first (λ j. line (i + j) (f j)) k)
 
-module _ (line : ℕ → Row → List ℕ) (i : ℕ) (w : Window) (P first k : ℕ) where
-  -- of consecutive variables
-  pub run-text : eachRow line i (overRows w P (run first k)) ≡ flat (λ j. line (i + j) (pairRow w P (first + j))) k ++ line (i + k) (longRow w P (run first k))
-  run-text =
-      over-text line i w P (run first k)
-      ∙ ap₂ _++_ (ap (eachRow line i) (map-tabulate (pairRow w P) k (λ j. first + j)) ∙ each-tabulate line (λ j. pairRow w P (first + j)) i k)
-      (ap (λ (n : ℕ). line (i + n) (longRow w P (run first k))) (length-tabulate k (λ j. first + j)))
+-- over the variables f 0 to f (k - 1)
+module _ (line : ℕ → Row → List ℕ) (i : ℕ) (w : Window) (P k : ℕ) (f : ℕ → ℕ) where
+  pub each-text : eachRow line i (overRows w P (tabulate k f)) ≡ flat (λ j. line (i + j) (pairRow w P (f j))) k ++ line (i + k) (longRow w P (tabulate k f))
+  each-text =
+      over-text line i w P (tabulate k f)
+      ∙ ap₂ _++_ (ap (eachRow line i) (map-tabulate (pairRow w P) k f) ∙ each-tabulate line (λ j. pairRow w P (f j)) i k)
+      (ap (λ (n : ℕ). line (i + n) (longRow w P (tabulate k f))) (length-tabulate k f))
 
 -- ---- ROWS: they are all of type G
 
@@ -75,12 +68,13 @@ unfolding rowLine
 long-type within P i vs = refl
 long-type throughout P i vs = refl
 
-pub types-text : (i : ℕ) (w : Window) (P first k : ℕ) → flat (λ j. typeLine G (rowName (i + j))) (k + 1) ≡ eachRow rowLine i (overRows w P (run first k))
-types-text i w P first k =
-    let f : ℕ → List ℕ = λ j. typeLine G (rowName (i + j)) in
-    flat-more f k
-    ∙ ap₂ _++_ (flat-same f (λ j. rowLine (i + j) (pairRow w P (first + j))) k (λ j h. sym (pair-type w P (first + j) (i + j)))) (sym (long-type w P (i + k) (run first k)))
-    ∙ sym (run-text rowLine i w P first k)
+pub types-text : (i : ℕ) (w : Window) (P k : ℕ) (f : ℕ → ℕ) → flat (λ j. typeLine G (rowName (i + j))) (k + 1) ≡ eachRow rowLine i (overRows w P (tabulate k f))
+types-text i w P k f =
+    let g : ℕ → List ℕ = λ j. typeLine G (rowName (i + j)) in
+    flat-more g k
+    ∙ ap₂ _++_ (flat-same g (λ j. rowLine (i + j) (pairRow w P (f j))) k (λ j h. sym (pair-type w P (f j) (i + j))))
+    (sym (long-type w P (i + k) (tabulate k f)))
+    ∙ sym (each-text rowLine i w P k f)
 
 -- ---- RHS: the last row's, if it is not 0
 
@@ -98,14 +92,14 @@ abbrev pub lastRight : Window → (k : ℕ) → ℤ
 lastRight within k = pos 0
 lastRight throughout k = negℤ (pos (k - 1))
 
-long-right : (w : Window) (P i first k : ℕ) → rightLine i (longRow w P (run first k)) ≡ numberUnlessZero RHS i (lastRight w k)
-long-right within P i first k = refl
-long-right throughout P i first k = ap (λ (n : ℕ). numberUnlessZero RHS i (negℤ (pos (n - 1)))) (length-tabulate k (λ j. first + j))
+long-right : (w : Window) (P i k : ℕ) (f : ℕ → ℕ) → rightLine i (longRow w P (tabulate k f)) ≡ numberUnlessZero RHS i (lastRight w k)
+long-right within P i k f = refl
+long-right throughout P i k f = ap (λ (n : ℕ). numberUnlessZero RHS i (negℤ (pos (n - 1)))) (length-tabulate k f)
 
-pub rights-text : (i : ℕ) (w : Window) (P first k : ℕ) → numberUnlessZero RHS (i + k) (lastRight w k) ≡ eachRow rightLine i (overRows w P (run first k))
-rights-text i w P first k =
-    ap₂ _++_ (sym (flat-none (λ j. rightLine (i + j) (pairRow w P (first + j))) k (λ j. pair-right w P (first + j) (i + j)))) (sym (long-right w P (i + k) first k))
-    ∙ sym (run-text rightLine i w P first k)
+pub rights-text : (i : ℕ) (w : Window) (P k : ℕ) (f : ℕ → ℕ) → numberUnlessZero RHS (i + k) (lastRight w k) ≡ eachRow rightLine i (overRows w P (tabulate k f))
+rights-text i w P k f =
+    ap₂ _++_ (sym (flat-none (λ j. rightLine (i + j) (pairRow w P (f j))) k (λ j. pair-right w P (f j) (i + j)))) (sym (long-right w P (i + k) k f))
+    ∙ sym (each-text rightLine i w P k f)
 
 -- by the window and how many slots it has
 module _ (i k : ℕ) where

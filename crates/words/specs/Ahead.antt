@@ -7,7 +7,7 @@ use native.Mathlib.Nat.{eq-or-lt-of-le}
 use native.Mathlib.Omega.{arith}
 use lib.Bits.{bitAnd, bitOr}
 use lib.Dec.{T as Is}
-use Rattle.lists.specs.Tests.{or-cases, or-left, or-right}
+use Rattle.lists.specs.Tests.{or-cases, or-left, or-right, and-both}
 use Rattle.words.specs.Bits.{on, on-and, on-or, on-shr}
 
 -- p at one of n slots from j on
@@ -44,6 +44,14 @@ at-some p (suc n) d i h k t =
     ⊎-elim (λ e. or-left (p d) (some p n (suc d)) (rw e t)) (λ l. or-right (p d) (some p n (suc d)) (at-some p n (suc d) i l (omega arith) t))
     (eq-or-lt-of-le h)
 
+pub at-every : (p : ℕ → Bool) (n d : ℕ) → ((i : ℕ) → d ≤ i → i < d + n → Is (p i)) → Is (every p n d)
+at-every p zero d f = tt
+at-every p (suc n) d f = and-both (p d) (every p n (suc d)) (f d (omega arith) (omega arith)) (at-every p n (suc d) (λ i u v. f i (omega arith) (omega arith)))
+
+pub some-same : (p r : ℕ → Bool) (T n j : ℕ) → ((i : ℕ) → i < T → p i ≡ r i) → n + j ≤ T → some p n j ≡ some r n j
+some-same p r T zero j h l = refl
+some-same p r T (suc n) j h l = ap₂ (λ (a b : Bool). a || b) (h j (omega arith)) (some-same p r T n (suc j) h (omega arith))
+
 -- ---- n slots and then m more
 
 pub some-more : (p : ℕ → Bool) (n m j : ℕ) → some p (n + m) j ≡ (some p n j || some p m (n + j))
@@ -63,7 +71,7 @@ every-more p (suc n) m j =
     ∙ ap (λ (x : ℕ). (p j && every p n (suc j)) && every p m x) (let e : n + suc j ≡ suc n + j = omega arith in e)
 
 -- a slot more in front: c is what is reached behind, b whether p holds up to there
-front : (q p r b c : Bool) → (q || (p && (r || (b && c)))) ≡ ((q || (p && r)) || ((p && b) && c))
+pub front : (q p r b c : Bool) → (q || (p && (r || (b && c)))) ≡ ((q || (p && r)) || ((p && b) && c))
 front true p r b c = refl
 front false true r b c = refl
 front false false r b c = refl
@@ -147,3 +155,6 @@ some-later p q a zero j e = refl
 some-later p q a (suc n) j e =
     ap₂ (λ (x y : Bool). x || y) (e j) (some-later p q a n (suc j) e)
     ∙ ap (λ (x : ℕ). p (a + j) || some p n x) (let z : a + suc j ≡ suc (a + j) = omega arith in z)
+
+pub some-shifted : (p near a n : ℕ) → ((j : ℕ) → on near j ≡ some (on (p / 2 ^ a)) n j) → (j : ℕ) → on near j ≡ some (on p) n (a + j)
+some-shifted p near a n e j = e j ∙ some-later (on p) (on (p / 2 ^ a)) a n j (λ i. on-shr p a i)

@@ -2,7 +2,7 @@
 use mathlib.Core.Path.{_≡_, refl, sym, ap, _∙_}
 use mathlib.Core.Bool.{Bool, true, false, not, _&&_, _||_}
 use Prim.Native.Nat.{ℕ, zero, suc, _+_, _-_, _*_, _/_, _%_, _^_, _≤_, _<_, min, max}
-use native.Mathlib.Nat.{lt-of-le-of-lt, lt-of-lt-of-le, div-one, div-div-eq-div-mul, pow-suc, pow-succ', mul-assoc}
+use native.Mathlib.Nat.{lt-of-le-of-lt, lt-of-lt-of-le, div-one, div-div-eq-div-mul, pow-suc, pow-succ', mul-assoc, mod-lt}
 use native.Mathlib.Omega.{arith}
 use borrow.Author.Tests.{ne-eqb}
 use lib.Dec.{eqb, eqb·suc-suc}
@@ -99,6 +99,14 @@ on-mod n w j h =
     ∙ ap (λ (x : ℕ). eqb (x % 2) 1) (ap (λ (x : ℕ). w % 2 ^ x / 2 ^ j) e ∙ field w (m + 1) j)
     ∙ ap (λ (x : ℕ). eqb x 1) (mod-mod-pow (w / 2 ^ j) m 1) ∙ sym (on-is w j)
 
+-- shifted to the left within n bits
+pub on-left : (n w k j : ℕ) → j < n → k ≤ j → on (w * 2 ^ k % 2 ^ n) j ≡ on w (j - k)
+on-left n w k j h l =
+    on-mod n (w * 2 ^ k) j h ∙ ap (on (w * 2 ^ k)) (let e : j ≡ k + (j - k) = omega arith in e) ∙ on-shl w k (j - k)
+
+pub on-left-low : (n w k j : ℕ) → j < n → j < k → on (w * 2 ^ k % 2 ^ n) j ≡ false
+on-left-low n w k j h l = on-mod n (w * 2 ^ k) j h ∙ on-shl-low w k j l
+
 -- ---- bounds: a word of n bits has no bit above them, and is fixed by them
 
 pub on-above : (n w j : ℕ) → w < 2 ^ n → n ≤ j → on w j ≡ false
@@ -106,6 +114,9 @@ unfolding on
 on-above zero w j h g = ap (λ (x : ℕ). on x j) (let e : w ≡ 0 = omega arith in e) ∙ on-zero j
 on-above (suc n) w zero h g = absurd (omega arith)
 on-above (suc n) w (suc j) h g = let e = pow-suc 2 n in on-above n (w / 2) j (omega arith) (omega arith)
+
+pub on-mod-above : (n w j : ℕ) → n ≤ j → on (w % 2 ^ n) j ≡ false
+on-mod-above n w j h = on-above n (w % 2 ^ n) j (mod-lt w (lib.Pow.pow-pos n)) h
 
 digit-same : (x y : ℕ) → x < 2 → y < 2 → eqb x 1 ≡ eqb y 1 → x ≡ y
 digit-same zero zero h g e = refl

@@ -1,6 +1,7 @@
 pub mod Bits
 pub mod Ahead
 pub mod Words
-pub mod Windows
+pub mod Rounds
 pub mod Told
 pub mod First
+pub mod Windows

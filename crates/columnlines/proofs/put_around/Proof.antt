@@ -1,8 +1,8 @@
--- `columnlines::put_around` meets its contract. The first slot, or the slot before and the slot. Assumes nothing.
+-- `columnlines::put_around` meets its contract. At the first slot, and at another. Assumes nothing.
 use native.Mathlib.Omega.{arith}
-use borrow.Author.Needs.{needs}
 use Rattle.lines.specs.Sent.{sent-as, sent-also}
 use Rattle.columnlines.specs.Walk.{around-first, around-next}
+use borrow.Author.Needs.{needs}
 use Rattle.columnlines.proofs.put_around.Statement.{statement}
 use Rattle.columnlines.proofs.put_around.Tie as tie
 
@@ -14,11 +14,12 @@ same-length c = search needs
 
 returns : tie.Need-returns
 returns c =
-    let w = c .before .before in
-    let i = w .before .before in
-    let a = i .before .before .args in
-    let p = w .put-at .ensures in
-    (sent-as (around-first (a .v) (a .node .kind) (a .t) (a .node .big) (a .node .p) (a .node .q) (a .start) (a .s) (i .if1 .taken)) (p .0), omega (arith, p .1))
+    let a = c .before .before in
+    let i = a .before .before in
+    let s = i .before .before in (
+      sent-as (around-first (s .args .v) (s .args .block) (s .args .t) (s .args .start) (s .args .s) (i .if1 .taken)) (a .put-at .ensures .0),
+      omega (arith, a .put-at .ensures .1),
+    )
 
 sub-put-at : tie.Need-sub-put-at
 sub-put-at c = search needs
@@ -34,13 +35,14 @@ same-length-2 c = search needs
 
 returns-2 : tie.Need-returns-2
 returns-2 c =
-    let second = c .before .before in
-    let first = second .before .before .before .before in
-    let i = first .before .before in
-    let a = i .before .before .args in
-    let p = first .put-at2 .ensures in
-    let q = second .put-at3 .ensures in
-    (sent-as (around-next (a .v) (a .node .kind) (a .t) (a .node .big) (a .node .p) (a .node .q) (a .start) (a .s) (i .if1 .left)) (sent-also (p .0) (q .0)), omega (arith, p .1, q .1))
+    let a = c .before .before .before .before .before .before in
+    let i = a .before .before in
+    let s = i .before .before in
+    let p = a .put-at2 .ensures in
+    let q = c .before .before .put-at3 .ensures in (
+      sent-as (around-next (s .args .v) (s .args .block) (s .args .t) (s .args .start) (s .args .s) (i .if1 .left)) (sent-also (p .0) (q .0)),
+      omega (arith, p .1, q .1),
+    )
 
 pub put-around-spec : {M : Type 1} → statement M
 put-around-spec =

@@ -1,17 +1,28 @@
--- `columnlines::put_at` meets its contract. The rows of the slot, by their number. Assumes nothing.
-use mathlib.Core.Path.{ap, _∙_}
-use mathlib.Core.List.{[]}
-use Prim.Native.Nat.{ℕ, _+_, _*_}
+-- `columnlines::put_at` meets its contract. Assumes nothing.
+use mathlib.Core.Path.{_≡_, sym, ap, ap₂, _∙_}
+use mathlib.Core.Bool.{Bool, true, false, cond, _||_}
+use mathlib.Core.List.{List, []}
+use Prim.Native.Nat.{ℕ, _+_, _*_, _<_}
 use native.Mathlib.Omega.{arith}
 use lib.Dec.{ltb}
-use Rattle.mps.specs.Page.{eachRow, entryLine}
-use Rattle.row.specs.Apart.{apart-at}
-use Rattle.row.specs.Kinds.{kindRows}
+use Rattle.rules.specs.Rows.{Row}
+use Rattle.mps.specs.Page.{entryLine, eachRow}
+use Rattle.row.specs.declared.Block.{Block}
+use Rattle.row.specs.Apart.{Behind, apart-at}
+use Rattle.row.specs.Kinds.{kindRows, slotCount, followed, following}
 use Rattle.lines.specs.Sent.{sent-as}
 use Rattle.columnlines.specs.Walk.{kindText}
 use borrow.Author.Needs.{needs}
 use Rattle.columnlines.proofs.put_at.Statement.{statement}
 use Rattle.columnlines.proofs.put_at.Tie as tie
+
+-- what follows stands behind
+next-behind : (b : Block) (T s : ℕ) {n : ℕ} → s < T → Behind T b → followed T (b .loops) s ≡ true → n ≡ following T (b .own) (b .next) s → b .own + s < n
+next-behind b T s {n} h g e f = go (ltb (s + 1) T) e f
+  where
+    go : (d : Bool) → (d || b .loops) ≡ true → n ≡ cond d (b .own + s + 1) (b .next) → b .own + s < n
+    go true z w = omega arith
+    go false z w = omega (arith, g .next z)
 
 slot-count-requires : tie.Need-slot-count-requires
 slot-count-requires c κs = search needs
@@ -22,35 +33,56 @@ times-requires c κs = search needs
 add-i : tie.Need-add-i
 add-i c = search needs
 
-cast-big : tie.Need-cast-big
-cast-big c = search needs
+cast-own : tie.Need-cast-own
+cast-own c = search needs
 
-add-big : tie.Need-add-big
-add-big c = search needs
+add-own : tie.Need-add-own
+add-own c = search needs
 
-cast-p : tie.Need-cast-p
-cast-p c = search needs
+add-more : tie.Need-add-more
+add-more c = search needs
 
-add-p : tie.Need-add-p
-add-p c = search needs
+either-requires : tie.Need-either-requires
+either-requires c κs = search needs
 
-cast-q : tie.Need-cast-q
-cast-q c = search needs
+cast-t13 : tie.Need-cast-t13
+cast-t13 c = search needs
 
-add-q : tie.Need-add-q
-add-q c = search needs
+add-t14 : tie.Need-add-t14
+add-t14 c = search needs
 
-add-put-entries : tie.Need-add-put-entries
-add-put-entries c = search needs
+cast-t16 : tie.Need-cast-t16
+cast-t16 c = search needs
+
+add-t17 : tie.Need-add-t17
+add-t17 c = search needs
+
+add-pick : tie.Need-add-pick
+add-pick c = search needs
+
+cast-pick : tie.Need-cast-pick
+cast-pick c = search needs
+
+pick-requires : tie.Need-pick-requires
+pick-requires c κs = search needs
 
 put-entries-requires : tie.Need-put-entries-requires
 put-entries-requires c κs =
-    let t = c .before .before .before .before in
-    let s = t .before .before .before in
-    let a = s .args in
-    let nd = a .node in
-    let p = s .pre in
-    (p .0, p .1, omega (arith, t .times .ensures .1), omega arith, p .8, apart-at (nd .kind) (a .t) (nd .big) (nd .p) (nd .q) (a .s) (omega arith) (p .9))
+    let either = c .before .before .before .before .before in
+    let t = either .before .before in
+    let s = t .before in
+    let start = s .before .before in
+    let b = start .args .block in
+    let f = start .pre .5 in (
+      start .pre .0,
+      start .pre .1,
+      omega (arith, t .times .ensures .1, s .slot-count .ensures .1),
+      record {
+        plain = start .pre .6;
+        parts = apart-at (b .kind) (start .args .t) (b .own) (b .left) (b .right) (start .args .s) (omega (arith, start .pre .3)) (f .behind .parts);
+        next = λ e. next-behind b (start .args .t) (start .args .s) (start .pre .3) (f .behind) (sym (either .either .ensures) ∙ e) (c .before .pick .ensures);
+      },
+    )
 
 same-length : tie.Need-same-length
 same-length c = search needs
@@ -58,12 +90,20 @@ same-length c = search needs
 returns : tie.Need-returns
 unfolding kindText
 returns c =
-    let w = c .before .before in
-    let t = w .before .before .before .before .before in
-    let a = t .before .before .before .args in
-    let p = w .put-entries .ensures in
-    let first = ap (λ (k : ℕ). a .start + k) (t .times .ensures .0 ∙ ap (λ (k : ℕ). a .s * k) (t .before .slot-count .ensures .0)) in
-    (sent-as (ap (λ (i : ℕ). eachRow (entryLine (a .v)) i (kindRows (a .node .kind) (ltb (a .s + 1) (a .t)) (a .node .big + a .s) (a .node .p + a .s) (a .node .q + a .s) [])) first) (p .0), p .1)
+    let pick = c .before .before .before .before in
+    let e = pick .before .before .before .before in
+    let t = e .before .before in
+    let s = t .before in
+    let start = s .before .before in
+    let b = start .args .block in
+    let p = c .before .before .put-entries .ensures in
+    let i : start .args .start + t .times .result ≡ start .args .start + start .args .s * slotCount (b .kind) true 0 =
+    ap (λ (x : ℕ). start .args .start + x) (t .times .ensures .0 ∙ ap (λ (x : ℕ). start .args .s * x) (s .slot-count .ensures .0)) in (
+      sent-as (ap₂ (λ (j : ℕ) (rs : List Row). eachRow (entryLine (start .args .v)) j rs) i
+          (ap₂ (λ (d : Bool) (n : ℕ). kindRows (b .kind) d (b .own + start .args .s) (b .left + start .args .s) (b .right + start .args .s) n [])
+          (e .either .ensures) (pick .pick .ensures))) (p .0),
+      p .1,
+    )
 
 pub put-at-spec : {M : Type 1} → statement M
 put-at-spec =
@@ -72,13 +112,17 @@ put-at-spec =
     slot-count-requires
     times-requires
     add-i
-    cast-big
-    add-big
-    cast-p
-    add-p
-    cast-q
-    add-q
-    add-put-entries
+    cast-own
+    add-own
+    add-more
+    either-requires
+    cast-t13
+    add-t14
+    cast-t16
+    add-t17
+    add-pick
+    cast-pick
+    pick-requires
     put-entries-requires
     same-length
     returns)

@@ -1,98 +1,70 @@
--- `columnlines::put_columns` meets its contract. The loop's invariant: the lines of the parts passed are put. Assumes nothing.
-use mathlib.Core.Path.{_≡_, sym, ap, _∙_}
-use Prim.Native.Nat.{_+_, _-_, _*_, _≤_}
+-- `columnlines::put_columns` meets its contract. Assumes nothing.
+use mathlib.Core.Path.{sym}
 use native.Mathlib.Omega.{arith}
-use borrow.Author.Needs.{needs}
-use lib.ListN.{length}
-use Rattle.lists.specs.Flat.{flat}
 use Rattle.rules.specs.Rows.{rowsOf}
-use Rattle.rules.specs.TableTest.{nodesIn, length-nodesIn}
-use Rattle.row.specs.NodeRows.{all-parts}
+use Rattle.rules.specs.TableTest.{nodesIn, recordCount, length-nodesIn}
 use Rattle.mps.specs.Page.{columnLines}
-use Rattle.lines.specs.Sent.{Sent, sent-as}
-use Rattle.lines.specs.Turns.{turns-none, turns-more, turns-all}
-use Rattle.columns.specs.Picked.{flat-parts}
+use Rattle.columnlines.specs.Parts.{all-parts, all-parts-kept}
+use borrow.Author.Needs.{needs}
 use Rattle.columnlines.proofs.put_columns.Statement.{statement}
 use Rattle.columnlines.proofs.put_columns.Tie as tie
 
-abbrev Inv-loop : tie.InvT-loop
-Inv-loop out₀ at table n t m starts rows next₀ x₀ out next x =
-    (x ≤ m + n) × (next ≤ at + 1363153920 * x) × Sent at (flat (λ y. flat (λ s. columnLines (rowsOf t m (nodesIn table)) (y * t + s)) t) x) out₀ out next
+find-layout-requires : tie.Need-find-layout-requires
+find-layout-requires c κs = search needs
 
-abbrev μ-loop : tie.MeasureT-loop
-μ-loop out₀ at table n t m starts rows next₀ x₀ out next x = m + n - x
-
-find-starts-requires : tie.Need-find-starts-requires Inv-loop μ-loop
-find-starts-requires c κs =
-    let s = c .before .before .before in
-    (s .pre .1, s .pre .2)
-
-loop-holds : tie.Need-loop-holds Inv-loop μ-loop
-loop-holds c = (omega arith, omega arith, turns-none _ _ _)
-
-add-loop : tie.Need-add-loop Inv-loop μ-loop
-add-loop c =
-    let s = c .before .before .before .before .before in
-    let h = s .pre .1 .few-nodes in
-    let g = s .pre .1 .atoms-high in
-    search needs
-
-put-part-requires : tie.Need-put-part-requires Inv-loop μ-loop
-put-part-requires c κs =
+put-own-parts-requires : tie.Need-put-own-parts-requires
+put-own-parts-requires c κs =
     let l = c .before .before in
-    let f = l .before .before in
-    let s = f .before .before .before .before in
-    let a = s .args in
-    let r = s .pre .1 in
-    let ns = nodesIn (a .table .now) in
-    let n : length ns ≡ a .n = length-nodesIn (a .m) (a .table .now) ∙ sym (s .pre .2) in
-    let t = l .loop-test in
-    let p = f .find-starts .ensures in (
-      (omega (arith, r .few-nodes, r .atoms-high, s .pre .2), omega (arith, r .few-nodes, r .atoms-high, s .pre .2), r, omega (arith, p .2), p .1 (a .m) ∙ ap length (all-parts (a .t) (a .m) ns (a .n) n)),
-      λ M i h. p .0 M i (omega (arith, s .pre .2)),
+    let s = l .before .before .before .before in
+    ((s .pre .0, s .pre .1, omega (arith, l .find-layout .ensures .2), l .find-layout .ensures .1), l .find-layout .ensures .0)
+
+put-kept-parts-requires : tie.Need-put-kept-parts-requires
+put-kept-parts-requires c κs =
+    let p = c .before .before .before .before .before in
+    let l = p .before .before .before in
+    let s = l .before .before .before .before in (
+      (omega (arith, s .pre .0, p .put-own-parts .ensures .1), s .pre .1, omega (arith, l .find-layout .ensures .2), l .find-layout .ensures .1),
+      l .find-layout .ensures .0,
     )
 
-add-x : tie.Need-add-x Inv-loop μ-loop
-add-x c =
-    let s = c .before .before .before .before .before .before .before .before .before .before .before in
-    let h = s .pre .1 .few-nodes in
-    let g = s .pre .1 .atoms-high in
-    search needs
+same-length : tie.Need-same-length
+same-length c = search needs
 
-loop-less : tie.Need-loop-less Inv-loop μ-loop
-loop-less c = search needs
-
-loop-again : tie.Need-loop-again Inv-loop μ-loop
-loop-again c =
-    let w = c .before .before in
-    let l = w .before .before .before .before in
-    let a = l .before .before .before .before .before .args in
-    let p = w .put-part .ensures in
-    (omega arith, omega (arith, p .1), turns-more (λ y. flat (λ s. columnLines (rowsOf (a .t) (a .m) (nodesIn (a .table .now))) (y * a .t + s)) (a .t)) (a .at) (a .out .now) (l .loop .inv .2) (p .0))
-
-same-length : tie.Need-same-length Inv-loop μ-loop
-same-length c = c .before .loop .inv .2 .same
-
-returns : tie.Need-returns Inv-loop μ-loop
+returns : tie.Need-returns
 returns c =
-    let l = c .before .loop in
-    let s = c .before .before .before .before .before .before in
+    let p = c .before .before in
+    let i = p .before .before .before in
+    let parts = i .before .before .before in
+    let s = parts .before .before .before .before .before .before .before in
     let a = s .args in
-    let e : l .x ≡ a .m + a .n = omega arith in
-    (sent-as (flat-parts (columnLines (rowsOf (a .t) (a .m) (nodesIn (a .table .now)))) (a .t) (a .m + a .n)) (turns-all _ _ _ e (l .inv .2)), omega (arith, s .pre .1 .few-nodes, s .pre .1 .atoms-high, s .pre .2))
+    let ns = nodesIn (a .table .now) in (
+      all-parts-kept (a .t) (columnLines (rowsOf (a .t) (a .m) (a .l) ns)) (a .m) (a .l) (recordCount (a .table .now)) ns
+          (sym (length-nodesIn (a .m) (a .table .now))) (i .if1 .taken) (parts .put-own-parts .ensures .0) (p .put-kept-parts .ensures .0),
+      omega (arith, parts .put-own-parts .ensures .1, p .put-kept-parts .ensures .1),
+    )
+
+same-length-2 : tie.Need-same-length-2
+same-length-2 c = search needs
+
+returns-2 : tie.Need-returns-2
+returns-2 c =
+    let p = c .before .before .before in
+    let s = p .before .before .before .before .before .before .before in
+    let a = s .args in
+    let ns = nodesIn (a .table .now) in (
+      all-parts (a .t) (columnLines (rowsOf (a .t) (a .m) (a .l) ns)) (a .m) (a .l) (recordCount (a .table .now)) ns
+          (sym (length-nodesIn (a .m) (a .table .now))) (omega (arith, c .if1 .left)) (p .put-own-parts .ensures .0),
+      omega (arith, p .put-own-parts .ensures .1),
+    )
 
 pub put-columns-spec : {M : Type 1} → statement M
 put-columns-spec =
     tie.close
     (tie.spec
-    Inv-loop
-    μ-loop
-    find-starts-requires
-    loop-holds
-    add-loop
-    put-part-requires
-    add-x
-    loop-less
-    loop-again
+    find-layout-requires
+    put-own-parts-requires
+    put-kept-parts-requires
     same-length
-    returns)
+    returns
+    same-length-2
+    returns-2)

@@ -1,108 +1,110 @@
--- `columnlines::put_user` meets its contract. The node with its variables, and its first row. Assumes nothing.
-use mathlib.Core.Path.{_≡_, sym, _∙_}
-use Prim.Native.Nat.{_+_, _≤_}
+-- `columnlines::put_user` meets its contract. Assumes nothing.
+use mathlib.Core.Path.{_≡_, ap₂}
+use mathlib.Core.Bool.{cond}
+use mathlib.Core.List.{List, [], _++_}
+use Prim.Native.Nat.{ℕ, _+_, _≤_}
 use native.Mathlib.Omega.{arith}
-use borrow.Author.Needs.{needs}
-use lib.ListN.{length, getD}
-use Rattle.rules.specs.TableTest.{nodesIn}
-use Rattle.row.specs.NodeRows.{rowsTo}
+use lib.ListN.{length}
+use Rattle.rules.specs.Table.{Node}
+use Rattle.rules.specs.Rows.{Row}
+use Rattle.rules.specs.TableTest.{nodesIn, length-nodesIn}
+use Rattle.mps.specs.Page.{entryLine, eachRow}
+use Rattle.row.specs.NodeRows.{blockRows, rowsTo}
 use Rattle.lines.specs.Sent.{sent-as}
-use Rattle.rowlines.specs.Laws.{Plain, start-small}
-use Rattle.columnlines.specs.Walk.{plain-is, plain-text, node-lines}
+use Rattle.rowlines.specs.Laws.{nodeText, start-small}
+use Rattle.nodelines.specs.declared.Blocks.{Blocks}
+use Rattle.nodelines.specs.Places.{BlocksAt, kept-low}
+use Rattle.nodelines.specs.Turns.{blocks-rows}
+use Rattle.columns.specs.Users.{keptPart}
+use Rattle.columnlines.specs.Walk.{own-whole, kept-whole}
+use borrow.Author.Needs.{needs}
 use Rattle.columnlines.proofs.put_user.Statement.{statement}
 use Rattle.columnlines.proofs.put_user.Tie as tie
 
-abbrev placed : tie.After-is-plain → tie.After-place-node
-placed c = c .before .before
+-- the lines of node n's blocks, where its first row has the number `start`
+user-lines : (T M L : ℕ) (ns : List Node) (n : ℕ) (line : ℕ → Row → List ℕ) {start v : ℕ} {bs : Blocks} → start ≡ length (rowsTo T M L ns n)
+    → BlocksAt T M L ns n v bs → 1 ≤ T →
+    eachRow line start (cond (bs .both) (blockRows (bs .kept) T L) [] ++ blockRows (bs .own) T L) ≡ nodeText T M L ns line n
+unfolding nodeText
+user-lines T M L ns n line e b h = ap₂ (λ (i : ℕ) (rs : List Row). eachRow line i rs) e (blocks-rows T M L ns line 0 [] b h)
 
-abbrev begun : tie.After-is-plain → tie.Start
-begun c = placed c .before .before .before
+add-kept : tie.Need-add-kept
+add-kept c = search needs
 
--- the number of the node's first row
-start : (c : tie.After-is-plain) → getD (begun c .args .starts .now) (begun c .args .n) 0 ≡ length (rowsTo (begun c .args .t) (begun c .args .m) (nodesIn (begun c .args .table .now)) (begun c .args .n))
-start c = let s = begun c in s .pre .1 (s .args .m) (s .args .n) (s .pre .0 .4)
+mul-kept : tie.Need-mul-kept
+mul-kept c = search needs
 
-low : (c : tie.After-is-plain) → getD (begun c .args .starts .now) (begun c .args .n) 0 ≤ 557056
-low c =
-    let s = begun c in
+element-copy-out-kept : tie.Need-element-copy-out-kept
+element-copy-out-kept c = search needs
+
+cast-kept : tie.Need-cast-kept
+cast-kept c =
+    let s = c .before .before .before in
     let r = s .pre .0 .3 in
-    let e = start c in
-    let b = start-small (s .args .t) (s .args .m) (nodesIn (s .args .table .now)) (s .args .n) (r .slots-high) (omega (arith, r .few-nodes, s .pre .0 .4)) in
-    omega arith
+    let ns = nodesIn (s .args .table .now) in
+    let long = length-nodesIn (s .args .plan .m) (s .args .table .now) in
+    let low = kept-low (s .args .plan .t) (s .args .plan .m) ns (s .args .n) (r .slots-high) (r .atoms-high) (omega (arith, r .few-nodes))
+    (omega (arith, s .pre .0 .4)) in
+    record { fits = omega (arith, low, s .pre .1 .kepts (s .args .n) (s .pre .0 .4)) }
 
-plain : (c : tie.Then1) → Plain (placed (c .before) .place-node .result .kind)
-plain c = plain-is (placed (c .before) .place-node .result .kind) (sym (c .before .is-plain .ensures) ∙ c .if1 .taken)
+blocks-at-requires : tie.Need-blocks-at-requires
+blocks-at-requires c κs =
+    let s = c .before .before .before in
+    (s .pre .0 .3, s .pre .0 .4, s .pre .1 .kepts (s .args .n) (s .pre .0 .4))
 
-place-node-requires : tie.Need-place-node-requires
-place-node-requires c κs = let s = c .before .before in (s .pre .0 .3, s .pre .0 .4)
+mul-put-node : tie.Need-mul-put-node
+mul-put-node c = search needs
 
-mul-start : tie.Need-mul-start
-mul-start c = search needs
+element-copy-out-put-node : tie.Need-element-copy-out-put-node
+element-copy-out-put-node c = search needs
 
-element-copy-out-start : tie.Need-element-copy-out-start
-element-copy-out-start c = let s = c .before .before .before in let h = s .pre .0 .4 in let g = s .pre .0 .3 .few-nodes in search needs
-
-is-plain-requires : tie.Need-is-plain-requires
-is-plain-requires c κs = search needs
-
-put-around-requires : tie.Need-put-around-requires
-put-around-requires c κs =
-    let i = c .before in
-    let k = i .before in
-    let s = begun k in
-    let p = placed k .place-node .ensures in
-    (omega (arith, s .pre .0 .0), s .pre .0 .1, omega (arith, low k), s .pre .0 .2, s .pre .0 .3 .slots-high, p .big-low, p .p-low, p .q-low, plain i, p .is-apart)
+put-node-requires : tie.Need-put-node-requires
+put-node-requires c κs =
+    let s = c .before .before .before .before .before .before in
+    let r = s .pre .0 .3 in
+    let p = s .args .plan in
+    let b = c .before .before .blocks-at .ensures in
+    let few = start-small (p .t) (p .m) (p .l) (nodesIn (s .args .table .now)) (s .args .n) (r .slots-high) (omega (arith, s .pre .0 .4, r .few-nodes)) in
+    let own = own-whole (p .t) (p .m) (p .l) (s .args .n) _ (b .node) _ (b .own-is) in (
+      (s .pre .0 .0, s .pre .0 .1, omega (arith, few, s .pre .1 .starts (s .args .n) (s .pre .0 .4)), s .pre .0 .2, r .loop-low, r .loop-high, r .slots-high),
+      (
+        (
+          b .own-fit,
+          own,
+          b .kept-fit,
+          kept-whole (p .t) (keptPart (p .m) (nodesIn (s .args .table .now)) (s .args .n)) _ _ _ (b .place)
+              (b .kept-is) own,
+        ),
+        s .pre .0 .5,
+      ),
+    )
 
 same-length : tie.Need-same-length
 same-length c = search needs
 
 returns : tie.Need-returns
 returns c =
-    let w = c .before .before in
-    let i = w .before .before in
-    let k = i .before in
-    let s = begun k in
-    let a = s .args in
-    let p = w .put-around .ensures in (
-      sent-as (plain-text (a .t) (a .m) (nodesIn (a .table .now)) (a .n) (a .v) _ (placed k .place-node .ensures) (start k) (plain i) (a .s) (s .pre .0 .2) (s .pre .0 .5)) (p .0),
-      omega (arith, p .1),
-    )
-
-cast-put-node : tie.Need-cast-put-node
-cast-put-node c = let h = begun (c .before .before) .pre .0 .3 .slots-high in search needs
-
-put-node-requires : tie.Need-put-node-requires
-put-node-requires c κs =
-    let k = c .before .before in
-    let s = begun k in
+    let a = c .before .before .before .before .before in
+    let s = a .before .before .before .before in
     let r = s .pre .0 .3 in
-    let p = placed k .place-node .ensures in
-    ((s .pre .0 .0, s .pre .0 .1, omega (arith, low k), r .slots-low, r .slots-high), (p .big-low, p .p-low, p .q-low, p .is-allowed, p .is-apart))
-
-same-length-2 : tie.Need-same-length-2
-same-length-2 c = search needs
-
-returns-2 : tie.Need-returns-2
-returns-2 c =
-    let w = c .before .before in
-    let k = w .before .before .before in
-    let s = begun k in
-    let a = s .args in
-    let p = w .put-node .ensures in
-    (sent-as (node-lines (a .t) (a .m) (nodesIn (a .table .now)) (a .n) (a .v) _ (placed k .place-node .ensures) (start k)) (p .0), p .1)
+    let p = s .args .plan in
+    let ns = nodesIn (s .args .table .now) in
+    let b = a .blocks-at .ensures in
+    let line = entryLine (s .args .variable .v) in
+    let q = c .before .before .put-node .ensures in
+    (sent-as (user-lines (p .t) (p .m) (p .l) ns (s .args .n) line (s .pre .1 .starts (s .args .n) (s .pre .0 .4)) b (r .slots-low)) (q .0), q .1)
 
 pub put-user-spec : {M : Type 1} → statement M
 put-user-spec =
     tie.close
     (tie.spec
-    place-node-requires
-    mul-start
-    element-copy-out-start
-    is-plain-requires
-    put-around-requires
-    same-length
-    returns
-    cast-put-node
+    add-kept
+    mul-kept
+    element-copy-out-kept
+    cast-kept
+    blocks-at-requires
+    mul-put-node
+    element-copy-out-put-node
     put-node-requires
-    same-length-2
-    returns-2)
+    same-length
+    returns)

@@ -2,72 +2,73 @@
 use mathlib.Core.Path.{_≡_, sym, ap, _∙_}
 use Prim.Native.Nat.{ℕ, _+_, _*_}
 use native.Mathlib.Omega.{arith}
-use borrow.Author.Needs.{needs}
 use lib.ListN.{length}
+use Rattle.rules.specs.Quantities.{LoopAllowed}
 use Rattle.rules.specs.TableTest.{nodesIn, length-nodesIn}
 use Rattle.row.specs.NodeRows.{goal-is}
 use Rattle.mps.specs.Page.{costLine}
-use Rattle.lines.specs.Sent.{Sent}
-use Rattle.columns.specs.Users.{variableText}
 use Rattle.columnlines.specs.Column.{users-sent, column-some, column-none}
+use borrow.Author.Needs.{needs}
 use Rattle.columnlines.proofs.put_variable.Statement.{statement}
 use Rattle.columnlines.proofs.put_variable.Tie as tie
 
-abbrev listed : tie.After-put-row → tie.After-put-users
-listed c = c .before .before .before .before .before .before
-
-abbrev start : tie.After-put-row → tie.Start
-start c = listed c .before .before .before .before .before .before
-
--- the variable's number, and its lines in the rows
-named : (c : tie.After-put-row) → listed c .before .before .before .place .result + start c .args .s ≡ start c .args .x * start c .args .t + start c .args .s
-named c = ap (λ (k : ℕ). k + start c .args .s) (listed c .before .before .before .place .ensures .0)
-
-variable : (c : tie.After-put-row) →
-    Sent (start c .args .at) (variableText (start c .args .t) (start c .args .m) (nodesIn (start c .args .table .now)) (start c .args .x) (start c .args .s)) (start c .args .out .now) (c .put-row .last .0) (c .put-row .result)
-variable c =
-    let s = start c in
-    let a = s .args in
-    let ns = nodesIn (a .table .now) in
-    let u = listed c in
-    let g = c .before .before in
-    let n = u .before .before .count in
-    let e : length ns ≡ n .result = length-nodesIn (a .m) (a .table .now) ∙ sym (n .ensures) in
-    users-sent (a .t) (a .m) ns (a .x) (a .s) _ (named c) (omega arith) (s .pre .1 .1) (u .put-users .ensures .0) (s .pre .0 .5)
-    (g .goal .ensures ∙ goal-is (a .t) (a .m) ns (n .result) e (g .before .slack .ensures)) (c .put-row .ensures .0)
-
 place-requires : tie.Need-place-requires
-place-requires c κs = search needs
+place-requires c κs = (c .before .before .before .pre .0 .1, c .before .before .before .pre .0 .3 .slots-high)
 
 cast-v : tie.Need-cast-v
-cast-v c = search needs
+cast-v c = let h = c .place .ensures .1 in search needs
 
 add-v : tie.Need-add-v
-add-v c = search needs
+add-v c =
+    let s = c .before .before .before .before .before in
+    record { fits = omega (arith, c .before .place .ensures .1, s .pre .0 .2, s .pre .0 .3 .slots-high) }
 
 count-requires : tie.Need-count-requires
 count-requires c κs = search needs
 
 put-users-requires : tie.Need-put-users-requires
 put-users-requires c κs =
-    let s = c .before .before .before .before .before in
+    let p = c .before .before .before in
+    let s = p .before .before .before .before in
     let f = s .pre .1 .1 in
-    ((omega arith, omega (arith, c .before .before .place .ensures .1), omega arith, s .pre .0 .3, f .few, (s .args .x, ap (λ (k : ℕ). k + s .args .s) (c .before .before .place .ensures .0))), (s .pre .1 .0, λ j h. let e = f .low j h in omega (arith, length-nodesIn (s .args .m) (s .args .table .now))))
+    let n = length-nodesIn (s .args .plan .m) (s .args .table .now) in (
+      (
+        omega (arith, s .pre .0 .0),
+        omega (arith, p .place .ensures .1, s .pre .0 .2, s .pre .0 .3 .slots-high),
+        s .pre .0 .2,
+        s .pre .0 .3,
+        (s .args .slot .x, ap (λ (k : ℕ). k + s .args .slot .s) (p .place .ensures .0)),
+      ),
+      (s .pre .1 .0, (f .few, λ j h. omega (arith, n, f .low j h))),
+    )
 
 sub-slack : tie.Need-sub-slack
-sub-slack c = search needs
+sub-slack c =
+    let count = c .before .before .before .before in
+    let s = count .before .before .before .before .before .before in
+    omega (arith, s .pre .0 .3 .some-nodes, count .count .ensures)
 
 slack-requires : tie.Need-slack-requires
-slack-requires c κs = search needs
+slack-requires c κs =
+    let count = c .before .before .before .before in
+    let s = count .before .before .before .before .before .before in
+    let r = s .pre .0 .3 in omega (arith, r .few-nodes, r .slots-high, r .atoms-high, count .count .ensures)
 
 goal-requires : tie.Need-goal-requires
 goal-requires c κs = search needs
 
 put-row-requires : tie.Need-put-row-requires
-put-row-requires c κs = search needs
+put-row-requires c κs =
+    let u = c .before .before .before .before .before in
+    let p = u .before .before .before .before in
+    let s = p .before .before .before .before in
+    (omega (arith, s .pre .0 .0, u .put-users .ensures .1), omega (arith, p .place .ensures .1, s .pre .0 .2, s .pre .0 .3 .slots-high), s .pre .0 .4)
 
 put-number-line-requires : tie.Need-put-number-line-requires
-put-number-line-requires c κs = search needs
+put-number-line-requires c κs =
+    let p = c .before .before .before .before .before .before .before .before .before .before .before .before .before .before in
+    let s = p .before .before .before .before in
+    (omega (arith, s .pre .0 .0), omega (arith, p .place .ensures .1, s .pre .0 .2, s .pre .0 .3 .slots-high), omega arith, omega arith)
 
 same-length : tie.Need-same-length
 same-length c = search needs
@@ -75,23 +76,56 @@ same-length c = search needs
 returns : tie.Need-returns
 unfolding costLine
 returns c =
-    let w = c .before .before in
-    let i = w .before .before in
-    let r = i .before .before .before in
-    let s = start r in
-    let a = s .args in
-    let p = w .put-number-line .ensures in
-    (column-none (a .t) (a .m) (nodesIn (a .table .now)) (a .x) (a .s) _ (named r) (omega arith) (variable r) (i .if1 .taken) (p .0), omega (arith, p .1))
+    let i = c .before .before .before .before in
+    let row = i .before .before .before in
+    let g = row .before .before in
+    let s = g .before in
+    let u = s .before .before .before in
+    let count = u .before .before in
+    let place = count .before .before in
+    let start = place .before .before .before .before in
+    let p = start .args .plan in
+    let ns = nodesIn (start .args .table .now) in
+    let r = start .pre .0 .3 in
+    let loop : LoopAllowed (p .t) (p .l) = (r .loop-low, r .loop-high) in
+    let n = count .count in
+    let e : length ns ≡ n .result = length-nodesIn (p .m) (start .args .table .now) ∙ sym (n .ensures) in
+    let named : place .place .result + start .args .slot .s ≡ start .args .slot .x * p .t + start .args .slot .s =
+    ap (λ (k : ℕ). k + start .args .slot .s) (place .place .ensures .0) in
+    let lines = users-sent (p .t) (p .m) (p .l) loop ns (start .args .slot .x) (start .args .slot .s) _ named (start .pre .0 .2) (start .pre .1 .1)
+    (u .put-users .ensures .0) (start .pre .0 .5)
+    (g .goal .ensures ∙ goal-is (p .t) (p .m) (p .l) ns (n .result) e (s .slack .ensures)) (row .put-row .ensures .0) in
+    let q = c .before .before .put-number-line .ensures in (
+      column-none (p .t) (p .m) (p .l) loop ns (start .args .slot .x) (start .args .slot .s) _ named (start .pre .0 .2) lines (i .if1 .taken) (q .0),
+      omega (arith, q .1),
+    )
 
 same-length-2 : tie.Need-same-length-2
 same-length-2 c = search needs
 
 returns-2 : tie.Need-returns-2
 returns-2 c =
-    let r = c .before .before .before in
-    let s = start r in
-    let a = s .args in
-    (column-some (a .t) (a .m) (nodesIn (a .table .now)) (a .x) (a .s) _ (named r) (omega arith) (variable r) (c .if1 .left), omega (arith, r .put-row .ensures .1, listed r .put-users .ensures .1))
+    let row = c .before .before .before in
+    let g = row .before .before in
+    let s = g .before in
+    let u = s .before .before .before in
+    let count = u .before .before in
+    let place = count .before .before in
+    let start = place .before .before .before .before in
+    let p = start .args .plan in
+    let ns = nodesIn (start .args .table .now) in
+    let r = start .pre .0 .3 in
+    let loop : LoopAllowed (p .t) (p .l) = (r .loop-low, r .loop-high) in
+    let n = count .count in
+    let e : length ns ≡ n .result = length-nodesIn (p .m) (start .args .table .now) ∙ sym (n .ensures) in
+    let named : place .place .result + start .args .slot .s ≡ start .args .slot .x * p .t + start .args .slot .s =
+    ap (λ (k : ℕ). k + start .args .slot .s) (place .place .ensures .0) in
+    let lines = users-sent (p .t) (p .m) (p .l) loop ns (start .args .slot .x) (start .args .slot .s) _ named (start .pre .0 .2) (start .pre .1 .1)
+    (u .put-users .ensures .0) (start .pre .0 .5)
+    (g .goal .ensures ∙ goal-is (p .t) (p .m) (p .l) ns (n .result) e (s .slack .ensures)) (row .put-row .ensures .0) in (
+      column-some (p .t) (p .m) (p .l) loop ns (start .args .slot .x) (start .args .slot .s) _ named (start .pre .0 .2) lines (c .if1 .left),
+      omega (arith, row .put-row .ensures .1, u .put-users .ensures .1),
+    )
 
 pub put-variable-spec : {M : Type 1} → statement M
 put-variable-spec =

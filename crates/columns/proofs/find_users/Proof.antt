@@ -6,8 +6,8 @@ use native.Mathlib.Omega.{arith}
 use borrow.Author.Needs.{needs}
 use Rattle.rules.specs.Table.{nodeAt}
 use Rattle.rules.specs.TableTest.{nodesIn, length-nodesIn}
-use Rattle.columns.specs.Users.{uses}
-use Rattle.columns.specs.Finding.{FoundTo, found-none, found-more, found-same, found-all}
+use Rattle.columns.specs.Users.{hasPart, uses}
+use Rattle.columns.specs.Finding.{FoundTo, found-none, found-more, found-same, found-all, uses-part}
 use Rattle.columns.proofs.find_users.Statement.{statement}
 use Rattle.columns.proofs.find_users.Tie as tie
 
@@ -44,8 +44,12 @@ loop-again c =
     let l = u .before .before .before in
     let a = l .before .before .args in
     let d = l .loop .inv .1 in
-    let e : u .is-used .result ≡ uses (a .m) (a .x) (l .loop .i) (nodeAt (nodesIn (a .table .now)) (l .loop .i)) =
-    rw (← u .before .node-at .ensures .is) (u .is-used .ensures (u .before .node-at .result .from) (u .before .node-at .result .to)) in (
+    let ns = nodesIn (a .table .now) in
+    let long = length-nodesIn (a .m) (a .table .now) in
+    let part : u .is-used .result ≡ hasPart (a .m) (a .x) (l .loop .i) (nodeAt ns (l .loop .i)) =
+    rw (← u .before .node-at .ensures .is) (u .is-used .ensures (u .before .node-at .result .from) (u .before .node-at .result .to)) in
+    let e : u .is-used .result ≡ uses (a .m) ns (a .x) (l .loop .i) =
+    part ∙ sym (uses-part (a .m) ns (a .x) (l .loop .i) (omega (arith, long, l .before .before .pre))) in (
       omega arith,
       ⊎-elim
           (λ w. found-more d (sym e ∙ w .0 .taken) (omega arith) (w .3 ∙ w .2 .ensures .content) (w .4 ∙ w .2 .ensures .ends))

@@ -16,10 +16,11 @@ returns : tie.Need-returns
 returns c =
     let a = c .before .before .before .before .before .before .before .args in
     let k = c .before .before .evaluate in
-    let answers = evaluator-answers (a .t) (a .m) (a .table .now) (a .run .now) (told (k .result)) (a .out .now) (k .last .1 .1 .1 .1 .0)
+    let answers = evaluator-answers (a .t) (a .m) (a .l) (a .table .now) (a .run .now) (told (k .result)) (a .out .now) (k .last .1 .1 .1 .1 .1 .0)
     (k .ensures .0) (k .ensures .1) in (
-      evaluator-refuses (a .t) (a .m) (a .table .now) (a .run .now) (told (k .result)) (a .out .now) (k .last .1 .1 .1 .1 .0) (k .ensures .0) (k .ensures .1),
-      (answers, evaluator-bytes (a .t) (a .m) (a .table .now) (a .run .now) (told (k .result)) (a .out .now) (k .last .1 .1 .1 .1 .0) answers),
+      evaluator-refuses (a .t) (a .m) (a .l) (a .table .now) (a .run .now) (told (k .result)) (a .out .now) (k .last .1 .1 .1 .1 .1 .0)
+          (k .ensures .0) (k .ensures .1),
+      (answers, evaluator-bytes (a .t) (a .m) (a .l) (a .table .now) (a .run .now) (told (k .result)) (a .out .now) (k .last .1 .1 .1 .1 .1 .0) answers),
     )
 
 pub evaluate-spec : {M : Type 1} → statement M

@@ -20,23 +20,23 @@ returns c =
     let s = c .before .before in
     let a = s .args in
     let k = c .judge in
-    let told = k .ensures ∙ ap (judgeOutcome (a .t) (a .m) (a .table .now) (a .figures .now)) (toZ-ofZ (s .fits .e)) in
+    let told = k .ensures ∙ ap (judgeOutcome (a .t) (a .m) (a .l) (a .table .now) (a .figures .now)) (toZ-ofZ (s .fits .e)) in
     let r = ruled (k .result) in (
-      judge-refuses (a .t) (a .m) (a .table .now) (a .figures .now) (a .e) r told,
+      judge-refuses (a .t) (a .m) (a .l) (a .table .now) (a .figures .now) (a .e) r told,
       (
-        judge-answers (a .t) (a .m) (a .table .now) (a .figures .now) (a .e) r told,
+        judge-answers (a .t) (a .m) (a .l) (a .table .now) (a .figures .now) (a .e) r told,
         (
-          passed-means (a .t) (a .m) (a .table .now) (a .figures .now) (a .e) r told,
+          passed-means (a .t) (a .m) (a .l) (a .table .now) (a .figures .now) (a .e) r told,
           (
-            passed-at-zero (a .t) (a .m) (a .table .now) (a .figures .now) (a .e) r told,
+            passed-at-zero (a .t) (a .m) (a .l) (a .table .now) (a .figures .now) (a .e) r told,
             (
-              passed-near (a .t) (a .m) (a .table .now) (a .figures .now) (a .e) r told,
+              passed-near (a .t) (a .m) (a .l) (a .table .now) (a .figures .now) (a .e) r told,
               (
-                same-verdict (a .t) (a .m) (a .table .now) (a .figures .now) (a .e) r told,
+                same-verdict (a .t) (a .m) (a .l) (a .table .now) (a .figures .now) (a .e) r told,
                 (
-                  carries-shortfall (a .t) (a .m) (a .table .now) (a .figures .now)
+                  carries-shortfall (a .t) (a .m) (a .l) (a .table .now) (a .figures .now)
                       (a .e) r told,
-                  summed-verdict (a .t) (a .m) (a .table .now) (a .figures .now) (a .e) r told,
+                  summed-verdict (a .t) (a .m) (a .l) (a .table .now) (a .figures .now) (a .e) r told,
                 ),
               ),
             ),

@@ -15,10 +15,10 @@ returns : tie.Need-returns
 returns c =
     let a = c .before .before .before .before .before .before .args in
     let k = c .before .before .mps-page in (
-      page-refuses (a .t) (a .m) (a .table .now) (told (k .result)) (a .out .now) (k .last .1 .1 .1 .0) (k .ensures .0) (k .ensures .1 .0),
+      page-refuses (a .t) (a .m) (a .l) (a .table .now) (told (k .result)) (a .out .now) (k .last .1 .1 .1 .1 .0) (k .ensures .0) (k .ensures .1 .0),
       (
-        page-answers (a .t) (a .m) (a .table .now) (told (k .result)) (a .out .now) (k .last .1 .1 .1 .0) (k .ensures .0) (k .ensures .1 .0),
-        page-means (a .t) (a .m) (a .table .now) (told (k .result)) (a .out .now) (k .last .1 .1 .1 .0) (k .ensures .0) (k .ensures .1 .0),
+        page-answers (a .t) (a .m) (a .l) (a .table .now) (told (k .result)) (a .out .now) (k .last .1 .1 .1 .1 .0) (k .ensures .0) (k .ensures .1 .0),
+        page-means (a .t) (a .m) (a .l) (a .table .now) (told (k .result)) (a .out .now) (k .last .1 .1 .1 .1 .0) (k .ensures .0) (k .ensures .1 .0),
       ),
     )
 

@@ -52,7 +52,8 @@ enum-known-count c = search needs
 
 slice-reshare-prefix-evaluate : tie.Need-slice-reshare-prefix-evaluate
 slice-reshare-prefix-evaluate c =
-    let a = c .before .before .before .before .before .before .before .before .before .before .before .before .before .before .before .before .before .before .before .before .args in
+    let a = c .before .before .before .before .before .before .before .before .before .before .before .before .before
+    .before .before .before .before .before .before .before .args in
     let k = c .before .before .before .before .before .before .before .before .before .before .before .before .before .read in
     let n = c .before .before .before .before .before .before .before .before .before .n .given in
     let r = read-room (a .m) (a .text .now) (a .table .now) (k .last .1 .1 .0) (n .0 .0) (sym (ap told (n .1)) ∙ k .ensures .0) (k .ensures .1) in
@@ -60,7 +61,8 @@ slice-reshare-prefix-evaluate c =
 
 slice-aggregate-evaluate : tie.Need-slice-aggregate-evaluate
 slice-aggregate-evaluate c =
-    let a = c .before .before .before .before .before .before .before .before .before .before .before .before .before .before .before .before .before .before .before .before .before .args in
+    let a = c .before .before .before .before .before .before .before .before .before .before .before .before .before
+    .before .before .before .before .before .before .before .before .args in
     let k = c .before .before .before .before .before .before .before .before .before .before .before .before .before .before .read in
     let n = c .before .before .before .before .before .before .before .before .before .before .n .given in
     let r = read-room (a .m) (a .text .now) (a .table .now) (k .last .1 .1 .0) (n .0 .0) (sym (ap told (n .1)) ∙ k .ensures .0) (k .ensures .1) in
@@ -83,7 +85,8 @@ returns c =
     let a = c .before .before .before .before .before .before .before .before .before .before .before .before .args in
     let k = c .before .before .before .before .before .read in
     let r = c .before .r .given in
-    read-refused (a .t) (a .m) (a .text .now) (a .run .now) (a .table .now) (a .rows .now) (a .truth .now) (k .last .1 .1 .0) (k .ensures .1) _ _ _ (r .0 .0) (sym (ap told (r .1)) ∙ k .ensures .0)
+    read-refused (a .t) (a .m) (a .l) (a .text .now) (a .run .now) (a .table .now) (a .rows .now) (a .truth .now)
+    (k .last .1 .1 .0) (k .ensures .1) _ _ _ (r .0 .0) (sym (ap told (r .1)) ∙ k .ensures .0)
 
 same-length-2 : tie.Need-same-length-2
 same-length-2 c = search needs
@@ -93,12 +96,14 @@ same-length-3 c = search needs
 
 returns-2 : tie.Need-returns-2
 returns-2 c =
-    let a = c .before .before .before .before .before .before .before .before .before .before .before .before .before .before .before .before .before .before .before .before .args in
+    let a = c .before .before .before .before .before .before .before .before .before .before .before .before .before
+    .before .before .before .before .before .before .before .args in
     let k = c .before .before .before .before .before .before .before .before .before .before .before .before .before .read in
     let n = c .before .before .before .before .before .before .before .before .before .n .given in
     let w = c .before .before .before .before .before .write-rows in
     let r = c .before .r2 .given in
-    rows-refused (a .t) (a .m) (a .text .now) (a .run .now) (a .table .now) (a .rows .now) (a .truth .now) (k .last .1 .1 .0) (k .ensures .1) _ _ _ (n .0 .0) (sym (ap told (n .1)) ∙ k .ensures .0) (r .0 .0) (sym (ap told (r .1)) ∙ w .ensures .0)
+    rows-refused (a .t) (a .m) (a .l) (a .text .now) (a .run .now) (a .table .now) (a .rows .now) (a .truth .now)
+    (k .last .1 .1 .0) (k .ensures .1) _ _ _ (n .0 .0) (sym (ap told (n .1)) ∙ k .ensures .0) (r .0 .0) (sym (ap told (r .1)) ∙ w .ensures .0)
 
 same-length-4 : tie.Need-same-length-4
 same-length-4 c = search needs
@@ -111,12 +116,16 @@ same-length-6 c = search needs
 
 returns-3 : tie.Need-returns-3
 returns-3 c =
-    let a = c .before .before .before .before .before .before .before .before .before .before .before .before .before .before .before .before .before .before .before .before .before .before .before .before .before .before .before .before .args in
-    let k = c .before .before .before .before .before .before .before .before .before .before .before .before .before .before .before .before .before .before .before .before .before .read in
-    let n = c .before .before .before .before .before .before .before .before .before .before .before .before .before .before .before .before .before .n .given in
+    let a = c .before .before .before .before .before .before .before .before .before .before .before .before .before
+    .before .before .before .before .before .before .before .before .before .before .before .before .before .before .before .args in
+    let k = c .before .before .before .before .before .before .before .before .before .before .before .before .before
+    .before .before .before .before .before .before .before .before .read in
+    let n = c .before .before .before .before .before .before .before .before .before .before .before .before .before
+    .before .before .before .before .n .given in
     let w = c .before .before .before .before .before .evaluate in
     let r = c .before .r3 .given in
-    evaluate-refused (a .t) (a .m) (a .text .now) (a .run .now) (a .table .now) (a .rows .now) (a .truth .now) (k .last .1 .1 .0) (k .ensures .1) _ _ _ (n .0 .0) (sym (ap told (n .1)) ∙ k .ensures .0) (r .0 .0) (sym (ap told (r .1)) ∙ w .ensures .0)
+    evaluate-refused (a .t) (a .m) (a .l) (a .text .now) (a .run .now) (a .table .now) (a .rows .now) (a .truth .now)
+    (k .last .1 .1 .0) (k .ensures .1) _ _ _ (n .0 .0) (sym (ap told (n .1)) ∙ k .ensures .0) (r .0 .0) (sym (ap told (r .1)) ∙ w .ensures .0)
 
 same-length-7 : tie.Need-same-length-7
 same-length-7 c = search needs
@@ -129,14 +138,18 @@ same-length-9 c = search needs
 
 returns-4 : tie.Need-returns-4
 returns-4 c =
-    let a = c .before .before .before .before .before .before .before .before .before .before .before .before .before .before .before .before .before .before .before .before .before .before .before .before .before .before .before .before .args in
-    let k = c .before .before .before .before .before .before .before .before .before .before .before .before .before .before .before .before .before .before .before .before .before .read in
-    let n = c .before .before .before .before .before .before .before .before .before .before .before .before .before .before .before .before .before .n .given in
+    let a = c .before .before .before .before .before .before .before .before .before .before .before .before .before
+    .before .before .before .before .before .before .before .before .before .before .before .before .before .before .before .args in
+    let k = c .before .before .before .before .before .before .before .before .before .before .before .before .before
+    .before .before .before .before .before .before .before .before .read in
+    let n = c .before .before .before .before .before .before .before .before .before .before .before .before .before
+    .before .before .before .before .n .given in
     let w = c .before .before .before .before .before .before .before .before .before .before .before .before .before .write-rows in
     let count = c .before .before .before .before .before .before .before .before .before .count .given in
     let e = c .before .before .before .before .before .evaluate in
     let v = c .before .v .given in
-    done (a .t) (a .m) (a .text .now) (a .run .now) (a .table .now) (a .rows .now) (a .truth .now) (k .last .1 .1 .0) (k .ensures .1) (n .0 .0) (count .0 .0) (v .0 .0) _ _ (sym (ap told (n .1)) ∙ k .ensures .0)
+    done (a .t) (a .m) (a .l) (a .text .now) (a .run .now) (a .table .now) (a .rows .now) (a .truth .now)
+    (k .last .1 .1 .0) (k .ensures .1) (n .0 .0) (count .0 .0) (v .0 .0) _ _ (sym (ap told (n .1)) ∙ k .ensures .0)
     (sym (ap told (count .1)) ∙ w .ensures .0) (w .ensures .1) (sym (ap told (v .1)) ∙ e .ensures .0) (e .ensures .1)
 
 pub plan-spec : {M : Type 1} → statement M

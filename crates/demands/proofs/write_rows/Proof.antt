@@ -16,8 +16,8 @@ returns : tie.Need-returns
 returns c =
     let a = c .before .before .before .before .before .before .args in
     let k = c .before .before .write-rows in (
-      row-writer-refuses (a .t) (a .m) (a .table .now) (told (k .result)) (a .out .now) (k .last .1 .1 .1 .0) (k .ensures .0) (k .ensures .1),
-      row-writer-answers (a .t) (a .m) (a .table .now) (told (k .result)) (a .out .now) (k .last .1 .1 .1 .0) (k .ensures .0) (k .ensures .1),
+      row-writer-refuses (a .t) (a .m) (a .l) (a .table .now) (told (k .result)) (a .out .now) (k .last .1 .1 .1 .1 .0) (k .ensures .0) (k .ensures .1),
+      row-writer-answers (a .t) (a .m) (a .l) (a .table .now) (told (k .result)) (a .out .now) (k .last .1 .1 .1 .1 .0) (k .ensures .0) (k .ensures .1),
     )
 
 pub write-rows-spec : {M : Type 1} → statement M

@@ -1,5 +1,4 @@
 -- `entrylines::put_until` meets its contract. By what the variable is. Assumes nothing.
-use Prim.Native.Nat.{_+_}
 use native.Mathlib.Omega.{arith}
 use Rattle.lines.specs.Sent.{sent-none, sent-as}
 use Rattle.entrylines.specs.Roles.{until-own, until-next, until-both, until-first, until-second, until-none}
@@ -15,16 +14,16 @@ same-length c = search needs
 
 returns : tie.Need-returns
 returns c =
-    let w = c .before .before in
-    let t = w .before .before in
-    let s = t .before .before in
+    let i = c .before .before .before .before in
+    let s = i .before .before .before in
+    let h = i .if1 .taken in
     let a = s .args in
-    let h = t .if1 .taken in
-    let p = w .put-own-until .ensures in
-    (sent-as (until-own (a .v) (a .i) (a .big) (a .p) (a .q) (a .big + 1) (t .if1 .taken) (λ e. omega arith) (λ e. omega arith) (λ e. omega arith)) (p .0), omega (arith, p .1))
-
-add-if2 : tie.Need-add-if2
-add-if2 c = search needs
+    let z = a .spot in
+    let p = c .before .before .put-own-until .ensures in (
+      sent-as (until-own (a .v) (a .i) (z .own) (z .left) (z .right) (z .next) (i .if1 .taken) (λ e. omega arith) (λ e. omega arith)
+          (λ e. omega arith)) (p .0),
+      omega (arith, p .1),
+    )
 
 add-put-two : tie.Need-add-put-two
 add-put-two c = search needs
@@ -49,14 +48,17 @@ same-length-2 c = search needs
 
 returns-2 : tie.Need-returns-2
 returns-2 c =
-    let w = c .before .before in
-    let u = w .before .before in
-    let t = u .before in
-    let s = t .before .before in
+    let i = c .before .before .before .before in
+    let w = i .before .before in
+    let s = w .before .before .before in
+    let h = i .if2 .taken in
     let a = s .args in
-    let h = u .if2 .taken in
-    let p = w .put-two .ensures in
-    (sent-as (until-next (a .v) (a .i) (a .big) (a .p) (a .q) (a .big + 1) (t .if1 .left) (λ e. omega arith) (λ e. omega arith) (u .if2 .taken)) (p .0), omega (arith, p .1))
+    let z = a .spot in
+    let p = c .before .before .put-two .ensures in (
+      sent-as (until-next (a .v) (a .i) (z .own) (z .left) (z .right) (z .next) (w .if1 .left) (λ e. omega arith) (λ e. omega arith) (i .if2 .taken))
+          (p .0),
+      omega (arith, p .1),
+    )
 
 put-both-until-requires : tie.Need-put-both-until-requires
 put-both-until-requires c κs = search needs
@@ -66,15 +68,17 @@ same-length-3 c = search needs
 
 returns-3 : tie.Need-returns-3
 returns-3 c =
-    let w = c .before .before in
-    let g = w .before .before in
-    let f = g .before in
-    let u = f .before in
-    let t = u .before in
-    let s = t .before .before in
+    let i = c .before .before .before .before in
+    let w = i .before .before in
+    let if = w .before .before in
+    let u = if .before .before in
+    let s = u .before .before .before in
     let a = s .args in
-    let p = w .put-both-until .ensures in
-    (sent-as (until-both (a .v) (a .i) (a .big) (a .p) (a .q) (a .big + 1) (t .if1 .left) (f .if3 .taken) (g .if4 .taken) (u .if2 .left)) (p .0), omega (arith, p .1))
+    let z = a .spot in
+    let p = c .before .before .put-both-until .ensures in (
+      sent-as (until-both (a .v) (a .i) (z .own) (z .left) (z .right) (z .next) (u .if1 .left) (w .if3 .taken) (i .if4 .taken) (if .if2 .left)) (p .0),
+      omega (arith, p .1),
+    )
 
 add-put-two-6 : tie.Need-add-put-two-6
 add-put-two-6 c = search needs
@@ -96,15 +100,17 @@ same-length-4 c = search needs
 
 returns-4 : tie.Need-returns-4
 returns-4 c =
-    let w = c .before .before in
-    let g = w .before .before in
-    let f = g .before in
-    let u = f .before in
-    let t = u .before in
-    let s = t .before .before in
+    let i = c .before .before .before .before in
+    let w = i .before .before in
+    let if = w .before .before in
+    let u = if .before .before in
+    let s = u .before .before .before in
     let a = s .args in
-    let p = w .put-two2 .ensures in
-    (sent-as (until-first (a .v) (a .i) (a .big) (a .p) (a .q) (a .big + 1) (t .if1 .left) (f .if3 .taken) (g .if4 .left) (u .if2 .left)) (p .0), omega (arith, p .1))
+    let z = a .spot in
+    let p = c .before .before .put-two2 .ensures in (
+      sent-as (until-first (a .v) (a .i) (z .own) (z .left) (z .right) (z .next) (u .if1 .left) (w .if3 .taken) (i .if4 .left) (if .if2 .left)) (p .0),
+      omega (arith, p .1),
+    )
 
 put-three-requires : tie.Need-put-three-requires
 put-three-requires c κs = search needs
@@ -114,24 +120,30 @@ same-length-5 c = search needs
 
 returns-5 : tie.Need-returns-5
 returns-5 c =
-    let w = c .before .before in
-    let g = w .before .before in
-    let f = g .before in
-    let u = f .before in
-    let t = u .before in
-    let s = t .before .before in
+    let i = c .before .before .before .before in
+    let w = i .before .before in
+    let if = w .before .before in
+    let u = if .before .before in
+    let s = u .before .before .before in
     let a = s .args in
-    let p = w .put-three .ensures in
-    (sent-as (until-second (a .v) (a .i) (a .big) (a .p) (a .q) (a .big + 1) (t .if1 .left) (f .if3 .left) (g .if5 .taken) (u .if2 .left)) (p .0), omega (arith, p .1))
+    let z = a .spot in
+    let p = c .before .before .put-three .ensures in (
+      sent-as (until-second (a .v) (a .i) (z .own) (z .left) (z .right) (z .next) (u .if1 .left) (w .if3 .left) (i .if5 .taken) (if .if2 .left))
+          (p .0),
+      omega (arith, p .1),
+    )
 
 returns-6 : tie.Need-returns-6
 returns-6 c =
-    let f = c .before in
-    let u = f .before in
-    let t = u .before in
-    let s = t .before .before in
+    let i = c .before .before .before .before in
+    let w = i .before .before in
+    let s = w .before .before .before in
     let a = s .args in
-    (sent-as (until-none (a .v) (a .i) (a .big) (a .p) (a .q) (a .big + 1) (t .if1 .left) (f .if3 .left) (c .if5 .left) (u .if2 .left)) (sent-none _ _), omega arith)
+    let z = a .spot in (
+      sent-as (until-none (a .v) (a .i) (z .own) (z .left) (z .right) (z .next) (w .if1 .left) (c .before .before .if3 .left) (c .if5 .left)
+          (i .if2 .left)) (sent-none _ _),
+      omega arith,
+    )
 
 pub put-until-spec : {M : Type 1} → statement M
 put-until-spec =
@@ -140,7 +152,6 @@ put-until-spec =
     put-own-until-requires
     same-length
     returns
-    add-if2
     add-put-two
     add-put-two-2
     add-put-two-3

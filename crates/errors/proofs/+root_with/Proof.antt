@@ -15,7 +15,7 @@ use Rattle.errors.proofs.+root_with.{statement}
 use Rattle.errors.proofs.+root_with.Tie.{close}
 
 abbrev μ-root-with : Measures 2 root-with-kinds.ps ℕ
-μ-root-with κs a = a .1 .0 * a .1 .1 .0 - length (a .1 .1 .1 .1 .0 .now)
+μ-root-with κs a = a .1 .0 * a .1 .1 .0 - length (a .1 .1 .1 .1 .1 .0 .now)
 
 abbrev root-with-at : ℕ → In 2 root-with-kinds.ps
 root-with-at t = and 2 root-with-kinds.ps (is 2 root-with-kinds.ps μ-root-with t) root-with.Pre

@@ -1,5 +1,5 @@
 -- `errors::later_sum` meets its contract. Assumes nothing.
-use mathlib.Core.Path.{_≡_, refl}
+use mathlib.Core.Path.{_≡_}
 use mathlib.Core.Bool.{true, false}
 use native.Mathlib.Omega.{arith}
 use borrow.Author.Needs.{needs}
@@ -9,11 +9,8 @@ use Rattle.errors.proofs.later_sum.Tie as tie
 parts-sum-requires : tie.Need-parts-sum-requires
 parts-sum-requires c κs = search needs
 
-mul-result : tie.Need-mul-result
-mul-result c = search needs
-
-shared-slice-read-result : tie.Need-shared-slice-read-result
-shared-slice-read-result c = search needs
+figure-at-requires : tie.Need-figure-at-requires
+figure-at-requires c κs = search needs
 
 returns : tie.Need-returns
 returns c =
@@ -22,10 +19,8 @@ returns c =
 
 returns-2 : tie.Need-returns-2
 returns-2 c =
-    let a = c .before .before .before in
-    let last : a .args .follows ≡ false = c .before .if1 .left in
-    (rw last refl, omega (arith, a .pre .2 (a .args .q)))
+    let last : c .before .before .before .args .follows ≡ false = c .before .if1 .left in
+    (rw last (c .figure-at .ensures .0), omega (arith, c .figure-at .ensures .1))
 
 pub later-sum-spec : {M : Type 1} → statement M
-later-sum-spec =
-    tie.close (tie.spec parts-sum-requires mul-result shared-slice-read-result returns returns-2)
+later-sum-spec = tie.close (tie.spec parts-sum-requires figure-at-requires returns returns-2)

@@ -1,56 +1,36 @@
 -- `errors::parts_sum` meets its contract. Assumes nothing.
-use mathlib.Core.Path.{_≡_, refl}
+use mathlib.Core.Path.{_≡_, ap₂}
 use mathlib.Core.Bool.{true, false}
+use Prim.Native.Nat.{_+_}
 use native.Mathlib.Omega.{arith}
 use borrow.Author.Needs.{needs}
 use Rattle.errors.proofs.parts_sum.Statement.{statement}
 use Rattle.errors.proofs.parts_sum.Tie as tie
 
-mul-result : tie.Need-mul-result
-mul-result c = search needs
+figure-at-requires : tie.Need-figure-at-requires
+figure-at-requires c κs = search needs
 
-shared-slice-read-result : tie.Need-shared-slice-read-result
-shared-slice-read-result c = search needs
-
-mul-result-2 : tie.Need-mul-result-2
-mul-result-2 c = search needs
-
-shared-slice-read-result-2 : tie.Need-shared-slice-read-result-2
-shared-slice-read-result-2 c = search needs
+figure-at-requires-2 : tie.Need-figure-at-requires-2
+figure-at-requires-2 c κs = search needs
 
 add-result : tie.Need-add-result
-add-result c =
-    let a = c .before .before .before in
-    omega (arith, a .pre .2 (a .args .p), a .pre .2 (a .args .q))
-
-mul-result-3 : tie.Need-mul-result-3
-mul-result-3 c = search needs
-
-shared-slice-read-result-3 : tie.Need-shared-slice-read-result-3
-shared-slice-read-result-3 c = search needs
+add-result c = search needs
 
 returns : tie.Need-returns
 returns c =
-    let a = c .before .before .before in
-    let two : a .args .two ≡ true = c .before .before .if1 .taken in
-    (rw two refl, omega (arith, a .pre .2 (a .args .p), a .pre .2 (a .args .q)))
+    let a = c .before .before .before .before in
+    let two : a .args .parts .two ≡ true = c .before .if1 .taken in
+    let left = c .before .before .figure-at .ensures in
+    let right = c .figure-at2 .ensures in
+    (rw two (ap₂ _+_ (left .0) (right .0)), omega (arith, left .1, right .1))
 
 returns-2 : tie.Need-returns-2
 returns-2 c =
-    let a = c .before .before in
-    let two : a .args .two ≡ false = c .before .if1 .left in
-    (rw two (omega arith), omega (arith, a .pre .2 (a .args .p)))
+    let a = c .before .before .before in
+    let two : a .args .parts .two ≡ false = c .if1 .left in
+    let left = c .before .figure-at .ensures in
+    (rw two (omega (arith, left .0)), omega (arith, left .1))
 
 pub parts-sum-spec : {M : Type 1} → statement M
 parts-sum-spec =
-    tie.close
-    (tie.spec
-    mul-result
-    shared-slice-read-result
-    mul-result-2
-    shared-slice-read-result-2
-    add-result
-    mul-result-3
-    shared-slice-read-result-3
-    returns
-    returns-2)
+    tie.close (tie.spec figure-at-requires figure-at-requires-2 add-result returns returns-2)

@@ -11,12 +11,12 @@ place-requires c κs = search needs
 root-of-few-requires : tie.Need-root-of-few-requires
 root-of-few-requires c κs =
     let a = c .before .before .before in
-    (countable (a .args .t) (a .args .m) (a .args .table .now) (a .pre .0), a .pre .1, omega arith)
+    (countable (a .args .t) (a .args .m) (a .args .l) (a .args .table .now) (a .pre .0), a .pre .1, omega arith)
 
 root-of-more-requires : tie.Need-root-of-more-requires
 root-of-more-requires c κs =
     let a = c .before .before .before in
-    (countable (a .args .t) (a .args .m) (a .args .table .now) (a .pre .0), a .pre .1)
+    (countable (a .args .t) (a .args .m) (a .args .l) (a .args .table .now) (a .pre .0), a .pre .1)
 
 returns : tie.Need-returns
 returns c = search needs

@@ -37,11 +37,12 @@ returns c =
     let w = c .before .before .before .before in
     let a = w .before .before .before .before in
     let ns = nodesIn (a .args .table .now) in
-    let m = w .work .last .1 .1 .1 .1 .0 in
+    let m = w .work .last .1 .1 .1 .1 .1 .0 in
     let count = length-nodesIn 16 (a .args .table .now) in
     let all : a .args .n ≡ length ns = omega (arith, a .pre .1, count) in
     ap (λ (i : ℕ). getD m i 0) (c .before .place .ensures .0)
-    ∙ root-known (a .args .t) (a .args .e) ns _ m (a .pre .0 .slots-low) (omega (arith, a .pre .0 .some-nodes, count)) (rw all at (w .work .ensures))
+    ∙ root-known (a .args .t) (a .args .l) (a .args .e) ns _ m (a .pre .0 .slots-low) (omega (arith, a .pre .0 .some-nodes, count))
+    (rw all at (w .work .ensures))
     (a .args .n - 1) (omega (arith, all))
 
 pub root-in-spec : {M : Type 1} → statement M

@@ -10,15 +10,15 @@ use Rattle.errors.proofs.work.Statement.{statement}
 use Rattle.errors.proofs.work.Tie as tie
 
 abbrev Inv-loop : tie.InvT-loop
-Inv-loop table n t e figures₀ i₀ figures i = (i ≤ n) × Known t e (nodesIn table) (length figures₀) i figures
+Inv-loop table n t l e figures₀ i₀ figures i = (i ≤ n) × Known t l e (nodesIn table) (length figures₀) i figures
 
 abbrev μ-loop : tie.MeasureT-loop
-μ-loop table n t e figures₀ i₀ figures i = n - i
+μ-loop table n t l e figures₀ i₀ figures i = n - i
 
 loop-holds : tie.Need-loop-holds Inv-loop μ-loop
 loop-holds c =
     let a = c .before .before in
-    (omega arith, known-none _ _ _ _ (a .pre .3))
+    (omega arith, known-none _ _ _ _ _ (a .pre .3))
 
 work-one-requires : tie.Need-work-one-requires Inv-loop μ-loop
 work-one-requires c κs =
@@ -42,7 +42,7 @@ loop-again c =
     let ns = nodesIn (a .args .table .now) in
     let inside : l .loop .i < length ns = omega (arith, w .before .before .loop-test, a .pre .1, length-nodesIn 16 (a .args .table .now)) in (
       omega (arith, w .before .before .loop-test),
-      known-more (a .args .t) 16 (a .args .e) ns (a .pre .0 .good) _ (l .loop .i) inside _ _ (l .loop .inv .1)
+      known-more (a .args .t) 16 (a .args .l) (a .args .e) ns (a .pre .0 .loop) (a .pre .0 .good) _ (l .loop .i) inside _ _ (l .loop .inv .1)
           (w .work-one .ensures .0) (w .work-one .ensures .1),
     )
 

@@ -1,52 +1,33 @@
 -- `errors::work_here` meets its contract. The loop's invariant: the node has been worked from slot s on. Assumes nothing.
 use mathlib.Core.Path.{_≡_, ap, _∙_}
-use Prim.Native.Nat.{ℕ, _+_, _-_, _*_, _≤_, _<_, min}
+use Prim.Native.Nat.{ℕ, _+_, _-_, _*_, _≤_, min}
 use native.Mathlib.Omega.{arith}
-use Rattle.lists.specs.Place.{place-end}
 use Rattle.rules.specs.Quantities.{one}
 use Rattle.errors.specs.Worked.{Worked, Small, worked-none, step}
-use Rattle.errors.specs.Count.{figureHere, parts-read}
+use Rattle.errors.specs.Count.{figureHere, parts-in, parts-read}
 use Rattle.errors.proofs.work_here.Statement.{statement}
 use Rattle.errors.proofs.work_here.Tie as tie
 
 abbrev Inv-loop : tie.InvT-loop
-Inv-loop figures₀ t n left right two e here p q s₀ figures s = (s ≤ t) × Worked t n (figureHere t e figures₀ left right two) figures₀ s figures × Small figures
+Inv-loop figures₀ t n parts e here s₀ figures s = (s ≤ t) × Worked t n (figureHere t e figures₀ parts) figures₀ s figures × Small figures
 
 abbrev μ-loop : tie.MeasureT-loop
-μ-loop figures₀ t n left right two e here p q s₀ figures s = s
+μ-loop figures₀ t n parts e here s₀ figures s = s
 
 place-requires : tie.Need-place-requires Inv-loop μ-loop
 place-requires c κs = omega arith
 
-place-requires-2 : tie.Need-place-requires-2 Inv-loop μ-loop
-place-requires-2 c κs = omega arith
-
-place-requires-3 : tie.Need-place-requires-3 Inv-loop μ-loop
-place-requires-3 c κs = omega arith
-
 loop-holds : tie.Need-loop-holds Inv-loop μ-loop
-loop-holds c = (omega arith, worked-none _ _ _ _, c .before .before .before .before .pre .1)
+loop-holds c = (omega arith, worked-none _ _ _ _, c .before .before .pre .1)
 
 sub-s : tie.Need-sub-s Inv-loop μ-loop
 sub-s c = omega arith
 
-add-parts-sum : tie.Need-add-parts-sum Inv-loop μ-loop
-add-parts-sum c = omega arith
-
-add-parts-sum-2 : tie.Need-add-parts-sum-2 Inv-loop μ-loop
-add-parts-sum-2 c = omega arith
-
 parts-sum-requires : tie.Need-parts-sum-requires Inv-loop μ-loop
 parts-sum-requires c κs =
-    let l = c .before .before in
-    let r = l .before in
-    let a = r .before .before .before .before in
-    let t = a .args .t in
-    let long = l .loop .inv .1 .same in (
-      omega (arith, r .before .place2 .ensures .0, place-end t (a .pre .2), a .pre .0 .inside, long),
-      omega (arith, r .place3 .ensures .0, place-end t (a .pre .3), a .pre .0 .inside, long),
-      l .loop .inv .2,
-    )
+    let l = c .before .before .loop in
+    let a = c .before .before .before .before .before in
+    (parts-in (l .figures) (a .pre .0) (a .pre .2) (l .inv .1 .same), omega (arith, c .before .loop-test, l .inv .0), l .inv .2)
 
 add-stopped : tie.Need-add-stopped Inv-loop μ-loop
 add-stopped c = omega arith
@@ -63,7 +44,7 @@ mul-figures c = omega arith
 slice-write-figures : tie.Need-slice-write-figures Inv-loop μ-loop
 slice-write-figures c =
     let l = c .before .before .before .before in
-    let h = l .before .before .before in
+    let h = l .before in
     omega (arith, h .place .ensures .0, h .before .before .pre .0 .inside, l .loop .inv .1 .same)
 
 loop-less : tie.Need-loop-less Inv-loop μ-loop
@@ -73,16 +54,11 @@ loop-again : tie.Need-loop-again Inv-loop μ-loop
 loop-again c =
     let k = c .before in
     let l = k .before .before .before in
-    let r = l .before in
-    let h = r .before .before in
+    let h = l .before in
     let a = h .before .before in
     let s = l .loop .s in
     let i : h .place .result + (s - 1) ≡ a .args .n * a .args .t + (s - 1) = omega (arith, h .place .ensures .0) in
-    let in-run : s - 1 < a .args .t = omega arith in
-    let read =
-    parts-read (l .loop .inv .1) (a .args .left) (a .args .right) (s - 1) (r .before .place2 .result) (r .place3 .result) (a .args .two) (a .pre .2)
-    (a .pre .3) in-run
-    (r .before .place2 .ensures .0) (r .place3 .ensures .0) in
+    let read = parts-read (l .loop .inv .1) (a .pre .2) (s - 1) (omega (arith, l .loop .inv .0)) in
     let counts = ap (λ (x : ℕ). min one (a .args .e + x)) (k .parts-sum .ensures .0 ∙ read) in
     let w = step (l .loop .inv .1) (l .loop .inv .2) (a .pre .0) (omega arith) (l .loop .inv .0) _ _ _ i (c .stopped .ensures) counts in
     (omega arith, w .0, w .1)
@@ -102,12 +78,8 @@ work-here-spec =
     Inv-loop
     μ-loop
     place-requires
-    place-requires-2
-    place-requires-3
     loop-holds
     sub-s
-    add-parts-sum
-    add-parts-sum-2
     parts-sum-requires
     add-stopped
     stopped-requires

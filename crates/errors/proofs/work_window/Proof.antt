@@ -16,10 +16,11 @@ use Rattle.errors.proofs.work_window.Statement.{statement}
 use Rattle.errors.proofs.work_window.Tie as tie
 
 abbrev Inv-loop : tie.InvT-loop
-Inv-loop figures₀ t n c a b e here p s₀ figures s = (s ≤ t) × Worked t n (figureNow t e figures₀ (windowed within a b c)) figures₀ s figures × Small figures
+Inv-loop figures₀ t l n x e here p s₀ figures s =
+    (s ≤ t) × Worked t n (figureNow t l e figures₀ (windowed within (x .from) (x .to) (x .part))) figures₀ s figures × Small figures
 
 abbrev μ-loop : tie.MeasureT-loop
-μ-loop figures₀ t n c a b e here p s₀ figures s = s
+μ-loop figures₀ t l n x e here p s₀ figures s = s
 
 place-requires : tie.Need-place-requires Inv-loop μ-loop
 place-requires c κs = omega arith
@@ -37,10 +38,16 @@ cast-look : tie.Need-cast-look Inv-loop μ-loop
 cast-look c = omega arith
 
 cast-look-2 : tie.Need-cast-look-2 Inv-loop μ-loop
-cast-look-2 c = omega arith
+cast-look-2 c = omega (arith, c .before .before .before .before .before .pre .4 .1)
+
+cast-look-3 : tie.Need-cast-look-3 Inv-loop μ-loop
+cast-look-3 c = omega arith
 
 look-requires : tie.Need-look-requires Inv-loop μ-loop
-look-requires c κs = omega arith
+look-requires c κs =
+    let a = c .before .before .before .before .before in
+    let l = c .before .loop in
+    (a .pre .4 .0, a .pre .4 .1, a .pre .0 .slots, omega (arith, c .loop-test, l .inv .0), a .pre .3 .0, a .pre .3 .1)
 
 window-sum-requires : tie.Need-window-sum-requires Inv-loop μ-loop
 window-sum-requires c κs =
@@ -48,7 +55,7 @@ window-sum-requires c κs =
     let l = c .before .before .before in
     let a = l .before .before .before .before in
     let place = l .before .place2 .ensures in
-    (k .are-few, omega (arith, k .inside, place .0, place-end (a .args .t) (a .pre .2), a .pre .0 .inside, l .loop .inv .1 .same), place .1, l .loop .inv .2)
+    (k .are-few, omega (arith, k .small, place .0, place-end (a .args .t) (a .pre .2), a .pre .0 .inside, l .loop .inv .1 .same), place .1, l .loop .inv .2)
 
 add-stopped : tie.Need-add-stopped Inv-loop μ-loop
 add-stopped c = omega arith
@@ -76,15 +83,17 @@ loop-again c =
     let l = c .before .before .before .before .before in
     let h = l .before .before in
     let a = h .before .before in
+    let x = a .args .x in
     let s = l .loop .s in
     let m = l .loop .figures in
-    let slots = windowSlots (a .args .t) (s - 1 + 1) (a .args .a) (a .args .b) in
+    let slots = windowSlots (a .args .t) (a .args .l) (s - 1 + 1) (x .from) (x .to) in
     let i : h .place .result + (s - 1) ≡ a .args .n * a .args .t + (s - 1) = omega (arith, h .place .ensures .0) in
+    let look = c .before .before .before .look in
     let sums =
     c .before .window-sum .ensures .0
-    ∙ sum-all m (c .before .before .before .look .result) (l .before .place2 .result) (c .before .before .before .look .ensures)
+    ∙ sum-all m (look .result) (l .before .place2 .result) (look .ensures)
     ∙ ap (λ (i : ℕ). sumOver (λ x. getD m (i + (x - 1)) 0) slots) (l .before .place2 .ensures .0)
-    ∙ sum-below (l .loop .inv .1) (a .args .c) (s - 1 + 1) (a .args .a) (a .args .b) (a .pre .2) in
+    ∙ sum-below (l .loop .inv .1) (a .args .l) (x .part) (s - 1 + 1) (x .from) (x .to) (a .pre .2) in
     let counts = ap (λ (x : ℕ). min one (a .args .e + x)) sums in
     let w = step (l .loop .inv .1) (l .loop .inv .2) (a .pre .0) (omega arith) (l .loop .inv .0) _ _ _ i (c .stopped .ensures) counts in
     (omega arith, w .0, w .1)
@@ -109,6 +118,7 @@ work-window-spec =
     sub-s
     cast-look
     cast-look-2
+    cast-look-3
     look-requires
     window-sum-requires
     add-stopped

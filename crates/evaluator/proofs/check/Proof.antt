@@ -13,7 +13,7 @@ enum-told : tie.Need-enum-told
 enum-told c = search needs
 
 own-check-requires : tie.Need-own-check-requires
-own-check-requires c κs = ready _ _ _ (sym (c .before .before .check .ensures) ∙ c .enum-told .given .1)
+own-check-requires c κs = ready _ _ _ _ (sym (c .before .before .check .ensures) ∙ c .enum-told .given .1) .atoms-high
 
 enum-known-shared : tie.Need-enum-known-shared
 enum-known-shared c = search needs

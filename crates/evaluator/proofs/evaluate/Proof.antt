@@ -14,8 +14,8 @@ use Rattle.evaluator.proofs.evaluate.Tie as tie
 
 -- where the checks are passed, the work can be done
 able : (c : tie.After-enum-told) →
-    let a = c .before .before .before .before .before .before .args in Workable (a .t) (a .m) (a .table .now) (a .run .now) (length (a .out .now))
-able c = workable _ _ _ _ _ (sym (c .before .before .check .ensures) ∙ c .enum-told .given .1)
+    let a = c .before .before .before .before .before .before .args in Workable (a .t) (a .m) (a .l) (a .table .now) (a .run .now) (length (a .out .now))
+able c = workable _ _ _ _ _ _ (sym (c .before .before .check .ensures) ∙ c .enum-told .given .1)
 
 check-requires : tie.Need-check-requires
 check-requires c κs = search needs
@@ -38,7 +38,8 @@ sub-root c = let w = able (c .before .before .before .before .before) in omega a
 mul-at-first : tie.Need-mul-at-first
 mul-at-first c =
     let w = able (c .before .before .before .before .before) in
-    omega (arith, c .before .before .before .work .ensures .same, c .before .before .before .before .before .before .before .before .before .before .before .good)
+    let s = c .before .before .before .before .before .before .before .before .before .before .before in
+    omega (arith, c .before .before .before .work .ensures .same, s .good)
 
 slice-read-at-first : tie.Need-slice-read-at-first
 slice-read-at-first c =
@@ -49,7 +50,7 @@ at-first-requires : tie.Need-at-first-requires
 at-first-requires c κs = search needs
 
 returns : tie.Need-returns
-returns c = rw (outcome-is _ _ _ _ _, sym (c .before .before .before .check .ensures) ∙ c .before .checked .given .1) (refl, refl)
+returns c = rw (outcome-is _ _ _ _ _ _, sym (c .before .before .before .check .ensures) ∙ c .before .checked .given .1) (refl, refl)
 
 same-length : tie.Need-same-length
 same-length c = search needs
@@ -62,10 +63,11 @@ returns-2 c =
     let n = length-nodesIn (a .m) (a .table .now) in
     let room : length (nodesIn (a .table .now)) ≤ length (a .out .now) = omega arith in
     let last : c .before .before .count .result - 1 ≡ root (nodesIn (a .table .now)) = omega arith in
-    rw (outcome-is _ _ _ _ _, sym (c .before .before .before .before .before .before .before .before .before .check .ensures) ∙ c .before .before .before .before .before .before .before .enum-told .given .1) (
-      ap answered (c .at-first .ensures ∙ root-bit (a .t) (w .slots) (a .m) (a .run .now) (nodesIn (a .table .now)) (w .good) (a .out .now) _ k _
+    let told = c .before .before .before .before .before .before .before in
+    rw (outcome-is _ _ _ _ _ _, sym (told .before .before .check .ensures) ∙ told .enum-told .given .1) (
+      ap answered (c .at-first .ensures ∙ root-bit (a .t) (a .l) (w .loop) (a .m) (a .run .now) (nodesIn (a .table .now)) (w .good) (a .out .now) _ k _
           (omega arith) last),
-      filled-all (a .t) (w .slots) (a .m) (a .run .now) (nodesIn (a .table .now)) (w .good) (a .out .now) _ k room,
+      filled-all (a .t) (a .l) (w .loop) (a .m) (a .run .now) (nodesIn (a .table .now)) (w .good) (a .out .now) _ k room,
     )
 
 pub evaluate-spec : {M : Type 1} → statement M

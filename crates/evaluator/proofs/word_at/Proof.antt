@@ -20,7 +20,7 @@ column-of-requires c κs =
     let s = c .before .before .before .before .before in
     let r = c .before .before .node-at in
     let z : c .before .height-at .result ≡ 0 = omega arith in
-    low-child (s .args .t) 0 0 0 [] (s .args .words .now) [] (r .result) (nodeAt (nodesIn (s .args .table .now)) (s .args .n)) (r .ensures .is)
+    low-child (s .args .t) 0 0 0 0 [] (s .args .words .now) [] (r .result) (nodeAt (nodesIn (s .args .table .now)) (s .args .n)) (r .ensures .is)
     (s .pre .1 .1 (sym (c .before .height-at .ensures .0) ∙ z)) (s .pre .1 .0)
 
 returns : tie.Need-returns
@@ -30,14 +30,14 @@ returns c =
     let h = c .before .before .height-at in
     let z : h .result ≡ 0 = omega arith in
     λ run m k good cols.
-    low-word (s .args .t) m k (c .column-of .result) run (s .args .words .now) (s .args .cols .now) (r .result)
+    low-word (s .args .t) (s .args .l) m k (c .column-of .result) run (s .args .words .now) (s .args .cols .now) (r .result)
     (nodeAt (nodesIn (s .args .table .now)) (s .args .n))
     (r .ensures .is) (s .pre .1 .1 (sym (h .ensures .0) ∙ z)) good cols (c .column-of .ensures)
 
 node-word-requires : tie.Need-node-word-requires
 node-word-requires c κs =
     let s = c .before .before .before .before .before in
-    (s .pre .0 .0, s .pre .0 .1, rw (c .before .before .node-at .ensures .is) (s .pre .1 .0))
+    (omega arith, omega arith, s .pre .0 .2, rw (c .before .before .node-at .ensures .is) (s .pre .1 .0))
 
 returns-2 : tie.Need-returns-2
 returns-2 c =

@@ -14,10 +14,10 @@ use Rattle.evaluator.proofs.work.Statement.{statement}
 use Rattle.evaluator.proofs.work.Tie as tie
 
 abbrev Inv-loop : tie.InvT-loop
-Inv-loop table t m run out₀ cols count n₀ out n = (n ≤ count) × Filled t run (nodesIn table) out₀ n out
+Inv-loop table t m l run out₀ cols count n₀ out n = (n ≤ count) × Filled t l run (nodesIn table) out₀ n out
 
 abbrev μ-loop : tie.MeasureT-loop
-μ-loop table t m run out₀ cols count n₀ out n = count - n
+μ-loop table t m l run out₀ cols count n₀ out n = count - n
 
 columns-requires : tie.Need-columns-requires Inv-loop μ-loop
 columns-requires c κs = let w = c .before .before .before .before .pre in ((w .slots-high, w .enough, w .atoms-high, w .numbers), blank-zeros)
@@ -26,7 +26,7 @@ count-requires : tie.Need-count-requires Inv-loop μ-loop
 count-requires c κs = search needs
 
 loop-holds : tie.Need-loop-holds Inv-loop μ-loop
-loop-holds c = (omega arith, filled-none _ _ _ _)
+loop-holds c = (omega arith, filled-none _ _ _ _ _)
 
 word-at-requires : tie.Need-word-at-requires Inv-loop μ-loop
 word-at-requires c κs =
@@ -35,7 +35,7 @@ word-at-requires c κs =
     let w = s .pre in
     let a = s .args in
     let h : i .n < length (nodesIn (a .table .now)) = omega (arith, length-nodesIn (a .m) (a .table .now)) in (
-      (w .slots, w .slots-high, omega arith),
+      (w .loop .0, w .loop .1, w .slots-high, omega arith),
       (
         children-there (a .t) (a .m) (i .n) (i .out) (nodeAt (nodesIn (a .table .now)) (i .n)) (w .atoms-high) (omega (arith, i .inv .1 .same))
             (λ k u. i .inv .1 .at k u .small) (w .good (i .n) h),
@@ -44,7 +44,9 @@ word-at-requires c κs =
     )
 
 mul-out : tie.Need-mul-out Inv-loop μ-loop
-mul-out c = omega (arith, c .before .before .before .before .loop .inv .1 .same, c .before .before .before .before .before .before .before .before .before .before .before .good)
+mul-out c =
+    let s = c .before .before .before .before .before .before .before .before .before .before .before in
+    omega (arith, c .before .before .before .before .loop .inv .1 .same, s .good)
 
 slice-write-out : tie.Need-slice-write-out Inv-loop μ-loop
 slice-write-out c = omega (arith, c .before .before .before .before .loop .inv .1 .same)
@@ -63,7 +65,8 @@ loop-again c =
     let ns = nodesIn (a .table .now) in
     let h : i .n < length ns = omega (arith, length-nodesIn (a .m) (a .table .now)) in
     let w = c .word-at .ensures (a .run .now) (a .m) (i .n) (s .pre .good (i .n) h) (c .before .before .before .before .before .before .columns .ensures) in
-    (omega arith, filled-more (a .t) (a .m) (a .run .now) ns (a .out .now) (i .n) (i .out) (s .pre .good) h (omega arith) (i .inv .1) (c .word-at .result) w)
+    let more = filled-more (a .t) (a .l) (a .m) (a .run .now) ns (a .out .now) (i .n) (i .out) (s .pre .good) h (omega arith) (i .inv .1) in
+    (omega arith, more (c .word-at .result) w)
 
 same-length : tie.Need-same-length Inv-loop μ-loop
 same-length c = c .before .loop .inv .1 .same

@@ -1,80 +1,134 @@
--- `families::put_terms` meets its contract. The loop's invariant: the terms of the slots passed stand in the buffer. Assumes nothing.
-use mathlib.Core.Path.{ap}
-use Prim.Native.Nat.{ℕ, _+_, _-_, _≤_, _<_}
+-- `families::put_terms` meets its contract. One range of slots, or two. Assumes nothing.
+use mathlib.Core.Path.{_≡_, refl}
+use mathlib.Core.List.{List, _++_}
+use Prim.Native.Nat.{ℕ, _+_, _-_}
 use native.Mathlib.Omega.{arith}
 use borrow.Author.Needs.{needs}
+use lib.IntN.{ℤ}
 use mir.Syntax.{w8}
 use mir.Val.{toZ, ofZ}
 use mir.Facts.{toZ-ofZ}
-use Rattle.lists.specs.Filling.{Filled, splice-as, filled-none, filled-room, filled-more, filled-all}
-use Rattle.rules.specs.Rows.{termBytes}
-use Rattle.families.specs.Windows.{termAt, terms}
+use Rattle.families.specs.Put.{one-room, one-done, first-room, second-room, both-done}
+use Rattle.families.specs.Windows.{termOf, each, range, one-range, two-ranges, first-low, second-low}
 use Rattle.families.proofs.put_terms.Statement.{statement}
 use Rattle.families.proofs.put_terms.Tie as tie
 
-abbrev Inv-loop : tie.InvT-loop
-Inv-loop out₀ at coefficient p looks k next₀ i₀ out next i = (i ≤ k) × Filled at (termAt (toZ w8 coefficient) looks p) out₀ i out next
+abbrev all : tie.Start → List ℕ
+all a = each (termOf (a .args .coefficient)) (a .args .looks) (a .args .p)
 
-abbrev μ-loop : tie.MeasureT-loop
-μ-loop out₀ at coefficient p looks k next₀ i₀ out next i = k - i
+-- the coefficient as it is passed on
+abbrev by : tie.Start → ℤ
+by a = toZ w8 (ofZ w8 (a .args .coefficient))
 
-loop-holds : tie.Need-loop-holds Inv-loop μ-loop
-loop-holds c = (omega arith, filled-none _ _ _)
+one : (t : tie.Then1) →
+    let a = t .before .before .before in
+    all a ≡ range (termOf (by a)) (a .args .p + a .args .looks .first) (a .args .looks .count)
+one t =
+    let a = t .before .before .before in
+    let test = t .if1 in
+    rw (toZ-ofZ (a .fits .coefficient)) (one-range (termOf (a .args .coefficient)) (a .args .looks) (a .args .p) (omega arith))
 
-nth-requires : tie.Need-nth-requires Inv-loop μ-loop
-nth-requires c κs = let test = c .loop-test in (c .before .before .before .pre .0 .0, omega arith)
+-- the two ranges
+abbrev head : tie.Start → List ℕ
+head a = range (termOf (by a)) (a .args .p + a .args .looks .first) (a .args .looks .head)
 
-add-t12 : tie.Need-add-t12 Inv-loop μ-loop
-add-t12 c = omega (arith, c .before .before .before .before .pre .0 .1, c .nth .ensures .1)
+abbrev tail : tie.Start → List ℕ
+tail a =
+    let w = a .args .looks in
+    range (termOf (by a)) (a .args .p + w .first + w .head + w .skip) (w .count - w .head)
 
-put-term-requires : tie.Need-put-term-requires Inv-loop μ-loop
-unfolding terms
-put-term-requires c κs =
-    let test = c .before .before .loop-test in
-    let h : c .before .before .before .loop .i < c .before .before .before .before .before .args .looks .count = omega arith in
-    let e = toZ-ofZ (c .before .before .before .before .before .fits .coefficient) in
-    filled-room (c .before .before .before .loop .inv .1) (c .before .before .before .before .before .args .looks .count) h (rw e (c .before .before .before .before .before .pre .1))
+two : (e : tie.Else1) → let a = e .before .before .before in all a ≡ head a ++ tail a
+two e =
+    let a = e .before .before .before in
+    let test = e .if1 in
+    rw (toZ-ofZ (a .fits .coefficient)) (two-ranges (termOf (a .args .coefficient)) (a .args .looks) (a .args .p) (omega arith))
 
-add-i : tie.Need-add-i Inv-loop μ-loop
-add-i c = omega (arith, c .before .before .before .before .before .before .before .before .pre .0 .0 .few, c .before .before .before .before .before .loop-test)
+add-first : tie.Need-add-first
+add-first c =
+    let a = c .before .before in
+    let low = first-low (a .pre .0 .0) in
+    omega (arith, low, a .pre .0 .1)
 
-loop-less : tie.Need-loop-less Inv-loop μ-loop
-loop-less c = let test = c .before .before .before .before .before .loop-test in omega arith
+put-terms-range-requires : tie.Need-put-terms-range-requires
+put-terms-range-requires c κs =
+    let t = c .before in
+    let a = t .before .before .before in
+    let few = a .pre .0 .0 in
+    let low = first-low few in
+    ((omega (arith, low, a .pre .0 .1), few .few), one-room (a .args .at) (one t) (a .pre .1))
 
-loop-again : tie.Need-loop-again Inv-loop μ-loop
-unfolding terms
-loop-again c =
-    let l = c .before .before .before .before .before .before in
-    let a = c .before .before .before .before .before .before .before .before in
-    let w = c .before .before .put-term in
-    let test = c .before .before .before .before .before .loop-test in
-    let e = toZ-ofZ (a .fits .coefficient) in
-    let h : l .loop .i < a .args .looks .count = omega arith in (
-      omega arith,
-      filled-more (l .loop .inv .1) (a .args .looks .count) h (rw e (a .pre .1)) _ _ (splice-as _ _ (w .ensures .1) (ap (λ (v : ℕ). termBytes (record { coefficient = toZ w8 (ofZ w8 (a .args .coefficient)); variable = a .args .p + v })) (c .before .before .before .before .nth .ensures .0))) (w .ensures .0) (omega arith),
-    )
-
-same-length : tie.Need-same-length Inv-loop μ-loop
+same-length : tie.Need-same-length
 same-length c = search needs
 
-returns : tie.Need-returns Inv-loop μ-loop
-unfolding terms
+returns : tie.Need-returns
 returns c =
-    let e = toZ-ofZ (c .before .before .before .fits .coefficient) in
-    rw (← e) (filled-all (c .before .loop .inv .1) (c .before .before .before .args .looks .count) (omega arith))
+    let w = c .before .before in
+    let t = w .before .before in
+    one-done (t .before .before .before .args .at) (one t) _ (w .put-terms-range .ensures)
+
+put-terms-range-requires-2 : tie.Need-put-terms-range-requires-2
+put-terms-range-requires-2 c κs =
+    let e = c .before in
+    let a = e .before .before .before in
+    let few = a .pre .0 .0 in
+    let low = first-low few in
+    let test = e .if1 in
+    ((omega (arith, low, a .pre .0 .1), omega (arith, few .few)), first-room (a .args .at) (head a) (tail a) (two e) (a .pre .1))
+
+add-put-terms-range : tie.Need-add-put-terms-range
+add-put-terms-range c =
+    let e = c .before .before .before .before .before in
+    let a = e .before .before .before in
+    let test = e .if1 in
+    let low = second-low (a .pre .0 .0) (omega arith) in
+    omega (arith, low, a .pre .0 .1)
+
+add-put-terms-range-2 : tie.Need-add-put-terms-range-2
+add-put-terms-range-2 c =
+    let e = c .before .before .before .before .before .before in
+    let a = e .before .before .before in
+    let test = e .if1 in
+    let low = second-low (a .pre .0 .0) (omega arith) in
+    omega (arith, low, a .pre .0 .1)
+
+sub-put-terms-range : tie.Need-sub-put-terms-range
+sub-put-terms-range c = search needs
+
+put-terms-range-requires-3 : tie.Need-put-terms-range-requires-3
+put-terms-range-requires-3 c κs =
+    let w = c .before .before .before .before in
+    let e = w .before .before in
+    let a = e .before .before .before in
+    let few = a .pre .0 .0 in
+    let test = e .if1 in
+    let low = second-low few (omega arith) in (
+      (omega (arith, low, a .pre .0 .1), omega (arith, few .few)),
+      second-room (a .args .at) (head a) (tail a) (two e) (a .pre .1) (w .put-terms-range2 .ensures .0) (omega arith),
+    )
+
+same-length-2 : tie.Need-same-length-2
+same-length-2 c = search needs
+
+returns-2 : tie.Need-returns-2
+returns-2 c =
+    let u = c .before .before in
+    let w = u .before .before .before .before .before in
+    let e = w .before .before in
+    let a = e .before .before .before in
+    both-done (a .args .at) (head a) (tail a) (two e) (a .pre .1) (a .args .out .now) refl (w .put-terms-range2 .ensures) (u .put-terms-range3 .ensures)
 
 pub put-terms-spec : {M : Type 1} → statement M
 put-terms-spec =
     tie.close
     (tie.spec
-    Inv-loop
-    μ-loop
-    loop-holds
-    nth-requires
-    add-t12
-    put-term-requires
-    add-i
-    loop-less
-    loop-again
+    add-first
+    put-terms-range-requires
     same-length
-    returns)
+    returns
+    put-terms-range-requires-2
+    add-put-terms-range
+    add-put-terms-range-2
+    sub-put-terms-range
+    put-terms-range-requires-3
+    same-length-2
+    returns-2)

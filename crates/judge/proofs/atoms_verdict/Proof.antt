@@ -27,12 +27,13 @@ rows-verdict-requires c κs = search needs
 returns : tie.Need-returns
 returns c =
     let k = c .before .before .before in
-    atoms-found _ _ _ _ _ _ _ (k .before .place .ensures .0) (sym (k .first-not-binary .ensures) ∙ ap found (c .before .binary .given .1))
+    atoms-found _ _ _ _ _ _ _ _ (k .before .place .ensures .0) (sym (k .first-not-binary .ensures) ∙ ap found (c .before .binary .given .1))
 
 returns-2 : tie.Need-returns-2
 returns-2 c =
     let k = c .before .before .before in
-    c .rows-verdict .ensures ∙ atoms-clear _ _ _ _ _ _ (k .before .place .ensures .0) (sym (k .first-not-binary .ensures) ∙ ap found (c .before .enum-told .given .1))
+    c .rows-verdict .ensures ∙ atoms-clear _ _ _ _ _ _ _ (k .before .place .ensures .0)
+    (sym (k .first-not-binary .ensures) ∙ ap found (c .before .enum-told .given .1))
 
 pub atoms-verdict-spec : {M : Type 1} → statement M
 atoms-verdict-spec =

@@ -19,13 +19,13 @@ enum-told c = search needs
 judge-checked-requires : tie.Need-judge-checked-requires
 judge-checked-requires c κs =
     let k = c .before .before in
-    ready _ _ _ (sym (k .check .ensures) ∙ c .enum-told .given .1)
+    ready _ _ _ _ (sym (k .check .ensures) ∙ c .enum-told .given .1)
 
 returns : tie.Need-returns
 returns c =
     let k = c .before .before .before in
     let a = k .before .before .args in
-    let e = judge-checked (a .t) (a .m) (a .table .now) (a .figures .now) (a .e) in
+    let e = judge-checked (a .t) (a .m) (a .l) (a .table .now) (a .figures .now) (a .e) in
     let f = sym (k .check .ensures) ∙ c .before .checked .given .1 in
     rw (e, f) refl
 
@@ -33,9 +33,9 @@ returns-2 : tie.Need-returns-2
 returns-2 c =
     let k = c .before .before .before in
     let a = k .before .before .args in
-    let e = judge-checked (a .t) (a .m) (a .table .now) (a .figures .now) (a .e) in
+    let e = judge-checked (a .t) (a .m) (a .l) (a .table .now) (a .figures .now) (a .e) in
     let f = sym (k .check .ensures) ∙ c .before .enum-told .given .1 in
-    rw (e, f) (c .judge-checked .ensures ∙ ap (counted (a .t) (a .m) (a .table .now) (a .figures .now)) (toZ-ofZ (k .before .before .fits .e)))
+    rw (e, f) (c .judge-checked .ensures ∙ ap (counted (a .t) (a .m) (a .l) (a .table .now) (a .figures .now)) (toZ-ofZ (k .before .before .fits .e)))
 
 pub judge-spec : {M : Type 1} → statement M
 judge-spec =

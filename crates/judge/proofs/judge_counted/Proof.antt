@@ -25,15 +25,16 @@ tolerance-is c = size-above (c .before .before .args .e) (whole c) ∙ ap (λ (z
 returns : tie.Need-returns
 returns c =
     let s = c .before .before in
-    tolerance-below _ _ _ _ (s .args .e) (ap (λ (z : ℤ). ltZ z (pos 0)) (sym (toZ-ofZ (s .fits .e))) ∙ c .if1 .taken)
+    tolerance-below _ _ _ _ _ (s .args .e) (ap (λ (z : ℤ). ltZ z (pos 0)) (sym (toZ-ofZ (s .fits .e))) ∙ c .if1 .taken)
 
 cast-tolerance : tie.Need-cast-tolerance
 cast-tolerance c =
     let f = c .before .before .fits .e in
-    subst⁻¹ (λ (z : ℤ). T (nonNeg z) × Fits w32 (natAbs z)) (toZ-ofZ f) (not-below (c .before .before .args .e) (whole c), record { fits = (let h = abs-sfits f in omega arith) })
+    subst⁻¹ (λ (z : ℤ). T (nonNeg z) × Fits w32 (natAbs z)) (toZ-ofZ f)
+    (not-below (c .before .before .args .e) (whole c), record { fits = (let h = abs-sfits f in omega arith) })
 
 returns-2 : tie.Need-returns-2
-returns-2 c = tolerance-above _ _ _ _ _ _ (tolerance-is (c .before)) (c .if2 .taken)
+returns-2 c = tolerance-above _ _ _ _ _ _ _ (tolerance-is (c .before)) (c .if2 .taken)
 
 cast-verdict-of : tie.Need-cast-verdict-of
 cast-verdict-of c = search needs
@@ -42,7 +43,7 @@ verdict-of-requires : tie.Need-verdict-of-requires
 verdict-of-requires c κs = search needs
 
 returns-3 : tie.Need-returns-3
-returns-3 c = ap answered (c .verdict-of .ensures) ∙ tolerance-within _ _ _ _ _ _ (tolerance-is (c .before .before)) (c .before .if2 .left)
+returns-3 c = ap answered (c .verdict-of .ensures) ∙ tolerance-within _ _ _ _ _ _ _ (tolerance-is (c .before .before)) (c .before .if2 .left)
 
 pub judge-counted-spec : {M : Type 1} → statement M
 judge-counted-spec =

@@ -20,14 +20,15 @@ enum-known-rows-2 c = search needs
 returns : tie.Need-returns
 returns c =
     let found = c .before .rows .given in
-    ap (broken (found .0 .1 .0)) (toZ-ofZ {w = w64} {z = found .0 .0} (search needs)) ∙ broken-verdict _ _ _ _ _ _ _ (sym (found .1) ∙ c .before .before .before .test-all .ensures)
+    ap (broken (found .0 .1 .0)) (toZ-ofZ {w = w64} {z = found .0 .0} (search needs)) ∙ broken-verdict _ _ _ _ _ _ _ _
+    (sym (found .1) ∙ c .before .before .before .test-all .ensures)
 
 root-figure-requires : tie.Need-root-figure-requires
 root-figure-requires c κs = search needs
 
 returns-2 : tie.Need-returns-2
 returns-2 c =
-    clear-verdict _ _ _ _ _ _ _ (sym (c .before .before .rows2 .given .1) ∙ c .before .before .before .before .test-all .ensures) (c .root-figure .ensures)
+    clear-verdict _ _ _ _ _ _ _ _ (sym (c .before .before .rows2 .given .1) ∙ c .before .before .before .before .test-all .ensures) (c .root-figure .ensures)
 
 pub rows-verdict-spec : {M : Type 1} → statement M
 rows-verdict-spec =

@@ -29,7 +29,7 @@ slice-reshare-prefix-put-listing c =
     let s = c .before .before .before .before .before .before .before .before .before in
     let w = c .before .before .before .before .before .write-rows in
     let n = c .before .count .given in
-    let l = w .last .1 .1 .1 .0 in
+    let l = w .last .1 .1 .1 .1 .0 in
     let k = rows-ready (s .args .t) (s .args .m) (s .args .table .now) (s .args .rows .now) l (w .result) (n .0 .0) (s .pre .1) (w .ensures .0) (w .ensures .1) (n .1) in
     omega (arith, k .size-is)
 
@@ -38,7 +38,7 @@ slice-aggregate-put-listing c =
     let s = c .before .before .before .before .before .before .before .before .before .before in
     let w = c .before .before .before .before .before .before .write-rows in
     let n = c .before .before .count .given in
-    let l = w .last .1 .1 .1 .0 in
+    let l = w .last .1 .1 .1 .1 .0 in
     let k = rows-ready (s .args .t) (s .args .m) (s .args .table .now) (s .args .rows .now) l (w .result) (n .0 .0) (s .pre .1) (w .ensures .0) (w .ensures .1) (n .1) in
     sym (length-take-le 65536 l (omega (arith, k .size-is)))
 
@@ -47,7 +47,7 @@ put-listing-requires c κs =
     let s = c .before .before .before .before .before .before .before .before .before .before .before in
     let w = c .before .before .before .before .before .before .before .write-rows in
     let n = c .before .before .before .count .given in
-    let l = w .last .1 .1 .1 .0 in
+    let l = w .last .1 .1 .1 .1 .0 in
     let k = rows-ready (s .args .t) (s .args .m) (s .args .table .now) (s .args .rows .now) l (w .result) (n .0 .0) (s .pre .1) (w .ensures .0) (w .ensures .1) (n .1) in
     let f = take-all 65536 l (omega (arith, k .size-is)) in
     ((s .pre .0, k .written .slots, k .written .atoms, omega (arith, ap length f, k .size-is)), subst⁻¹ (Whole (n .0 .0)) f (k .whole))
@@ -73,7 +73,7 @@ returns-2 c =
     let s = c .before .before .before .before .before .before .before .before .before .before .before .before in
     let w = c .before .before .before .before .before .before .before .before .write-rows in
     let n = c .before .before .before .before .count .given in
-    let l = w .last .1 .1 .1 .0 in
+    let l = w .last .1 .1 .1 .1 .0 in
     let k = rows-ready (s .args .t) (s .args .m) (s .args .table .now) (s .args .rows .now) l (w .result) (n .0 .0) (s .pre .1) (w .ensures .0) (w .ensures .1) (n .1) in
     let f = take-all 65536 l (omega (arith, k .size-is)) in
     let p = c .put-listing .ensures in

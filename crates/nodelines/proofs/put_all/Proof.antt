@@ -1,131 +1,217 @@
 -- `nodelines::put_all` meets its contract. The loop's invariant: the lines of the nodes passed are put; the goal row's comes last. Assumes nothing.
-use mathlib.Core.Path.{_≡_, sym, ap, _∙_}
+use mathlib.Core.Path.{_≡_, refl, sym, ap, ap₂, _∙_}
+use mathlib.Core.Bool.{Bool, cond}
 use Prim.Native.Nat.{ℕ, _+_, _-_, _*_, _≤_}
 use native.Mathlib.Omega.{arith}
-use borrow.Author.Needs.{needs}
 use lib.ListN.{length}
 use Rattle.rules.specs.TableTest.{nodesIn, length-nodesIn}
+use Rattle.mps.specs.Page.{eachRow}
+use Rattle.table.specs.Looping.{loopingTo, looping-more, looping-few}
 use Rattle.row.specs.NodeRows.{rowsTo, goal-is}
+use Rattle.lines.specs.Sent.{sent-as}
 use Rattle.rowlines.specs.Texts.{lineOf}
-use Rattle.nodelines.specs.Turns.{Listed, no-nodes, one-node, all-nodes}
+use Rattle.rowlines.specs.Laws.{start-small}
+use Rattle.nodelines.specs.Turns.{Listed, no-nodes, one-node, all-nodes, blocks-rows, node-count}
+use borrow.Author.Needs.{needs}
 use Rattle.nodelines.proofs.put_all.Statement.{statement}
 use Rattle.nodelines.proofs.put_all.Tie as tie
 
 abbrev Inv-loop : tie.InvT-loop
-Inv-loop out₀ at text table n t m next₀ first₀ i₀ out next first i =
-    (i ≤ n) × (next ≤ at + 166400 * i) × (first ≤ 4160 * i) × Listed (lineOf text) 0 (rowsTo t m (nodesIn table) i) first at out₀ out next
+Inv-loop out₀ at text table t m l n next₀ first₀ looping₀ i₀ out next first looping i = (i ≤ n) × (next ≤ at + 332800 * i)
+    × (looping ≡ loopingTo (nodesIn table) i) ×
+    Listed (lineOf text) 0 (rowsTo t m l (nodesIn table) i) first at out₀ out next
 
 abbrev μ-loop : tie.MeasureT-loop
-μ-loop out₀ at text table n t m next₀ first₀ i₀ out next first i = n - i
+μ-loop out₀ at text table t m l n next₀ first₀ looping₀ i₀ out next first looping i = n - i
+
+count-requires : tie.Need-count-requires Inv-loop μ-loop
+count-requires c κs = search needs
 
 loop-holds : tie.Need-loop-holds Inv-loop μ-loop
 loop-holds c =
-    let a = c .before .before .args in
-    (omega arith, omega arith, omega arith, no-nodes (a .t) (a .m) (nodesIn (a .table .now)) (lineOf (a .text)) (a .at) (a .out .now))
+    let a = c .before .before .before .args in
+    (omega arith, omega arith, refl, no-nodes (a .t) (a .m) (a .l) (nodesIn (a .table .now)) (lineOf (a .text)) (a .at) (a .out .now))
 
-place-node-requires : tie.Need-place-node-requires Inv-loop μ-loop
-place-node-requires c κs =
-    let s = c .before .before .before .before in
-    (s .pre .2, omega (arith, s .pre .3))
+add-place : tie.Need-add-place Inv-loop μ-loop
+add-place c =
+    let r = c .before .before .before .before .before .pre .2 in
+    let few = looping-few (nodesIn (c .before .before .before .before .before .args .table .now)) (c .before .loop .i) in
+    let n = c .before .before .count .ensures in
+    record { fits = omega (arith, r .few-nodes, r .slots-high, r .atoms-high, r .slots-low, r .loop-low, r .loop-high, few, n, c .before .loop .inv) }
+
+add-place-2 : tie.Need-add-place-2 Inv-loop μ-loop
+add-place-2 c =
+    let r = c .before .before .before .before .before .pre .2 in
+    let few = looping-few (nodesIn (c .before .before .before .before .before .args .table .now)) (c .before .loop .i) in
+    let n = c .before .before .count .ensures in
+    record { fits = omega (arith, r .few-nodes, r .slots-high, r .atoms-high, r .slots-low, r .loop-low, r .loop-high, few, n, c .before .loop .inv) }
+
+place-requires : tie.Need-place-requires Inv-loop μ-loop
+place-requires c κs =
+    let s = c .before .before .before .before .before in
+    let r = s .pre .2 in
+    let few = looping-few (nodesIn (s .args .table .now)) (c .before .loop .i) in
+    let n = c .before .before .count .ensures in (
+      omega (arith, r .few-nodes, r .slots-high, r .atoms-high, r .slots-low, r .loop-low, r .loop-high, few, n, c .before .loop .inv),
+      omega (arith, r .few-nodes, r .slots-high, r .atoms-high, r .slots-low, r .loop-low, r .loop-high, few, n, c .before .loop .inv),
+    )
+
+blocks-at-requires : tie.Need-blocks-at-requires Inv-loop μ-loop
+blocks-at-requires c κs =
+    let l = c .before .before in
+    let count = l .before in
+    let s = count .before .before .before in
+    let r = s .pre .2 in
+    let ns = nodesIn (s .args .table .now) in
+    let long = length-nodesIn (s .args .m) (s .args .table .now) in
+    let e : s .args .m + count .count .result + l .loop .looping ≡ s .args .m + (length ns + loopingTo ns (l .loop .i)) =
+    omega (arith, long, count .count .ensures, l .loop .inv .2) in
+    (r, omega (arith, count .count .ensures), c .place .ensures .0 ∙ ap (λ (x : ℕ). x * s .args .t) e)
 
 cast-put-node : tie.Need-cast-put-node Inv-loop μ-loop
-cast-put-node c =
-    let s = c .before .before .before .before .before .before in
-    let h = s .pre .2 .slots-high in
-    search needs
+cast-put-node c = let h = c .before .before .before .before .before .before .before .before .before .pre .2 .slots-high in search needs
+
+cast-put-node-2 : tie.Need-cast-put-node-2 Inv-loop μ-loop
+cast-put-node-2 c =
+    let s = c .before .before .before .before .before .before .before .before .before in
+    let h = s .pre .2 .slots-high in let k = s .pre .2 .loop-high in search needs
 
 put-node-requires : tie.Need-put-node-requires Inv-loop μ-loop
 put-node-requires c κs =
-    let k = c .before in
-    let s = k .before .before .before .before .before in
-    let p = k .place-node .ensures in
-    let r = s .pre .2 in (
-      (omega (arith, r .few-nodes, s .pre .3), s .pre .1, omega (arith, r .few-nodes, s .pre .3), r .slots-low, r .slots-high),
-      (p .big-low, p .p-low, p .q-low, p .is-allowed, p .is-apart),
+    let l = c .before .before .before .before .before in
+    let count = l .before in
+    let s = count .before .before .before in
+    let r = s .pre .2 in
+    let b = c .before .before .blocks-at .ensures in
+    let few = start-small (s .args .t) (s .args .m) (s .args .l) (nodesIn (s .args .table .now)) (l .loop .i) (r .slots-high)
+    (omega (arith, r .few-nodes, count .count .ensures)) in (
+      omega (arith, r .few-nodes, count .count .ensures),
+      s .pre .1,
+      omega (arith, few, l .loop .inv .3 .numbered),
+      r .loop-low,
+      r .loop-high,
+      r .slots-high,
+      b .own-fit,
+      b .kept-fit,
     )
 
 cast-node-count : tie.Need-cast-node-count Inv-loop μ-loop
 cast-node-count c =
-    let s = c .before .before .before .before .before .before .before .before .before in
-    let h = s .pre .2 .slots-high in
-    search needs
+    let s = c .before .before .before .before .before .before .before .before .before .before .before .before in
+    let h = s .pre .2 .slots-high in search needs
+
+cast-node-count-2 : tie.Need-cast-node-count-2 Inv-loop μ-loop
+cast-node-count-2 c =
+    let s = c .before .before .before .before .before .before .before .before .before .before .before .before in
+    let h = s .pre .2 .slots-high in let k = s .pre .2 .loop-high in search needs
 
 node-count-requires : tie.Need-node-count-requires Inv-loop μ-loop
 node-count-requires c κs =
-    let k = c .before .before .before .before in
-    let s = k .before .before .before .before .before in
-    (s .pre .2 .slots-low, s .pre .2 .slots-high, k .place-node .ensures .is-allowed)
+    let a = c .before .before .before .before .before in
+    let s = a .before .before .before .before .before .before .before in
+    let r = s .pre .2 in (r .loop-low, r .loop-high, r .slots-high, a .blocks-at .ensures .own-fit .allowed)
 
 add-first : tie.Need-add-first Inv-loop μ-loop
 add-first c =
-    let s = c .before .before .before .before .before .before .before .before .before .before in
-    let h = s .pre .2 .few-nodes in
-    let k = c .node-count .ensures .1 in
-    let t = s .pre .2 .slots-high in
-    search needs
+    let l = c .before .before .before .before .before .before .before .before .before in
+    let count = l .before in
+    let s = count .before .before .before in
+    let r = s .pre .2 in
+    let few = start-small (s .args .t) (s .args .m) (s .args .l) (nodesIn (s .args .table .now)) (l .loop .i) (r .slots-high)
+    (omega (arith, r .few-nodes, count .count .ensures)) in
+    record { fits = omega (arith, few, l .loop .inv .3 .numbered, c .node-count .ensures .1, r .slots-high) }
+
+loops-at-requires : tie.Need-loops-at-requires Inv-loop μ-loop
+loops-at-requires c κs = omega (arith, c .before .before .before .before .before .before .before .before .before .before .count .ensures)
+
+one-more-requires : tie.Need-one-more-requires Inv-loop μ-loop
+one-more-requires c κs =
+    let t = c .before .before .before .before .before .before .before .before .before in
+    let l = t .before in
+    let count = l .before in
+    let s = count .before .before .before in
+    let r = s .pre .2 in
+    let few = looping-few (nodesIn (s .args .table .now)) (l .loop .i) in
+    let n = count .count .ensures in
+    omega (arith, r .few-nodes, r .slots-high, r .atoms-high, r .slots-low, r .loop-low, r .loop-high, few, n, l .loop .inv, t .loop-test .taken)
 
 add-i : tie.Need-add-i Inv-loop μ-loop
 add-i c =
-    let s = c .before .before .before .before .before .before .before .before .before .before in
-    let h = s .pre .2 .few-nodes in
-    search needs
+    let t = c .before .before .before .before .before .before .before .before .before .before in
+    let count = t .before .before in
+    let s = count .before .before .before in
+    record { fits = omega (arith, s .pre .2 .few-nodes, count .count .ensures, t .loop-test .taken) }
 
 loop-less : tie.Need-loop-less Inv-loop μ-loop
 loop-less c = search needs
 
 loop-again : tie.Need-loop-again Inv-loop μ-loop
 loop-again c =
-    let w = c .before .before .before in
-    let k = w .before .before in
-    let l = k .before .before in
-    let s = l .before .before .before in
+    let n = c .before .before .before .before .before in
+    let w = n .before .before .before in
+    let loop = w .before .before .before in
+    let count = loop .before in
+    let s = count .before .before .before in
     let a = s .args in
-    let p = w .put-node .ensures in (
+    let l = loop .loop in
+    let r = s .pre .2 in
+    let ns = nodesIn (a .table .now) in
+    let long = length-nodesIn (a .m) (a .table .now) in
+    let b = w .blocks-at .ensures in
+    let p = n .put-node .ensures in
+    let line = lineOf (a .text) in
+    let more = looping-more ns (l .i) (omega (arith, long, count .count .ensures)) in (
       omega arith,
       omega (arith, p .1),
-      omega (arith, c .node-count .ensures .1, s .pre .2 .slots-high),
-      one-node (a .t) (a .m) (nodesIn (a .table .now)) (lineOf (a .text)) (a .at) (a .out .now) (s .pre .2 .slots-low) (k .place-node .ensures) (l .loop .inv .3) (p .0) (ap (λ (x : ℕ). l .loop .first + x) (c .node-count .ensures .0)),
+      c .one-more .ensures ∙ ap₂ (λ (x : Bool) (k : ℕ). cond x (k + 1) k) (c .before .loops-at .ensures) (l .inv .2) ∙ sym more,
+      one-node (a .t) (a .m) (a .l) ns line (a .at) (a .out .now) (l .i) (l .inv .3)
+          (sent-as (ap (eachRow line (l .first)) (blocks-rows (a .t) (a .m) (a .l) ns line (a .at) (a .out .now) b (r .slots-low))) (p .0))
+          (ap (λ (x : ℕ). l .first + x)
+          (c .before .before .node-count .ensures .0 ∙ sym (node-count (a .t) (a .m) (a .l) ns line (a .at) (a .out .now) b (r .slots-low)))),
     )
 
 sub-slack : tie.Need-sub-slack Inv-loop μ-loop
-sub-slack c =
-    let s = c .before .before .before .before .before in
-    omega (arith, s .pre .2 .some-nodes, s .pre .3)
+sub-slack c = omega (arith, c .before .before .before .before .before .pre .2 .some-nodes, c .before .before .count .ensures)
 
 slack-requires : tie.Need-slack-requires Inv-loop μ-loop
 slack-requires c κs =
     let s = c .before .before .before .before .before in
-    let r = s .pre .2 in
-    omega (arith, r .few-nodes, r .slots-high, r .atoms-high, s .pre .3)
+    let r = s .pre .2 in omega (arith, r .few-nodes, r .slots-high, r .atoms-high, c .before .before .count .ensures)
 
 goal-requires : tie.Need-goal-requires Inv-loop μ-loop
 goal-requires c κs = search needs
 
 put-row-requires : tie.Need-put-row-requires Inv-loop μ-loop
 put-row-requires c κs =
-    let s = c .before .before .before .before .before .before .before in
-    let h = s .pre .2 .few-nodes in
-    (omega (arith, s .pre .3), s .pre .1, omega (arith, s .pre .3))
+    let l = c .before .before .before .before in
+    let count = l .before in
+    let s = count .before .before .before in
+    let r = s .pre .2 in
+    let few = start-small (s .args .t) (s .args .m) (s .args .l) (nodesIn (s .args .table .now)) (l .loop .i) (r .slots-high)
+    (omega (arith, r .few-nodes, count .count .ensures)) in
+    (omega (arith, count .count .ensures, r .few-nodes), s .pre .1, omega (arith, few, l .loop .inv .3 .numbered))
 
 same-length : tie.Need-same-length Inv-loop μ-loop
-same-length c =
-    let w = c .before .before in
-    w .put-row .ensures .0 .same ∙ w .before .before .before .before .before .loop .inv .3 .sent .same
+same-length c = c .before .before .put-row .ensures .0 .same ∙ c .before .before .before .before .before .before .before .loop .inv .3 .sent .same
 
 returns : tie.Need-returns Inv-loop μ-loop
 returns c =
-    let w = c .before .before in
-    let g = w .before in
-    let l = g .before .before .before .before in
-    let s = l .before .before .before in
-    let a = s .args in
+    let g = c .before .before .before .before in
+    let s = g .before in
+    let l = s .before in
+    let loop = l .before in
+    let count = loop .before in
+    let start = count .before .before .before in
+    let a = start .args in
     let ns = nodesIn (a .table .now) in
-    let e : length ns ≡ a .n = length-nodesIn (a .m) (a .table .now) ∙ sym (s .pre .3) in
-    let i : l .loop .i ≡ a .n = let t = g .before .before .before .loop-test in omega arith in
-    let d = rw i at (l .loop .inv .3) in
-    let goal = g .goal .ensures ∙ goal-is (a .t) (a .m) ns (a .n) e (g .before .slack .ensures) in
-    let p = w .put-row .ensures in
-    (all-nodes (a .t) (a .m) ns (lineOf (a .text)) (a .at) (a .out .now) e d goal (p .0), omega (arith, p .1, s .pre .2 .few-nodes, s .pre .3))
+    let e : length ns ≡ count .count .result = length-nodesIn (a .m) (a .table .now) ∙ sym (count .count .ensures) in
+    let i : loop .loop .i ≡ count .count .result = let t = l .loop-test in omega arith in
+    let d = rw i at (loop .loop .inv .3) in
+    let goal = g .goal .ensures ∙ goal-is (a .t) (a .m) (a .l) ns (count .count .result) e (s .slack .ensures) in
+    let p = c .before .before .put-row .ensures in (
+      all-nodes (a .t) (a .m) (a .l) ns (lineOf (a .text)) (a .at) (a .out .now) e d goal (p .0),
+      omega (arith, p .1, start .pre .2 .few-nodes, count .count .ensures),
+    )
 
 pub put-all-spec : {M : Type 1} → statement M
 put-all-spec =
@@ -133,13 +219,21 @@ put-all-spec =
     (tie.spec
     Inv-loop
     μ-loop
+    count-requires
     loop-holds
-    place-node-requires
+    add-place
+    add-place-2
+    place-requires
+    blocks-at-requires
     cast-put-node
+    cast-put-node-2
     put-node-requires
     cast-node-count
+    cast-node-count-2
     node-count-requires
     add-first
+    loops-at-requires
+    one-more-requires
     add-i
     loop-less
     loop-again

@@ -45,7 +45,8 @@ loop-again c =
     let w = c .before .before in
     let l = w .before .before .before in
     let a = l .before .before in
-    (omega arith, filled-more (l .loop .inv .1) (a .args .t) (omega arith) (a .pre .1) _ _ (w .put-implies .ensures .is) (w .put-implies .ensures .to) (omega arith))
+    let p = w .put-implies .ensures in
+    (omega arith, filled-more (l .loop .inv .1) (a .args .t) (omega arith) (a .pre .1) _ _ (p .is) (p .to) (omega arith))
 
 same-length : tie.Need-same-length Inv-loop μ-loop
 same-length c = search needs

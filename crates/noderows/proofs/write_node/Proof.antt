@@ -1,16 +1,33 @@
--- `noderows::write_node` meets its contract. By the kind: one family of rows at every slot, or one and then another at the last. Assumes nothing.
-use Prim.Native.Nat.{_+_, _-_}
+-- `noderows::write_node` meets its contract. By the kind. Assumes nothing.
+use mathlib.Core.Path.{_≡_, refl, sym, ap, _∙_}
+use mathlib.Core.Bool.{false}
+use Prim.Native.Nat.{ℕ, _≤_}
 use native.Mathlib.Omega.{arith}
 use borrow.Author.Needs.{needs}
-use Rattle.rules.specs.Rows.{sameRows, andRows, orRows}
-use Rattle.families.specs.Put.{untilNext}
-use Rattle.noderows.specs.Slots.{pairs, triples}
-use Rattle.noderows.specs.Node.{one-room, one-done, first-room, second-room, both-done, by-kind, node-same, node-not, node-and, node-or, node-implies, node-eventually, node-always, node-until, node-within, node-throughout}
+use Rattle.rules.specs.Rule.{Window}
+use Rattle.rules.specs.Rule.Window.{within, throughout}
+use Rattle.table.specs.Looping.{loopsBy}
+use Rattle.table.specs.declared.Kind.{Kind}
+use Rattle.row.specs.declared.Block.{Block}
+use Rattle.families.specs.Put.{one-room, one-done}
+use Rattle.noderows.specs.declared.Reach.{Reach}
+use Rattle.noderows.specs.Slots.{windows}
+use Rattle.noderows.specs.Blocks.{eventually, always, until, blockBytes, blockReach, nodeBytes, node-alone, node-looped}
+use Rattle.noderows.specs.Blocks.{block-same, block-not, block-and, block-or, block-implies}
+use Rattle.noderows.specs.Blocks.{block-eventually, block-always, block-until, block-within, block-throughout}
 use Rattle.noderows.proofs.write_node.Statement.{statement}
 use Rattle.noderows.proofs.write_node.Tie as tie
 
-sub-inner : tie.Need-sub-inner
-sub-inner c = search needs
+-- the bytes of a window's rows, and what they are written from
+module _ (own : Block) (T L : ℕ) {r : Reach} (is : r ≡ blockReach own T L) where
+  window-fits : 1 ≤ L → L ≤ T → T ≤ 64 → own .own ≤ 25600 → own .left ≤ 25600 → own .from ≤ own .to → own .to ≤ 63 →
+      (1 ≤ r .l) × (r .l ≤ r .t) × (r .t ≤ 64) × (own .own ≤ 25600) × (own .left ≤ 25600) × (r .from ≤ r .to) × (r .to ≤ 63)
+  window-fits a b c d e f g = rw is (a, b, c, d, e, f, g)
+
+window-bytes : (w : Window) (own : Block) (T L v : ℕ) {r : Reach} → r ≡ blockReach own T L → {k : Kind} → own .kind ≡ k → loopsBy k ≡ false →
+    blockBytes own T L ≡ windows w (blockReach own T L) (own .own) (own .left) → nodeBytes T L v own ≡ windows w r (own .own) (own .left)
+window-bytes w own T L v is told alone bytes =
+    node-alone T L v own told alone bytes ∙ sym (ap (λ (r : Reach). windows w r (own .own) (own .left)) is)
 
 enum-told : tie.Need-enum-told
 enum-told c = search needs
@@ -19,7 +36,10 @@ write-same-requires : tie.Need-write-same-requires
 write-same-requires c κs =
     let w = c .before in
     let a = w .before .before .before in
-    (omega arith, one-room (a .args .at) (by-kind (a .args .t) (a .args .big) (a .args .p) (a .args .q) (a .args .a) (a .args .b) (w .enum-told .given .1) (node-same (a .args .t) (a .args .big) (a .args .p) (a .args .q) (a .args .a) (a .args .b))) (a .pre .1))
+    let told = w .enum-told .given .1 in
+    let block = block-same (a .args .own) (a .args .t) (a .args .l) told in
+    let e = node-alone (a .args .t) (a .args .l) (a .args .v) (a .args .own) told refl block in
+    (omega arith, one-room (a .args .at) e (a .pre .1))
 
 enum-told-2 : tie.Need-enum-told-2
 enum-told-2 c = search needs
@@ -28,7 +48,10 @@ write-not-requires : tie.Need-write-not-requires
 write-not-requires c κs =
     let w = c .before in
     let a = w .before .before .before in
-    (omega arith, one-room (a .args .at) (by-kind (a .args .t) (a .args .big) (a .args .p) (a .args .q) (a .args .a) (a .args .b) (w .enum-told2 .given .1) (node-not (a .args .t) (a .args .big) (a .args .p) (a .args .q) (a .args .a) (a .args .b))) (a .pre .1))
+    let told = w .enum-told2 .given .1 in
+    let block = block-not (a .args .own) (a .args .t) (a .args .l) told in
+    let e = node-alone (a .args .t) (a .args .l) (a .args .v) (a .args .own) told refl block in
+    (omega arith, one-room (a .args .at) e (a .pre .1))
 
 enum-told-3 : tie.Need-enum-told-3
 enum-told-3 c = search needs
@@ -37,7 +60,10 @@ write-and-requires : tie.Need-write-and-requires
 write-and-requires c κs =
     let w = c .before in
     let a = w .before .before .before in
-    (omega arith, one-room (a .args .at) (by-kind (a .args .t) (a .args .big) (a .args .p) (a .args .q) (a .args .a) (a .args .b) (w .enum-told3 .given .1) (node-and (a .args .t) (a .args .big) (a .args .p) (a .args .q) (a .args .a) (a .args .b))) (a .pre .1))
+    let told = w .enum-told3 .given .1 in
+    let block = block-and (a .args .own) (a .args .t) (a .args .l) told in
+    let e = node-alone (a .args .t) (a .args .l) (a .args .v) (a .args .own) told refl block in
+    (omega arith, one-room (a .args .at) e (a .pre .1))
 
 enum-told-4 : tie.Need-enum-told-4
 enum-told-4 c = search needs
@@ -46,7 +72,10 @@ write-or-requires : tie.Need-write-or-requires
 write-or-requires c κs =
     let w = c .before in
     let a = w .before .before .before in
-    (omega arith, one-room (a .args .at) (by-kind (a .args .t) (a .args .big) (a .args .p) (a .args .q) (a .args .a) (a .args .b) (w .enum-told4 .given .1) (node-or (a .args .t) (a .args .big) (a .args .p) (a .args .q) (a .args .a) (a .args .b))) (a .pre .1))
+    let told = w .enum-told4 .given .1 in
+    let block = block-or (a .args .own) (a .args .t) (a .args .l) told in
+    let e = node-alone (a .args .t) (a .args .l) (a .args .v) (a .args .own) told refl block in
+    (omega arith, one-room (a .args .at) e (a .pre .1))
 
 enum-told-5 : tie.Need-enum-told-5
 enum-told-5 c = search needs
@@ -55,57 +84,34 @@ write-implies-requires : tie.Need-write-implies-requires
 write-implies-requires c κs =
     let w = c .before in
     let a = w .before .before .before in
-    (omega arith, one-room (a .args .at) (by-kind (a .args .t) (a .args .big) (a .args .p) (a .args .q) (a .args .a) (a .args .b) (w .enum-told5 .given .1) (node-implies (a .args .t) (a .args .big) (a .args .p) (a .args .q) (a .args .a) (a .args .b))) (a .pre .1))
+    let told = w .enum-told5 .given .1 in
+    let block = block-implies (a .args .own) (a .args .t) (a .args .l) told in
+    let e = node-alone (a .args .t) (a .args .l) (a .args .v) (a .args .own) told refl block in
+    (omega arith, one-room (a .args .at) e (a .pre .1))
 
 enum-told-6 : tie.Need-enum-told-6
 enum-told-6 c = search needs
 
-add-write-or : tie.Need-add-write-or
-add-write-or c = search needs
-
-write-or-requires-2 : tie.Need-write-or-requires-2
-write-or-requires-2 c κs =
+write-eventually-requires : tie.Need-write-eventually-requires
+write-eventually-requires c κs =
     let w = c .before in
     let a = w .before .before .before in
-    (omega arith, first-room (a .args .at) (triples orRows (a .args .big) (a .args .p) (a .args .big + 1) (a .args .t - 1)) (pairs sameRows (a .args .big + (a .args .t - 1)) (a .args .p + (a .args .t - 1)) 1) (by-kind (a .args .t) (a .args .big) (a .args .p) (a .args .q) (a .args .a) (a .args .b) (w .enum-told6 .given .1) (node-eventually (a .args .t) (a .args .big) (a .args .p) (a .args .q) (a .args .a) (a .args .b) (omega arith))) (a .pre .1))
-
-add-write-same : tie.Need-add-write-same
-add-write-same c = search needs
-
-add-write-same-2 : tie.Need-add-write-same-2
-add-write-same-2 c = search needs
-
-write-same-requires-2 : tie.Need-write-same-requires-2
-write-same-requires-2 c κs =
-    let f = c .before .before .before in
-    let w = f .before .before in
-    let a = w .before .before .before in
-    (omega arith, second-room (a .args .at) (triples orRows (a .args .big) (a .args .p) (a .args .big + 1) (a .args .t - 1)) (pairs sameRows (a .args .big + (a .args .t - 1)) (a .args .p + (a .args .t - 1)) 1) (by-kind (a .args .t) (a .args .big) (a .args .p) (a .args .q) (a .args .a) (a .args .b) (w .enum-told6 .given .1) (node-eventually (a .args .t) (a .args .big) (a .args .p) (a .args .q) (a .args .a) (a .args .b) (omega arith))) (omega (arith, a .pre .1)) (f .write-or2 .ensures .0))
+    let told = w .enum-told6 .given .1 in
+    let block = block-eventually (a .args .own) (a .args .t) (a .args .l) (omega arith) told in
+    let e = node-looped (a .args .t) (a .args .l) (a .args .v) (a .args .own) (eventually (a .args .own) (a .args .t)) block in
+    ((omega arith, a .pre .0 .2, a .pre .0 .3, a .pre .0 .5), one-room (a .args .at) e (a .pre .1))
 
 enum-told-7 : tie.Need-enum-told-7
 enum-told-7 c = search needs
 
-add-write-and : tie.Need-add-write-and
-add-write-and c = search needs
-
-write-and-requires-2 : tie.Need-write-and-requires-2
-write-and-requires-2 c κs =
+write-always-requires : tie.Need-write-always-requires
+write-always-requires c κs =
     let w = c .before in
     let a = w .before .before .before in
-    (omega arith, first-room (a .args .at) (triples andRows (a .args .big) (a .args .p) (a .args .big + 1) (a .args .t - 1)) (pairs sameRows (a .args .big + (a .args .t - 1)) (a .args .p + (a .args .t - 1)) 1) (by-kind (a .args .t) (a .args .big) (a .args .p) (a .args .q) (a .args .a) (a .args .b) (w .enum-told7 .given .1) (node-always (a .args .t) (a .args .big) (a .args .p) (a .args .q) (a .args .a) (a .args .b) (omega arith))) (a .pre .1))
-
-add-write-same-3 : tie.Need-add-write-same-3
-add-write-same-3 c = search needs
-
-add-write-same-4 : tie.Need-add-write-same-4
-add-write-same-4 c = search needs
-
-write-same-requires-3 : tie.Need-write-same-requires-3
-write-same-requires-3 c κs =
-    let f = c .before .before .before in
-    let w = f .before .before in
-    let a = w .before .before .before in
-    (omega arith, second-room (a .args .at) (triples andRows (a .args .big) (a .args .p) (a .args .big + 1) (a .args .t - 1)) (pairs sameRows (a .args .big + (a .args .t - 1)) (a .args .p + (a .args .t - 1)) 1) (by-kind (a .args .t) (a .args .big) (a .args .p) (a .args .q) (a .args .a) (a .args .b) (w .enum-told7 .given .1) (node-always (a .args .t) (a .args .big) (a .args .p) (a .args .q) (a .args .a) (a .args .b) (omega arith))) (omega (arith, a .pre .1)) (f .write-and2 .ensures .0))
+    let told = w .enum-told7 .given .1 in
+    let block = block-always (a .args .own) (a .args .t) (a .args .l) (omega arith) told in
+    let e = node-looped (a .args .t) (a .args .l) (a .args .v) (a .args .own) (always (a .args .own) (a .args .t)) block in
+    ((omega arith, a .pre .0 .2, a .pre .0 .3, a .pre .0 .5), one-room (a .args .at) e (a .pre .1))
 
 enum-told-8 : tie.Need-enum-told-8
 enum-told-8 c = search needs
@@ -114,40 +120,46 @@ write-until-requires : tie.Need-write-until-requires
 write-until-requires c κs =
     let w = c .before in
     let a = w .before .before .before in
-    (omega arith, first-room (a .args .at) (triples untilNext (a .args .big) (a .args .p) (a .args .q) (a .args .t - 1)) (pairs sameRows (a .args .big + (a .args .t - 1)) (a .args .q + (a .args .t - 1)) 1) (by-kind (a .args .t) (a .args .big) (a .args .p) (a .args .q) (a .args .a) (a .args .b) (w .enum-told8 .given .1) (node-until (a .args .t) (a .args .big) (a .args .p) (a .args .q) (a .args .a) (a .args .b) (omega arith))) (a .pre .1))
-
-add-write-same-5 : tie.Need-add-write-same-5
-add-write-same-5 c = search needs
-
-add-write-same-6 : tie.Need-add-write-same-6
-add-write-same-6 c = search needs
-
-write-same-requires-4 : tie.Need-write-same-requires-4
-write-same-requires-4 c κs =
-    let f = c .before .before .before in
-    let w = f .before .before in
-    let a = w .before .before .before in
-    (omega arith, second-room (a .args .at) (triples untilNext (a .args .big) (a .args .p) (a .args .q) (a .args .t - 1)) (pairs sameRows (a .args .big + (a .args .t - 1)) (a .args .q + (a .args .t - 1)) 1) (by-kind (a .args .t) (a .args .big) (a .args .p) (a .args .q) (a .args .a) (a .args .b) (w .enum-told8 .given .1) (node-until (a .args .t) (a .args .big) (a .args .p) (a .args .q) (a .args .a) (a .args .b) (omega arith))) (omega (arith, a .pre .1)) (f .write-until .ensures .0))
+    let told = w .enum-told8 .given .1 in
+    let block = block-until (a .args .own) (a .args .t) (a .args .l) (omega arith) told in
+    let e = node-looped (a .args .t) (a .args .l) (a .args .v) (a .args .own) (until (a .args .own) (a .args .t)) block in
+    ((omega arith, a .pre .0 .2, a .pre .0 .3, a .pre .0 .5), one-room (a .args .at) e (a .pre .1))
 
 enum-told-9 : tie.Need-enum-told-9
 enum-told-9 c = search needs
 
-write-within-requires : tie.Need-write-within-requires
-write-within-requires c κs =
-    let w = c .before in
+reach-of-requires : tie.Need-reach-of-requires
+reach-of-requires c κs = search needs
+
+write-windows-requires : tie.Need-write-windows-requires
+write-windows-requires c κs =
+    let w = c .before .before in
     let a = w .before .before .before in
-    let h = rw (w .enum-told9 .given .1) at (a .pre .0 .5) in
-    (omega (arith, h .0, h .1), one-room (a .args .at) (by-kind (a .args .t) (a .args .big) (a .args .p) (a .args .q) (a .args .a) (a .args .b) (w .enum-told9 .given .1) (node-within (a .args .t) (a .args .big) (a .args .p) (a .args .q) (a .args .a) (a .args .b))) (a .pre .1))
+    let told = w .enum-told9 .given .1 in
+    let reach = c .reach-of .ensures in
+    let h = rw told at (a .pre .0 .4) in (
+      window-fits (a .args .own) (a .args .t) (a .args .l) reach (omega arith) (omega arith) (omega arith) (omega arith) (omega arith) (h .0) (h .1),
+      one-room (a .args .at) (window-bytes within (a .args .own) (a .args .t) (a .args .l) (a .args .v) reach told refl
+          (block-within (a .args .own) (a .args .t) (a .args .l) told)) (a .pre .1),
+    )
 
 enum-told-10 : tie.Need-enum-told-10
 enum-told-10 c = search needs
 
-write-throughout-requires : tie.Need-write-throughout-requires
-write-throughout-requires c κs =
-    let w = c .before in
+reach-of-requires-2 : tie.Need-reach-of-requires-2
+reach-of-requires-2 c κs = search needs
+
+write-windows-requires-2 : tie.Need-write-windows-requires-2
+write-windows-requires-2 c κs =
+    let w = c .before .before in
     let a = w .before .before .before in
-    let h = rw (w .enum-told10 .given .1) at (a .pre .0 .5) in
-    (omega (arith, h .0, h .1), one-room (a .args .at) (by-kind (a .args .t) (a .args .big) (a .args .p) (a .args .q) (a .args .a) (a .args .b) (w .enum-told10 .given .1) (node-throughout (a .args .t) (a .args .big) (a .args .p) (a .args .q) (a .args .a) (a .args .b))) (a .pre .1))
+    let told = w .enum-told10 .given .1 in
+    let reach = c .reach-of2 .ensures in
+    let h = rw told at (a .pre .0 .4) in (
+      window-fits (a .args .own) (a .args .t) (a .args .l) reach (omega arith) (omega arith) (omega arith) (omega arith) (omega arith) (h .0) (h .1),
+      one-room (a .args .at) (window-bytes throughout (a .args .own) (a .args .t) (a .args .l) (a .args .v) reach told refl
+          (block-throughout (a .args .own) (a .args .t) (a .args .l) told)) (a .pre .1),
+    )
 
 same-length : tie.Need-same-length
 same-length c = search needs
@@ -157,7 +169,10 @@ returns c =
     let f = c .before .before in
     let w = f .before .before in
     let a = w .before .before .before in
-    one-done (a .args .at) (by-kind (a .args .t) (a .args .big) (a .args .p) (a .args .q) (a .args .a) (a .args .b) (w .enum-told .given .1) (node-same (a .args .t) (a .args .big) (a .args .p) (a .args .q) (a .args .a) (a .args .b))) _ (f .write-same .ensures)
+    let told = w .enum-told .given .1 in
+    let block = block-same (a .args .own) (a .args .t) (a .args .l) told in
+    let e = node-alone (a .args .t) (a .args .l) (a .args .v) (a .args .own) told refl block in
+    one-done (a .args .at) e _ (f .write-same .ensures)
 
 same-length-2 : tie.Need-same-length-2
 same-length-2 c = search needs
@@ -167,7 +182,10 @@ returns-2 c =
     let f = c .before .before in
     let w = f .before .before in
     let a = w .before .before .before in
-    one-done (a .args .at) (by-kind (a .args .t) (a .args .big) (a .args .p) (a .args .q) (a .args .a) (a .args .b) (w .enum-told2 .given .1) (node-not (a .args .t) (a .args .big) (a .args .p) (a .args .q) (a .args .a) (a .args .b))) _ (f .write-not .ensures)
+    let told = w .enum-told2 .given .1 in
+    let block = block-not (a .args .own) (a .args .t) (a .args .l) told in
+    let e = node-alone (a .args .t) (a .args .l) (a .args .v) (a .args .own) told refl block in
+    one-done (a .args .at) e _ (f .write-not .ensures)
 
 same-length-3 : tie.Need-same-length-3
 same-length-3 c = search needs
@@ -177,7 +195,10 @@ returns-3 c =
     let f = c .before .before in
     let w = f .before .before in
     let a = w .before .before .before in
-    one-done (a .args .at) (by-kind (a .args .t) (a .args .big) (a .args .p) (a .args .q) (a .args .a) (a .args .b) (w .enum-told3 .given .1) (node-and (a .args .t) (a .args .big) (a .args .p) (a .args .q) (a .args .a) (a .args .b))) _ (f .write-and .ensures)
+    let told = w .enum-told3 .given .1 in
+    let block = block-and (a .args .own) (a .args .t) (a .args .l) told in
+    let e = node-alone (a .args .t) (a .args .l) (a .args .v) (a .args .own) told refl block in
+    one-done (a .args .at) e _ (f .write-and .ensures)
 
 same-length-4 : tie.Need-same-length-4
 same-length-4 c = search needs
@@ -187,7 +208,10 @@ returns-4 c =
     let f = c .before .before in
     let w = f .before .before in
     let a = w .before .before .before in
-    one-done (a .args .at) (by-kind (a .args .t) (a .args .big) (a .args .p) (a .args .q) (a .args .a) (a .args .b) (w .enum-told4 .given .1) (node-or (a .args .t) (a .args .big) (a .args .p) (a .args .q) (a .args .a) (a .args .b))) _ (f .write-or .ensures)
+    let told = w .enum-told4 .given .1 in
+    let block = block-or (a .args .own) (a .args .t) (a .args .l) told in
+    let e = node-alone (a .args .t) (a .args .l) (a .args .v) (a .args .own) told refl block in
+    one-done (a .args .at) e _ (f .write-or .ensures)
 
 same-length-5 : tie.Need-same-length-5
 same-length-5 c = search needs
@@ -197,40 +221,49 @@ returns-5 c =
     let f = c .before .before in
     let w = f .before .before in
     let a = w .before .before .before in
-    one-done (a .args .at) (by-kind (a .args .t) (a .args .big) (a .args .p) (a .args .q) (a .args .a) (a .args .b) (w .enum-told5 .given .1) (node-implies (a .args .t) (a .args .big) (a .args .p) (a .args .q) (a .args .a) (a .args .b))) _ (f .write-implies .ensures)
+    let told = w .enum-told5 .given .1 in
+    let block = block-implies (a .args .own) (a .args .t) (a .args .l) told in
+    let e = node-alone (a .args .t) (a .args .l) (a .args .v) (a .args .own) told refl block in
+    one-done (a .args .at) e _ (f .write-implies .ensures)
 
 same-length-6 : tie.Need-same-length-6
 same-length-6 c = search needs
 
 returns-6 : tie.Need-returns-6
 returns-6 c =
-    let g = c .before .before in
-    let f = g .before .before .before .before in
+    let f = c .before .before in
     let w = f .before .before in
     let a = w .before .before .before in
-    both-done (a .args .at) (triples orRows (a .args .big) (a .args .p) (a .args .big + 1) (a .args .t - 1)) (pairs sameRows (a .args .big + (a .args .t - 1)) (a .args .p + (a .args .t - 1)) 1) (by-kind (a .args .t) (a .args .big) (a .args .p) (a .args .q) (a .args .a) (a .args .b) (w .enum-told6 .given .1) (node-eventually (a .args .t) (a .args .big) (a .args .p) (a .args .q) (a .args .a) (a .args .b) (omega arith))) (a .pre .1) _ (omega arith) (f .write-or2 .ensures) (g .write-same2 .ensures)
+    let told = w .enum-told6 .given .1 in
+    let block = block-eventually (a .args .own) (a .args .t) (a .args .l) (omega arith) told in
+    let e = node-looped (a .args .t) (a .args .l) (a .args .v) (a .args .own) (eventually (a .args .own) (a .args .t)) block in
+    one-done (a .args .at) e _ (f .write-eventually .ensures)
 
 same-length-7 : tie.Need-same-length-7
 same-length-7 c = search needs
 
 returns-7 : tie.Need-returns-7
 returns-7 c =
-    let g = c .before .before in
-    let f = g .before .before .before .before in
+    let f = c .before .before in
     let w = f .before .before in
     let a = w .before .before .before in
-    both-done (a .args .at) (triples andRows (a .args .big) (a .args .p) (a .args .big + 1) (a .args .t - 1)) (pairs sameRows (a .args .big + (a .args .t - 1)) (a .args .p + (a .args .t - 1)) 1) (by-kind (a .args .t) (a .args .big) (a .args .p) (a .args .q) (a .args .a) (a .args .b) (w .enum-told7 .given .1) (node-always (a .args .t) (a .args .big) (a .args .p) (a .args .q) (a .args .a) (a .args .b) (omega arith))) (a .pre .1) _ (omega arith) (f .write-and2 .ensures) (g .write-same3 .ensures)
+    let told = w .enum-told7 .given .1 in
+    let block = block-always (a .args .own) (a .args .t) (a .args .l) (omega arith) told in
+    let e = node-looped (a .args .t) (a .args .l) (a .args .v) (a .args .own) (always (a .args .own) (a .args .t)) block in
+    one-done (a .args .at) e _ (f .write-always .ensures)
 
 same-length-8 : tie.Need-same-length-8
 same-length-8 c = search needs
 
 returns-8 : tie.Need-returns-8
 returns-8 c =
-    let g = c .before .before in
-    let f = g .before .before .before .before in
+    let f = c .before .before in
     let w = f .before .before in
     let a = w .before .before .before in
-    both-done (a .args .at) (triples untilNext (a .args .big) (a .args .p) (a .args .q) (a .args .t - 1)) (pairs sameRows (a .args .big + (a .args .t - 1)) (a .args .q + (a .args .t - 1)) 1) (by-kind (a .args .t) (a .args .big) (a .args .p) (a .args .q) (a .args .a) (a .args .b) (w .enum-told8 .given .1) (node-until (a .args .t) (a .args .big) (a .args .p) (a .args .q) (a .args .a) (a .args .b) (omega arith))) (a .pre .1) _ (omega arith) (f .write-until .ensures) (g .write-same4 .ensures)
+    let told = w .enum-told8 .given .1 in
+    let block = block-until (a .args .own) (a .args .t) (a .args .l) (omega arith) told in
+    let e = node-looped (a .args .t) (a .args .l) (a .args .v) (a .args .own) (until (a .args .own) (a .args .t)) block in
+    one-done (a .args .at) e _ (f .write-until .ensures)
 
 same-length-9 : tie.Need-same-length-9
 same-length-9 c = search needs
@@ -238,9 +271,12 @@ same-length-9 c = search needs
 returns-9 : tie.Need-returns-9
 returns-9 c =
     let f = c .before .before in
-    let w = f .before .before in
+    let r = f .before in
+    let w = r .before .before in
     let a = w .before .before .before in
-    one-done (a .args .at) (by-kind (a .args .t) (a .args .big) (a .args .p) (a .args .q) (a .args .a) (a .args .b) (w .enum-told9 .given .1) (node-within (a .args .t) (a .args .big) (a .args .p) (a .args .q) (a .args .a) (a .args .b))) _ (f .write-within .ensures)
+    let told = w .enum-told9 .given .1 in
+    one-done (a .args .at) (window-bytes within (a .args .own) (a .args .t) (a .args .l) (a .args .v) (r .reach-of .ensures) told refl
+    (block-within (a .args .own) (a .args .t) (a .args .l) told)) _ (f .write-windows .ensures)
 
 same-length-10 : tie.Need-same-length-10
 same-length-10 c = search needs
@@ -248,15 +284,17 @@ same-length-10 c = search needs
 returns-10 : tie.Need-returns-10
 returns-10 c =
     let f = c .before .before in
-    let w = f .before .before in
+    let r = f .before in
+    let w = r .before .before in
     let a = w .before .before .before in
-    one-done (a .args .at) (by-kind (a .args .t) (a .args .big) (a .args .p) (a .args .q) (a .args .a) (a .args .b) (w .enum-told10 .given .1) (node-throughout (a .args .t) (a .args .big) (a .args .p) (a .args .q) (a .args .a) (a .args .b))) _ (f .write-throughout .ensures)
+    let told = w .enum-told10 .given .1 in
+    one-done (a .args .at) (window-bytes throughout (a .args .own) (a .args .t) (a .args .l) (a .args .v) (r .reach-of2 .ensures) told refl
+    (block-throughout (a .args .own) (a .args .t) (a .args .l) told)) _ (f .write-windows2 .ensures)
 
 pub write-node-spec : {M : Type 1} → statement M
 write-node-spec =
     tie.close
     (tie.spec
-    sub-inner
     enum-told
     write-same-requires
     enum-told-2
@@ -268,26 +306,17 @@ write-node-spec =
     enum-told-5
     write-implies-requires
     enum-told-6
-    add-write-or
-    write-or-requires-2
-    add-write-same
-    add-write-same-2
-    write-same-requires-2
+    write-eventually-requires
     enum-told-7
-    add-write-and
-    write-and-requires-2
-    add-write-same-3
-    add-write-same-4
-    write-same-requires-3
+    write-always-requires
     enum-told-8
     write-until-requires
-    add-write-same-5
-    add-write-same-6
-    write-same-requires-4
     enum-told-9
-    write-within-requires
+    reach-of-requires
+    write-windows-requires
     enum-told-10
-    write-throughout-requires
+    reach-of-requires-2
+    write-windows-requires-2
     same-length
     returns
     same-length-2

@@ -1,18 +1,27 @@
--- `pagelength::back_size` meets its contract: the number has one digit or two. Assumes nothing.
-use mathlib.Core.Path.{sym}
+-- `pagelength::back_size` meets its contract. Assumes nothing.
+use mathlib.Core.Path.{ap, _∙_}
+use mathlib.Core.Bool.{cond}
+use Prim.Native.Nat.{ℕ}
 use native.Mathlib.Omega.{arith}
-use Rattle.pagelength.specs.Windows.{back-none, back-low, back-high}
+use lib.Dec.{leb}
+use Rattle.pagelength.specs.Windows.{back-is}
+use borrow.Author.Needs.{needs}
 use Rattle.pagelength.proofs.back_size.Statement.{statement}
 use Rattle.pagelength.proofs.back_size.Tie as tie
 
+choose-requires : tie.Need-choose-requires
+choose-requires c κs = search needs
+
+choose-requires-2 : tie.Need-choose-requires-2
+choose-requires-2 c κs = search needs
+
 returns : tie.Need-returns
-returns c = (sym (back-none (c .before .args .k) (omega arith)), omega arith)
-
-returns-2 : tie.Need-returns-2
-returns-2 c = (sym (back-low (c .before .before .args .k) (omega arith) (omega arith)), omega arith)
-
-returns-3 : tie.Need-returns-3
-returns-3 c = (sym (back-high (c .before .before .args .k) (omega arith) (omega arith)), omega arith)
+returns c =
+    let s = c .before .before in
+    let k = s .args .k in
+    let w = back-is k (s .pre .1) in
+    let e = c .choose2 .ensures .0 ∙ ap (λ (x : ℕ). cond (leb k 1) 0 x) (c .before .choose .ensures .0) ∙ w .0 in
+    (e, omega (arith, e, w .1))
 
 pub back-size-spec : {M : Type 1} → statement M
-back-size-spec = tie.close (tie.spec returns returns-2 returns-3)
+back-size-spec = tie.close (tie.spec choose-requires choose-requires-2 returns)

@@ -1,10 +1,13 @@
 -- `pagelength::page_length` meets its contract. Assumes nothing.
 use mathlib.Core.Path.{ap, _∙_}
-use Prim.Native.Nat.{ℕ, _*_}
-use borrow.Author.Needs.{needs}
+use Prim.Native.Nat.{ℕ, _+_, _*_}
 use Rattle.pagelength.specs.Page.{page-found}
+use borrow.Author.Needs.{needs}
 use Rattle.pagelength.proofs.page_length.Statement.{statement}
 use Rattle.pagelength.proofs.page_length.Tie as tie
+
+count-requires : tie.Need-count-requires
+count-requires c κs = search needs
 
 measure-requires : tie.Need-measure-requires
 measure-requires c κs = search needs
@@ -24,6 +27,12 @@ place-requires-2 c κs = search needs
 cast-atoms : tie.Need-cast-atoms
 cast-atoms c = search needs
 
+kept-count-requires : tie.Need-kept-count-requires
+kept-count-requires c κs = search needs
+
+add-place : tie.Need-add-place
+add-place c = search needs
+
 place-requires-3 : tie.Need-place-requires-3
 place-requires-3 c κs = search needs
 
@@ -41,24 +50,30 @@ sum-up-requires c κs = search needs
 
 returns : tie.Need-returns
 returns c =
-    let p = c .before .before .before in
-    let m = p .before .before .before .before in
-    let x = m .before .before .args in
-    let y = m .before .before .pre in
-    let size = m .measure .ensures in
-    let idle = p .before .before .place .ensures .0 ∙ ap (λ (k : ℕ). k * x .t) (p .before .before .before .idle-atoms .ensures .0) in
-    c .sum-up .ensures ∙ page-found (x .t) (x .m) (x .table .now) (y .0) (x .n) (y .1) (size .0) (size .1) idle (p .before .place2 .ensures .0) (p .place3 .ensures .0)
+    let v = c .before .before .before .before in
+    let i = v .before .before in
+    let m = i .before .before in
+    let n = m .before in
+    let s = n .before .before in
+    let x = s .args in
+    let idle = i .place .ensures .0 ∙ ap (λ (k : ℕ). k * x .t) (i .before .idle-atoms .ensures .0) in
+    let slacks = c .before .before .before .place3 .ensures .0 ∙ ap (λ (k : ℕ). (n .count .result + k) * x .t) (v .kept-count .ensures .0) in
+    c .sum-up .ensures
+    ∙ page-found _ _ _ _ (s .pre) _ (n .count .ensures) (m .measure .ensures) idle (v .before .place2 .ensures .0) slacks
 
 pub page-length-spec : {M : Type 1} → statement M
 page-length-spec =
     tie.close
     (tie.spec
+    count-requires
     measure-requires
     idle-atoms-requires
     place-requires
     cast-idle
     place-requires-2
     cast-atoms
+    kept-count-requires
+    add-place
     place-requires-3
     cast-slacks
     add-sum-up

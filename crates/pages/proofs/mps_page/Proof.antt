@@ -19,13 +19,13 @@ enum-told c = search needs
 write-checked-requires : tie.Need-write-checked-requires
 write-checked-requires c κs =
     let k = c .before .before .before in
-    ready _ _ _ (sym (k .check .ensures) ∙ c .before .enum-told .given .1)
+    ready _ _ _ _ (sym (k .check .ensures) ∙ c .before .enum-told .given .1)
 
 returns : tie.Need-returns
 returns c =
     let k = c .before .before .before in
     let a = k .before .before .before .args in
-    let e = page-checked (a .t) (a .m) (a .table .now) (length (a .out .now)) in
+    let e = page-checked (a .t) (a .m) (a .l) (a .table .now) (length (a .out .now)) in
     let f = sym (k .check .ensures) ∙ c .before .checked .given .1 in
     (rw (e, f) refl, (rw (e, f) refl, tt))
 
@@ -37,7 +37,7 @@ returns-2 c =
     let w = c .before .before in
     let k = w .before .before .before .before in
     let a = k .before .before .before .args in
-    let e = page-checked (a .t) (a .m) (a .table .now) (length (a .out .now)) in
+    let e = page-checked (a .t) (a .m) (a .l) (a .table .now) (length (a .out .now)) in
     let f = sym (k .check .ensures) ∙ w .before .before .enum-told .given .1 in
     (rw (e, f) (w .write-checked .ensures .0), (rw (e, f) (w .write-checked .ensures .1 .0), w .write-checked .ensures .1 .1))
 

@@ -2,12 +2,13 @@
 use mathlib.Core.Path.{_≡_, sym, ap, ap₂, _∙_}
 use mathlib.Core.List.{List, _++_}
 use Prim.Native.Nat.{ℕ, _+_, _*_}
-use borrow.Author.Needs.{needs}
+use native.Mathlib.Omega.{arith}
 use lib.ListN.{length}
-use Rattle.rules.specs.Rows.{rowsOf}
+use Rattle.rules.specs.Rows.{variableCount, rowsOf}
 use Rattle.rules.specs.TableTest.{nodesIn, length-nodesIn}
 use Rattle.mps.specs.Page.{rowSection, columnSection, rightSection, boundSection, pageOf, page}
 use Rattle.lines.specs.Sent.{sent-also, sent-as}
+use borrow.Author.Needs.{needs}
 use Rattle.pages.proofs.put_page.Statement.{statement}
 use Rattle.pages.proofs.put_page.Tie as tie
 
@@ -26,8 +27,17 @@ place-requires c κs = search needs
 cast-atoms : tie.Need-cast-atoms
 cast-atoms c = search needs
 
+kept-count-requires : tie.Need-kept-count-requires
+kept-count-requires c κs = search needs
+
+count-requires : tie.Need-count-requires
+count-requires c κs = search needs
+
 add-place : tie.Need-add-place
 add-place c = search needs
+
+add-place-2 : tie.Need-add-place-2
+add-place-2 c = search needs
 
 place-requires-2 : tie.Need-place-requires-2
 place-requires-2 c κs = search needs
@@ -44,21 +54,25 @@ same-length c = search needs
 returns : tie.Need-returns
 unfolding page pageOf
 returns c =
-    let b = c .before .before in
-    let v = b .before .before in
-    let a = v .before in
-    let r = a .before .before .before in
-    let k = r .before .before .before .before in
-    let o = k .before .before .before .before in
-    let s = o .before .before .before .before in
+    let p = c .before .before .before .before in
+    let w = p .before in
+    let k = w .before in
+    let place = k .before in
+    let r = place .before .before .before in
+    let columns = r .before .before .before .before in
+    let rows = columns .before .before .before .before in
+    let s = rows .before .before .before .before in
     let x = s .args in
-    let rs = rowsOf (x .t) (x .m) (nodesIn (x .table .now)) in
-    let n : x .n ≡ length (nodesIn (x .table .now)) = s .pre .1 ∙ sym (length-nodesIn (x .m) (x .table .now)) in
-    let count : (x .m + x .n) * x .t ≡ (x .m + length (nodesIn (x .table .now))) * x .t = ap (λ (i : ℕ). (x .m + i) * x .t) n in
+    let ns = nodesIn (x .table .now) in
+    let rs = rowsOf (x .t) (x .m) (x .l) ns in
+    let n : w .count .result ≡ length ns = w .count .ensures ∙ sym (length-nodesIn (x .m) (x .table .now)) in
+    let count : (x .m + w .count .result + k .kept-count .result) * x .t ≡ variableCount (x .t) (x .m) (x .l) ns =
+    rw (n, k .kept-count .ensures .0) (omega arith) in
     let whole = sent-as
-    (ap₂ (λ (y z : List ℕ). rowSection rs ++ (y ++ (rightSection rs ++ z)))
-    (ap (λ (i : ℕ). columnSection i rs) count) (ap₂ boundSection (a .place .ensures .0) (v .place2 .ensures .0 ∙ count)))
-    (sent-also (o .put-rows .ensures .0) (sent-also (k .put-columns .ensures .0) (sent-also (r .put-rights .ensures .0) (b .put-bounds .ensures .0)))) in
+    (ap (λ (z : List ℕ). rowSection rs ++ (columnSection (variableCount (x .t) (x .m) (x .l) ns) rs ++ (rightSection rs ++ z)))
+    (ap₂ boundSection (place .place .ensures .0) (p .place2 .ensures .0 ∙ count)))
+    (sent-also (rows .put-rows .ensures .0)
+    (sent-also (columns .put-columns .ensures .0) (sent-also (r .put-rights .ensures .0) (c .before .before .put-bounds .ensures .0)))) in
     whole
 
 pub put-page-spec : {M : Type 1} → statement M
@@ -70,7 +84,10 @@ put-page-spec =
     put-rights-requires
     place-requires
     cast-atoms
+    kept-count-requires
+    count-requires
     add-place
+    add-place-2
     place-requires-2
     cast-variables
     put-bounds-requires

@@ -1,177 +1,48 @@
--- `row::node_count` meets its contract. By cases on the kind. Assumes nothing.
-use mathlib.Core.Path.{refl, ap}
-use Prim.Native.Nat.{ℕ, _+_}
+-- `row::node_count` meets its contract. Assumes nothing.
+use mathlib.Core.Path.{sym, ap, ap₂, _∙_}
+use mathlib.Core.Bool.{Bool, false, cond}
+use Prim.Native.Nat.{_+_}
 use native.Mathlib.Omega.{arith}
+use Rattle.row.specs.Kinds.{blockCount}
 use borrow.Author.Needs.{needs}
-use Rattle.row.specs.Kinds.{nodeCount}
 use Rattle.row.proofs.node_count.Statement.{statement}
 use Rattle.row.proofs.node_count.Tie as tie
 
-enum-told : tie.Need-enum-told
-enum-told c = search needs
+block-count-requires : tie.Need-block-count-requires
+block-count-requires c κs = search needs
 
-enum-told-2 : tie.Need-enum-told-2
-enum-told-2 c = search needs
+has-kept-requires : tie.Need-has-kept-requires
+has-kept-requires c κs = search needs
 
-enum-told-3 : tie.Need-enum-told-3
-enum-told-3 c = search needs
-
-mul-result : tie.Need-mul-result
-mul-result c = search needs
-
-enum-told-4 : tie.Need-enum-told-4
-enum-told-4 c = search needs
-
-mul-result-2 : tie.Need-mul-result-2
-mul-result-2 c = search needs
-
-enum-told-5 : tie.Need-enum-told-5
-enum-told-5 c = search needs
-
-mul-result-3 : tie.Need-mul-result-3
-mul-result-3 c = search needs
-
-enum-told-6 : tie.Need-enum-told-6
-enum-told-6 c = search needs
-
-sub-result : tie.Need-sub-result
-sub-result c = search needs
-
-mul-result-4 : tie.Need-mul-result-4
-mul-result-4 c = search needs
+block-count-requires-2 : tie.Need-block-count-requires-2
+block-count-requires-2 c κs = search needs
 
 add-result : tie.Need-add-result
 add-result c = search needs
 
-enum-told-7 : tie.Need-enum-told-7
-enum-told-7 c = search needs
-
-sub-result-2 : tie.Need-sub-result-2
-sub-result-2 c = search needs
-
-mul-result-5 : tie.Need-mul-result-5
-mul-result-5 c = search needs
-
-add-result-2 : tie.Need-add-result-2
-add-result-2 c = search needs
-
-enum-told-8 : tie.Need-enum-told-8
-enum-told-8 c = search needs
-
-sub-result-3 : tie.Need-sub-result-3
-sub-result-3 c = search needs
-
-mul-result-6 : tie.Need-mul-result-6
-mul-result-6 c = search needs
-
-add-result-3 : tie.Need-add-result-3
-add-result-3 c = search needs
-
-enum-told-9 : tie.Need-enum-told-9
-enum-told-9 c = search needs
-
-total-requires : tie.Need-total-requires
-total-requires c κs =
-    let s = c .before .before in
-    let w = rw (c .enum-told9 .given .1) at (s .pre .2) in
-    (s .pre .0, s .pre .1, w .0, w .1)
-
-add-result-4 : tie.Need-add-result-4
-add-result-4 c = search needs
-
-enum-told-10 : tie.Need-enum-told-10
-enum-told-10 c = search needs
-
-total-requires-2 : tie.Need-total-requires-2
-total-requires-2 c κs =
-    let s = c .before .before in
-    let w = rw (c .enum-told10 .given .1) at (s .pre .2) in
-    (s .pre .0, s .pre .1, w .0, w .1)
-
-add-result-5 : tie.Need-add-result-5
-add-result-5 c = search needs
-
 returns : tie.Need-returns
-unfolding nodeCount
-returns c = (rw (c .enum-told .given .1) refl, omega arith, omega arith)
+returns c =
+    let kept = c .block-count2 .ensures in
+    let i = c .before in
+    let own = i .before .before .block-count .ensures in
+    let x = i .before .before .before .args in
+    let e = ap (λ (y : Bool). cond y (blockCount (x .kind) false (x .t) (x .l) (x .a) (x .b)) 0) (sym (i .if1 .taken) ∙ i .before .has-kept .ensures) in
+    (ap₂ _+_ (kept .0 ∙ e) (own .0), omega (arith, kept .2, own .2))
 
 returns-2 : tie.Need-returns-2
-unfolding nodeCount
-returns-2 c = (rw (c .enum-told2 .given .1) refl, omega arith, omega arith)
-
-returns-3 : tie.Need-returns-3
-unfolding nodeCount
-returns-3 c = (rw (c .enum-told3 .given .1) refl, omega arith, omega arith)
-
-returns-4 : tie.Need-returns-4
-unfolding nodeCount
-returns-4 c = (rw (c .enum-told4 .given .1) refl, omega arith, omega arith)
-
-returns-5 : tie.Need-returns-5
-unfolding nodeCount
-returns-5 c = (rw (c .enum-told5 .given .1) refl, omega arith, omega arith)
-
-returns-6 : tie.Need-returns-6
-unfolding nodeCount
-returns-6 c = (rw (c .enum-told6 .given .1) refl, omega arith, omega arith)
-
-returns-7 : tie.Need-returns-7
-unfolding nodeCount
-returns-7 c = (rw (c .enum-told7 .given .1) refl, omega arith, omega arith)
-
-returns-8 : tie.Need-returns-8
-unfolding nodeCount
-returns-8 c = (rw (c .enum-told8 .given .1) refl, omega arith, omega arith)
-
-returns-9 : tie.Need-returns-9
-unfolding nodeCount
-returns-9 c =
-    let s = c .before .before .before in
-    (rw (c .before .enum-told9 .given .1) (ap (λ (n : ℕ). n + s .args .t) (c .total .ensures .0)), omega arith, omega (arith, c .total .ensures .1))
-
-returns-10 : tie.Need-returns-10
-unfolding nodeCount
-returns-10 c =
-    let s = c .before .before .before in
-    (rw (c .before .enum-told10 .given .1) (ap (λ (n : ℕ). n + s .args .t) (c .total2 .ensures .0)), omega arith, omega (arith, c .total2 .ensures .1))
+returns-2 c =
+    let own = c .before .before .block-count .ensures in
+    let x = c .before .before .before .args in
+    let e = ap (λ (y : Bool). cond y (blockCount (x .kind) false (x .t) (x .l) (x .a) (x .b)) 0) (sym (c .if1 .left) ∙ c .before .has-kept .ensures) in
+    (omega (arith, own .0, e), omega (arith, own .2))
 
 pub node-count-spec : {M : Type 1} → statement M
 node-count-spec =
     tie.close
     (tie.spec
-    enum-told
-    enum-told-2
-    enum-told-3
-    mul-result
-    enum-told-4
-    mul-result-2
-    enum-told-5
-    mul-result-3
-    enum-told-6
-    sub-result
-    mul-result-4
+    block-count-requires
+    has-kept-requires
+    block-count-requires-2
     add-result
-    enum-told-7
-    sub-result-2
-    mul-result-5
-    add-result-2
-    enum-told-8
-    sub-result-3
-    mul-result-6
-    add-result-3
-    enum-told-9
-    total-requires
-    add-result-4
-    enum-told-10
-    total-requires-2
-    add-result-5
     returns
-    returns-2
-    returns-3
-    returns-4
-    returns-5
-    returns-6
-    returns-7
-    returns-8
-    returns-9
-    returns-10)
+    returns-2)

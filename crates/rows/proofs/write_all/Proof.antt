@@ -10,15 +10,16 @@ use Rattle.rules.specs.Rows.{rowsOf, rowsBytes}
 use Rattle.rules.specs.TableTest.{nodesIn, length-nodesIn}
 use Rattle.record.specs.Records.{recordOf, record-is}
 use Rattle.row.specs.NodeRows.{goal-is}
-use Rattle.rows.specs.Parts.{nodesBytes, before-goal, bytes-are}
+use Rattle.rows.specs.Parts.{nodesBytes, lengthTo, before-goal, bytes-are}
 use Rattle.rows.proofs.write_all.Statement.{statement}
 use Rattle.rows.proofs.write_all.Tie as tie
 
 nodes-are : (c : tie.Start) → length (nodesIn (c .args .table .now)) ≡ c .args .n
 nodes-are c = length-nodesIn (c .args .m) (c .args .table .now) ∙ sym (c .pre .0 .1)
 
-goal-place : (c : tie.Start) → length (nodesBytes (c .args .t) (c .args .m) (nodesIn (c .args .table .now)) (c .args .n)) + 8 ≡ length (rowsBytes (rowsOf (c .args .t) (c .args .m) (nodesIn (c .args .table .now))))
-goal-place c = before-goal (c .args .t) (c .args .m) (nodesIn (c .args .table .now)) (c .args .n) (nodes-are c)
+goal-place : (c : tie.Start) → lengthTo (c .args .t) (c .args .m) (c .args .l) (nodesIn (c .args .table .now)) (c .args .n) + 8 ≡
+    length (rowsBytes (rowsOf (c .args .t) (c .args .m) (c .args .l) (nodesIn (c .args .table .now))))
+goal-place c = before-goal (c .args .t) (c .args .m) (c .args .l) (nodesIn (c .args .table .now)) (c .args .n) (nodes-are c)
 
 write-nodes-requires : tie.Need-write-nodes-requires
 write-nodes-requires c κs =
@@ -52,11 +53,13 @@ returns c =
     let x = a .args in
     let ns = nodesIn (x .table .now) in
     let g = goal-place a in
-    let goal = goal-is (x .t) (x .m) ns (x .n) (nodes-are a) (c .before .before .before .before .slack .ensures) in
-    let r = c .before .before .before .goal .result in
+    let goal = goal-is (x .t) (x .m) (x .l) ns (x .n) (nodes-are a) (c .before .before .before .before .slack .ensures) in
+    let r = c .before .before .before .goal in
+    let nodes = nodesBytes (x .t) (x .m) (x .l) ns (x .n) in
     splice-as 0 (x .out .now)
-    (splice-then 0 (w .write-nodes .result) (nodesBytes (x .t) (x .m) ns (x .n)) (recordOf r) (x .out .now) _ _ (w .write-nodes .ensures .1) (c .before .before .put-row .ensures .1) (omega arith) (omega (arith, a .pre .1)))
-    (ap (λ (b : List ℕ). nodesBytes (x .t) (x .m) ns (x .n) ++ b) (record-is r (c .before .before .before .goal .ensures ∙ goal)) ∙ bytes-are (x .t) (x .m) ns (x .n) (nodes-are a))
+    (splice-then 0 (w .write-nodes .result) nodes (recordOf (r .result)) (x .out .now) _ _ (w .write-nodes .ensures .1)
+    (c .before .before .put-row .ensures .1) (omega arith) (omega (arith, a .pre .1)))
+    (ap (λ (b : List ℕ). nodes ++ b) (record-is (r .result) (r .ensures ∙ goal)) ∙ bytes-are (x .t) (x .m) (x .l) ns (x .n) (nodes-are a))
 
 pub write-all-spec : {M : Type 1} → statement M
 write-all-spec =

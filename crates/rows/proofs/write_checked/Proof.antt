@@ -25,20 +25,27 @@ add-if1 c = search needs
 
 returns : tie.Need-returns
 returns c =
-    let a = c .before .before .before .before .before .before .before .args in
+    let m = c .before .before .before in
+    let n = m .before .count in
+    let a = m .before .before .before .before .args in
     let ns = nodesIn (a .table .now) in
-    let e = length-is (a .t) (a .m) ns (c .before .before .before .before .count .result) (length-nodesIn (a .m) (a .table .now) ∙ sym (c .before .before .before .before .count .ensures)) (c .before .before .before .measure .ensures .1) in
+    let all = length-nodesIn (a .m) (a .table .now) ∙ sym (n .ensures) in
+    let e = length-is (a .t) (a .m) (a .l) ns (n .result) all (m .measure .ensures .1 .0) in
     let test = c .if1 in
-    let h = too-short (a .t) (a .m) (a .table .now) (length (a .out .now)) (omega arith) in
+    let h = too-short (a .t) (a .m) (a .l) (a .table .now) (length (a .out .now)) (omega arith) in
     (rw h refl, rw h refl)
 
 write-all-requires : tie.Need-write-all-requires
 write-all-requires c κs =
-    let a = c .before .before .before .before .before .before .before .before .args in
+    let m = c .before .before .before .before in
+    let n = m .before .count in
+    let s = m .before .before .before .before in
+    let a = s .args in
     let ns = nodesIn (a .table .now) in
-    let e = length-is (a .t) (a .m) ns (c .before .before .before .before .before .count .result) (length-nodesIn (a .m) (a .table .now) ∙ sym (c .before .before .before .before .before .count .ensures)) (c .before .before .before .before .measure .ensures .1) in
+    let all = length-nodesIn (a .m) (a .table .now) ∙ sym (n .ensures) in
+    let e = length-is (a .t) (a .m) (a .l) ns (n .result) all (m .measure .ensures .1 .0) in
     let test = c .before .if1 in
-    ((c .before .before .before .before .before .before .before .before .pre, c .before .before .before .before .before .count .ensures), omega arith)
+    ((s .pre, n .ensures), omega arith)
 
 same-length : tie.Need-same-length
 same-length c = search needs
@@ -46,13 +53,17 @@ same-length c = search needs
 returns-2 : tie.Need-returns-2
 unfolding over
 returns-2 c =
-    let a = c .before .before .before .before .before .before .before .before .before .before .before .args in
+    let w = c .before .before in
+    let test = w .before .before .if1 in
+    let m = w .before .before .before .before .before in
+    let n = m .before .count in
+    let a = m .before .before .before .before .args in
     let ns = nodesIn (a .table .now) in
-    let e = length-is (a .t) (a .m) ns (c .before .before .before .before .before .before .before .before .count .result) (length-nodesIn (a .m) (a .table .now) ∙ sym (c .before .before .before .before .before .before .before .before .count .ensures)) (c .before .before .before .before .before .before .before .measure .ensures .1) in
-    let test = c .before .before .before .before .if1 in
-    let k = count-is (a .t) (a .m) ns (c .before .before .before .before .before .before .before .before .count .result) (length-nodesIn (a .m) (a .table .now) ∙ sym (c .before .before .before .before .before .before .before .before .count .ensures)) (c .before .before .before .before .before .before .before .measure .ensures .0) in
-    let h = long-enough (a .t) (a .m) (a .table .now) (length (a .out .now)) (omega arith) in
-    (rw h (ap answered k), rw h (c .before .before .write-all .ensures ∙ splice-zero _ _))
+    let all = length-nodesIn (a .m) (a .table .now) ∙ sym (n .ensures) in
+    let e = length-is (a .t) (a .m) (a .l) ns (n .result) all (m .measure .ensures .1 .0) in
+    let k = count-is (a .t) (a .m) (a .l) ns (n .result) all (m .measure .ensures .0 .0) in
+    let h = long-enough (a .t) (a .m) (a .l) (a .table .now) (length (a .out .now)) (omega arith) in
+    (rw h (ap answered k), rw h (w .write-all .ensures ∙ splice-zero _ _))
 
 pub write-checked-spec : {M : Type 1} → statement M
 write-checked-spec =

@@ -42,7 +42,7 @@ module _ (M : ℕ) (text : List ℕ) (room : ℕ) where
   read-from k i (ReadRefused.text-refused (TextRefused.nodes {p} s x)) = at-least (place 6) k (λ h. omega (arith, i .six h p s))
   read-from k i (ReadRefused.short {p} s x) = at-least (place 11) k (λ h. omega (arith, i .eleven h p s))
 
-  read-under : {j : ℕ} → ReadRefused M text room j → place j < 12
+  read-under : {j : ℕ} → ReadRefused M text room j → place j < 13
   read-under (ReadRefused.text-refused (TextRefused.atoms x)) = omega arith
   read-under (ReadRefused.text-refused (TextRefused.long x)) = omega arith
   read-under (ReadRefused.text-refused (TextRefused.no-rule x)) = omega arith
@@ -80,7 +80,11 @@ module _ (M : ℕ) (text : List ℕ) (room : ℕ) where
         (λ f. ReadRefused.short s (leb-false (8 * size p) room f))
         (λ t. let r = of-one p s (λ q. 8 * size q ≤ room) (leb-true (8 * size p) room t) in
         exact-answered (ReadRefused M text room) ReadIs (wrote (size p) (tableBytes (nodesOf p)))
-        (λ j x. omega (arith, read-under x, read-from 12 (record { two = λ h. m; three = λ h. l; four = λ h. (p, s); five = λ h. a; twelve = λ h. w; six = λ h. n; eleven = λ h. r }) x))
+        (λ j x. omega (
+          arith,
+          read-under x,
+          read-from 13 (record { two = λ h. m; three = λ h. l; four = λ h. (p, s); five = λ h. a; twelve = λ h. w; six = λ h. n; eleven = λ h. r }) x,
+        ))
         (p, s, refl)
         (λ w i. ap (λ (q : Rule). wrote (size q) (tableBytes (nodesOf q))) (one-reading text p (i .0) s (i .1)) ∙ sym (i .2))))))
 

@@ -11,7 +11,7 @@ use borrow.Author.Tests.{leb-true, leb-false}
 use lib.ListN.{length, getD}
 use lib.IntN.{ℤ, pos}
 use Rattle.rules.specs.RuleSize.{size-positive}
-use Rattle.rules.specs.Quantities.{SlotsAllowed, AtomsAllowed}
+use Rattle.rules.specs.Quantities.{SlotsAllowed, AtomsAllowed, LoopAllowed}
 use Rattle.rules.specs.Rule.{Rule, size, AtomsBelow, WindowsAllowed}
 use Rattle.rules.specs.Grammar.{Says}
 use Rattle.rules.specs.Reading.{reading, reading-sound, reading-complete, one-reading}
@@ -92,7 +92,8 @@ bit-one-iff P b h = go h
     go (TruthBit.true y) = (λ e. y, λ z. refl)
     go (TruthBit.false y) = (λ e. absurd (omega arith), λ z. absurd (y z))
 
-module _ (T M D : ℕ) (run : List ℕ) (slots : SlotsAllowed T) (runs : RunGood T M run) (0<D : 1 ≤ D) (text : List ℕ) (ok : None (TextRefused M text)) (q : Plain M text) where
+module _ (T M L D : ℕ) (run : List ℕ) (slots : SlotsAllowed T) (loop : LoopAllowed T L) (runs : RunGood T M run) (0<D : 1 ≤ D) (text : List ℕ)
+    (ok : None (TextRefused M text)) (q : Plain M text) where
   abbrev p : Rule
   p = q .rule
 
@@ -109,9 +110,10 @@ module _ (T M D : ℕ) (run : List ℕ) (slots : SlotsAllowed T) (runs : RunGood
   same-nodes : (ms : List Node) → Good M (tableBytes ns) ms → ns ≡ ms
   same-nodes ms g = good-nodes M (tableBytes ns) ns good-table ∙ sym (good-nodes M (tableBytes ns) ms g)
 
-  table-ok : None (TableRefused T M (tableBytes ns))
+  table-ok : None (TableRefused T M L (tableBytes ns))
   table-ok k (TableRefused.slots x) = x slots
   table-ok k (TableRefused.atoms x) = x (q .allowed)
+  table-ok k (TableRefused.loop x) = x loop
   table-ok k (TableRefused.not-good x) = x ns good-table
 
   module _ (room : ℕ) where
@@ -119,11 +121,11 @@ module _ (T M D : ℕ) (run : List ℕ) (slots : SlotsAllowed T) (runs : RunGood
     read-ok h k (ReadRefused.text-refused x) = ok k x
     read-ok h k (ReadRefused.short {p = r} s x) = omega (arith, ap size (one-reading text p r (q .says) s))
 
-    rows-ok : length (rowsBytes (rowsOf T M ns)) ≤ room → None (RowsRefused T M (tableBytes ns) room)
+    rows-ok : length (rowsBytes (rowsOf T M L ns)) ≤ room → None (RowsRefused T M L (tableBytes ns) room)
     rows-ok h k (RowsRefused.table-refused x) = table-ok k x
-    rows-ok h k (RowsRefused.short {ns = ms} g x) = omega (arith, ap (λ (l : List Node). length (rowsBytes (rowsOf T M l))) (same-nodes ms g))
+    rows-ok h k (RowsRefused.short {ns = ms} g x) = omega (arith, ap (λ (l : List Node). length (rowsBytes (rowsOf T M L l))) (same-nodes ms g))
 
-    evaluate-ok : size p ≤ room → None (EvaluateRefused T M (tableBytes ns) run room)
+    evaluate-ok : size p ≤ room → None (EvaluateRefused T M L (tableBytes ns) run room)
     evaluate-ok h k (EvaluateRefused.table-refused x) = table-ok k x
     evaluate-ok h k (EvaluateRefused.run-bad x) = x runs
     evaluate-ok h k (EvaluateRefused.short {ns = ms} g x) = omega (arith, ap (λ (l : List Node). length l) (same-nodes ms g), length-ns)
@@ -131,49 +133,65 @@ module _ (T M D : ℕ) (run : List ℕ) (slots : SlotsAllowed T) (runs : RunGood
     read-is : 8 * size p ≤ room → readOutcome M text room ≡ answered (wrote (size p) (tableBytes ns))
     read-is h = read-exact M text room .answers (wrote (size p) (tableBytes ns)) .1 (read-ok h, (p, q .says, refl))
 
-    rows-are : length (rowsBytes (rowsOf T M ns)) ≤ room → rowsOutcome T M (tableBytes ns) room ≡ answered (wrote (length (rowsOf T M ns)) (rowsBytes (rowsOf T M ns)))
-    rows-are h = rows-exact T M (tableBytes ns) room .answers (wrote (length (rowsOf T M ns)) (rowsBytes (rowsOf T M ns))) .1 (rows-ok h, (ns, good-table, refl))
+    rows-are : length (rowsBytes (rowsOf T M L ns)) ≤ room →
+        rowsOutcome T M L (tableBytes ns) room ≡ answered (wrote (length (rowsOf T M L ns)) (rowsBytes (rowsOf T M L ns)))
+    rows-are h =
+        rows-exact T M L (tableBytes ns) room .answers (wrote (length (rowsOf T M L ns)) (rowsBytes (rowsOf T M L ns))) .1 (rows-ok h, (ns, good-table, refl))
 
-    evaluate-is : size p ≤ room → evaluateOutcome T M (tableBytes ns) run room ≡ answered (wrote (bitOf (truth T run (ruleAt ns (root ns)) 1)) (truthWords T run ns))
+    evaluate-is : size p ≤ room →
+        evaluateOutcome T M L (tableBytes ns) run room ≡ answered (wrote (bitOf (truth T L run (ruleAt ns (root ns)) 1)) (truthWords T L run ns))
     evaluate-is h =
-        evaluate-exact T M (tableBytes ns) run room .answers (wrote (bitOf (truth T run (ruleAt ns (root ns)) 1)) (truthWords T run ns)) .1
-        (evaluate-ok h, (ns, bitOf (truth T run (ruleAt ns (root ns)) 1), truthWords T run ns, good-table, words-are T run ns, truth-bit T run (ruleAt ns (root ns)) 1 (omega arith) (slots .0), refl))
+        evaluate-exact T M L (tableBytes ns) run room .answers (wrote (bitOf (truth T L run (ruleAt ns (root ns)) 1)) (truthWords T L run ns)) .1 (
+          evaluate-ok h,
+          (
+            ns,
+            bitOf (truth T L run (ruleAt ns (root ns)) 1),
+            truthWords T L run ns,
+            good-table,
+            words-are T L loop run ns,
+            truth-bit T L loop run (ruleAt ns (root ns)) 1 (omega arith) (slots .0),
+            refl,
+          ),
+        )
 
-  truthful : OnlyTheTruth T M D run ns (slackRows T M ns) (goalRow T M ns)
-  truthful = only-the-truth T M D run ns (nodes-good M p (q .atoms) (q .windows)) (slots .0) 0<D (omega (arith, length-ns, size-positive p))
+  truthful : OnlyTheTruth T M L D run ns (slackRows T M L ns) (goalRow T M ns)
+  truthful = only-the-truth T M L D loop run ns (nodes-good M p (q .atoms) (q .windows)) 0<D (omega (arith, length-ns, size-positive p))
 
-  at-bytes : Demand3At T M D run p (tableBytes ns) (length (rowsOf T M ns)) (rowsBytes (rowsOf T M ns)) (bitOf (truth T run (ruleAt ns (root ns)) 1)) (truthWords T run ns)
+  at-bytes : Demand3At T M L D run p (tableBytes ns) (length (rowsOf T M L ns)) (rowsBytes (rowsOf T M L ns)) (bitOf (truth T L run (ruleAt ns (root ns)) 1))
+      (truthWords T L run ns)
   at-bytes = record {
     table-is = refl;
     root-is = root-is M p (q .atoms) (q .windows);
-    rows = slackRows T M ns;
+    rows = slackRows T M L ns;
     goal = goalRow T M ns;
-    rows-read = rows-back (rowsOf T M ns) (rows-recordable T M (slots .1) ns);
+    rows-read = rows-back (rowsOf T M L ns) (rows-recordable T M L (slots .1) ns);
     truthful = truthful;
     evaluated = λ n t h l u.
         let k : n < length ns = omega (arith, length-ns) in
-        bit-numerator (Holds (endless T run) (ruleAt ns n) t) D 0 (slotBit (getD (truthWords T run ns) n 0) t) (valueAt (truthful .slacks) (n * T + (t - 1)))
-        (words-are T run ns .at n t k l u) (truthful .one n t k l u) (truthful .zero n t k l u);
-    answered = subst (λ (r : Rule). (bitOf (truth T run (ruleAt ns (root ns)) 1) ≡ 1) ↔ Holds (endless T run) r 1) (root-is M p (q .atoms) (q .windows))
-        (bit-one-iff (Holds (endless T run) (ruleAt ns (root ns)) 1) (bitOf (truth T run (ruleAt ns (root ns)) 1)) (truth-bit T run (ruleAt ns (root ns)) 1 (omega arith) (slots .0)));
+        bit-numerator (Holds (endless T L run) (ruleAt ns n) t) D 0 (slotBit (getD (truthWords T L run ns) n 0) t)
+        (valueAt (truthful .slacks) (n * T + (t - 1)))
+        (words-are T L loop run ns .at n t k l u) (truthful .one n t k l u) (truthful .zero n t k l u);
+    answered = subst (λ (r : Rule). (bitOf (truth T L run (ruleAt ns (root ns)) 1) ≡ 1) ↔ Holds (endless T L run) r 1) (root-is M p (q .atoms) (q .windows))
+        (bit-one-iff (Holds (endless T L run) (ruleAt ns (root ns)) 1) (bitOf (truth T L run (ruleAt ns (root ns)) 1))
+        (truth-bit T L loop run (ruleAt ns (root ns)) 1 (omega arith) (slots .0)));
   }
 
 pub demand3 : Demand3 readOutcome rowsOutcome evaluateOutcome
-demand3 M text ok T D run slots runs 0<D =
+demand3 M text ok T L D run slots loop runs 0<D =
     let q = plain M text ok in
     let ns = nodesOf (q .rule) in
-    let r = rowsOf T M ns in (
+    let r = rowsOf T M L ns in (
       q .rule,
       q .says,
       λ room₁ room₂ room₃ h₁ h₂ h₃. (
         tableBytes ns,
         rowsBytes r,
-        truthWords T run ns,
+        truthWords T L run ns,
         length r,
-        bitOf (truth T run (ruleAt ns (root ns)) 1),
-        read-is T M D run slots runs 0<D text ok q room₁ h₁,
-        rows-are T M D run slots runs 0<D text ok q room₂ h₂,
-        evaluate-is T M D run slots runs 0<D text ok q room₃ h₃,
-        at-bytes T M D run slots runs 0<D text ok q,
+        bitOf (truth T L run (ruleAt ns (root ns)) 1),
+        read-is T M L D run slots loop runs 0<D text ok q room₁ h₁,
+        rows-are T M L D run slots loop runs 0<D text ok q room₂ h₂,
+        evaluate-is T M L D run slots loop runs 0<D text ok q room₃ h₃,
+        at-bytes T M L D run slots loop runs 0<D text ok q,
       ),
     )

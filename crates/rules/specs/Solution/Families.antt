@@ -10,14 +10,18 @@ use lib.ListN.{length}
 use lib.IntN.{pos, negℤ}
 use Rattle.lists.specs.Every.{Every, every-append}
 use Rattle.lists.specs.Passing.{someOf, everyOf, every-passing, passing-some}
+use Rattle.rules.specs.Quantities.{LoopAllowed}
 use Rattle.rules.specs.Rule.{Unary, Binary, Window}
 use Rattle.rules.specs.Rule.Unary.{not, eventually, always}
 use Rattle.rules.specs.Rule.Binary.{and, or, implies, until}
 use Rattle.rules.specs.Rule.Window.{within, throughout}
 use Rattle.rules.specs.Table.{Node, NodeGood}
 use Rattle.rules.specs.Truth.{slotOf}
-use Rattle.rules.specs.Rows.{Row, plus, minus, ge, slack, atomVariable, sameRows, notRows, andRows, orRows, impliesRows, untilRows, unaryRows, binaryRows, inWindow, windowSlots, windowRows, rowsAt}
-use Rattle.rules.specs.Evaluation.{unaryNow, binaryNow, windowNow, nodeNow, window-at}
+use Rattle.rules.specs.Rows.{Row, plus, minus, ge, slack, atomVariable, sameRows, notRows, andRows, orRows, impliesRows, untilRows, unaryRows}
+use Rattle.rules.specs.Rows.{binaryRows, inWindow, windowSlots, windowRows, unaryLoops, binaryLoops, loops, loopSlack}
+use Rattle.rules.specs.Rows.{goesOn, nextSlack, rowsAt, loopRowsAt}
+use Rattle.rules.specs.Slots.{slot-le, slot-pos}
+use Rattle.rules.specs.Evaluation.{unaryNow, binaryNow, windowNow, nodeNow, keptNow, window-at}
 use Rattle.rules.specs.Solution.Integers.{Met, plusOf, minusOf, up, down}
 
 -- the numerator of a truth
@@ -67,26 +71,28 @@ module _ (D : ℕ) (y : ℕ → ℕ) (P p q : ℕ) (top : y P ≤ D) where
   pin-until P′ false false true e f g = (λ h. omega arith, λ h. omega arith)
   pin-until P′ false false false e f g = (λ h. omega arith, λ h. omega arith)
 
--- ---- by kind; the value at the next slot is asked for only where a slot follows
+-- ---- by kind; the value at the next slot is asked for only where the kind looks at it and a slot follows
 
 module _ (D : ℕ) (y : ℕ → ℕ) (P p P′ : ℕ) (top : y P ≤ D) (b d : Bool) (e : y p ≡ scale D b) where
-  pin-unary : (u : Unary) (inner : Bool) → (inner ≡ true → y P′ ≡ scale D d) → Every (Met D y) (unaryRows u inner P p P′) ↔ (y P ≡ scale D (unaryNow u inner b d))
+  pin-unary : (u : Unary) (inner : Bool) → (unaryLoops u ≡ true → inner ≡ true → y P′ ≡ scale D d) →
+      Every (Met D y) (unaryRows u inner P p P′) ↔ (y P ≡ scale D (unaryNow u inner b d))
   pin-unary not true g = pin-not D y P p b e
   pin-unary not false g = pin-not D y P p b e
-  pin-unary eventually true g = pin-or D y P p P′ top b d e (g refl)
+  pin-unary eventually true g = pin-or D y P p P′ top b d e (g refl refl)
   pin-unary eventually false g = pin-same D y P p b e
-  pin-unary always true g = pin-and D y P p P′ top b d e (g refl)
+  pin-unary always true g = pin-and D y P p P′ top b d e (g refl refl)
   pin-unary always false g = pin-same D y P p b e
 
 module _ (D : ℕ) (y : ℕ → ℕ) (P p q P′ : ℕ) (top : y P ≤ D) (b c d : Bool) (e : y p ≡ scale D b) (f : y q ≡ scale D c) where
-  pin-binary : (o : Binary) (inner : Bool) → (inner ≡ true → y P′ ≡ scale D d) → Every (Met D y) (binaryRows o inner P p q P′) ↔ (y P ≡ scale D (binaryNow o inner b c d))
+  pin-binary : (o : Binary) (inner : Bool) → (binaryLoops o ≡ true → inner ≡ true → y P′ ≡ scale D d) →
+      Every (Met D y) (binaryRows o inner P p q P′) ↔ (y P ≡ scale D (binaryNow o inner b c d))
   pin-binary and true g = pin-and D y P p q top b c e f
   pin-binary and false g = pin-and D y P p q top b c e f
   pin-binary or true g = pin-or D y P p q top b c e f
   pin-binary or false g = pin-or D y P p q top b c e f
   pin-binary implies true g = pin-implies D y P p q top b c e f
   pin-binary implies false g = pin-implies D y P p q top b c e f
-  pin-binary until true g = pin-until D y P p q top P′ b c d e f (g refl)
+  pin-binary until true g = pin-until D y P p q top P′ b c d e f (g refl refl)
   pin-binary until false g = pin-same D y P q c f
 
 -- ---- windows, for all widths together
@@ -254,18 +260,34 @@ module _ (D : ℕ) (y : ℕ → ℕ) (v : ℕ → ℕ) (b : ℕ → Bool) where
       λ e. (throughout-each .1 (all-part (y P) ss r (omega arith)), (less-met n .1 (omega (arith, all-high ss r)), tt)),
     )
 
--- the rows of node n at slot t
-pub pin-node : (T M D : ℕ) (y : ℕ → ℕ) (n t : ℕ) → 1 ≤ t → t ≤ T → y (slack T M n t) ≤ D → (on : ℕ → Bool) (parts : ℕ → ℕ → Bool) (d : Bool) →
-    ((a : ℕ) → a < M → y (atomVariable T a t) ≡ scale D (on a)) →
-    ((c s : ℕ) → c < n → 1 ≤ s → s ≤ T → y (slack T M c s) ≡ scale D (parts c s)) →
-    (ltb t T ≡ true → y (slack T M n (t + 1)) ≡ scale D d) →
-    (nd : Node) → NodeGood M n nd → Every (Met D y) (rowsAt T M n nd t) ↔ (y (slack T M n t) ≡ scale D (nodeNow T t on parts d nd))
-pin-node T M D y n t l u top on parts d atoms below next (Node.atom a) h = pin-same D y (slack T M n t) (atomVariable T a t) (on a) (atoms a h)
-pin-node T M D y n t l u top on parts d atoms below next (Node.unary o c) h =
-    pin-unary D y (slack T M n t) (slack T M c t) (slack T M n (t + 1)) top (parts c t) d (below c t h l u) o (ltb t T) next
-pin-node T M D y n t l u top on parts d atoms below next (Node.binary o p q) h =
-    pin-binary D y (slack T M n t) (slack T M p t) (slack T M q t) (slack T M n (t + 1)) top (parts p t) (parts q t) d (below p t (h .0) l u) (below q t (h .1) l u) o (ltb t T) next
-pin-node T M D y n t l u top on parts d atoms below next (Node.windowed w a b c) h =
-    pin-window D y (slack T M c) (parts c) (slack T M n t) top (windowSlots T t a b)
-    (every-passing (inWindow T t a b) (λ s. y (slack T M c s) ≡ scale D (parts c s)) T 1 (λ s g i k. below c s (h .0) g (omega arith))) w
-    (passing-some (inWindow T t a b) T 1 (slotOf T (t + a)) (omega arith) (omega arith) (window-at T a b t a (omega arith) (h .1 .0)))
+-- ---- the rows of node n at slot t, and those of its V
+
+module _ (T M L D : ℕ) (ns : List Node) (y : ℕ → ℕ) (n t : ℕ) (low : 1 ≤ t) (high : t ≤ T) (parts : ℕ → ℕ → Bool)
+    (below : (c s : ℕ) → c < n → 1 ≤ s → s ≤ T → y (slack T M c s) ≡ scale D (parts c s)) where
+  pub pin-node : LoopAllowed T L → y (slack T M n t) ≤ D → (on : ℕ → Bool) (d : Bool) → ((a : ℕ) → a < M → y (atomVariable T a t) ≡ scale D (on a)) →
+      (nd : Node) → (loops nd ≡ true → goesOn T L t ≡ true → y (nextSlack T M L ns n t) ≡ scale D d) →
+      NodeGood M n nd → Every (Met D y) (rowsAt T M L ns n nd t) ↔ (y (slack T M n t) ≡ scale D (nodeNow T L t on parts d nd))
+  pin-node loop top on d atoms (Node.atom a) next h = pin-same D y (slack T M n t) (atomVariable T a t) (on a) (atoms a h)
+  pin-node loop top on d atoms (Node.unary u c) next h =
+      pin-unary D y (slack T M n t) (slack T M c t) (nextSlack T M L ns n t) top (parts c t) d (below c t h low high) u (goesOn T L t) next
+  pin-node loop top on d atoms (Node.binary o p q) next h =
+      pin-binary D y (slack T M n t) (slack T M p t) (slack T M q t) (nextSlack T M L ns n t) top (parts p t) (parts q t) d
+      (below p t (h .0) low high) (below q t (h .1) low high) o (goesOn T L t) next
+  pin-node loop top on d atoms (Node.windowed w a b c) next h =
+      pin-window D y (slack T M c) (parts c) (slack T M n t) top (windowSlots T L t a b)
+      (every-passing (inWindow T L t a b) (λ s. y (slack T M c s) ≡ scale D (parts c s)) T 1 (λ s g i k. below c s (h .0) g (omega arith))) w
+      (passing-some (inWindow T L t a b) T 1 (slotOf T L (t + a)) (slot-pos T L loop (t + a) (omega arith)) (omega (arith, slot-le T L loop (t + a)))
+      (window-at T L a b t a (omega arith) (h .1 .0)))
+
+  pub pin-loop : y (loopSlack T M ns n t) ≤ D → (d : Bool) → (ltb t T ≡ true → y (loopSlack T M ns n (t + 1)) ≡ scale D d) →
+      (nd : Node) → loops nd ≡ true → NodeGood M n nd →
+      Every (Met D y) (loopRowsAt T M ns n nd t) ↔ (y (loopSlack T M ns n t) ≡ scale D (keptNow T t parts d nd))
+  pin-loop top d next (Node.atom a) k h = let z : _≡_ {A = ℕ} 0 1 = cc in absurd (omega arith)
+  pin-loop top d next (Node.unary u c) k h =
+      rw k
+      (pin-unary D y (loopSlack T M ns n t) (slack T M c t) (loopSlack T M ns n (t + 1)) top (parts c t) d (below c t h low high) u (ltb t T) (λ i. next))
+  pin-loop top d next (Node.binary o p q) k h =
+      rw k
+      (pin-binary D y (loopSlack T M ns n t) (slack T M p t) (slack T M q t) (loopSlack T M ns n (t + 1)) top (parts p t) (parts q t) d
+      (below p t (h .0) low high) (below q t (h .1) low high) o (ltb t T) (λ i. next))
+  pin-loop top d next (Node.windowed w a b c) k h = let z : _≡_ {A = ℕ} 0 1 = cc in absurd (omega arith)

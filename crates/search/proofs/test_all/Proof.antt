@@ -33,8 +33,9 @@ returns c =
     let k = c .before .before .before .before in
     let a = k .before .before in
     let f = shortfall (a .args .figures .now) in
-    c .step .ensures .is ∙ ap (λ (d : ℤ). stepped (a .args .e) d (k .test-nodes .result)) (kept (c .before .shortfall .ensures) ∙ ap f (c .before .before .goal .ensures))
-    ∙ all-tested (a .args .t) (a .args .m) (nodesIn (a .args .table .now)) (a .args .e) f (a .args .n) (c .before .before .before .slack .result)
+    c .step .ensures .is ∙ ap (λ (d : ℤ). stepped (a .args .e) d (k .test-nodes .result))
+    (kept (c .before .shortfall .ensures) ∙ ap f (c .before .before .goal .ensures))
+    ∙ all-tested (a .args .t) (a .args .m) (a .args .l) (nodesIn (a .args .table .now)) (a .args .e) f (a .args .n) (c .before .before .before .slack .result)
     (length-nodesIn (a .args .m) (a .args .table .now) ∙ sym (a .pre .1)) (k .test-nodes .ensures .0) (c .before .before .before .slack .ensures)
 
 pub test-all-spec : {M : Type 1} → statement M

@@ -1,72 +1,111 @@
--- `search::test_node` meets its contract. By what the kind looks at. Assumes nothing.
-use mathlib.Core.Path.{sym, ap, _∙_}
+-- `search::test_node` meets its contract. The loop's invariant: the rows of the blocks passed are tested. Assumes nothing.
+use mathlib.Core.Path.{_≡_, refl, sym, ap, subst, subst⁻¹, _∙_}
+use Prim.Native.Nat.{ℕ, _+_, _-_, _≤_, _<_}
+use native.Mathlib.Omega.{arith}
 use Rattle.rules.specs.Judge.{shortfall}
-use Rattle.slotcheck.specs.Plain.{some-within, all-throughout}
-use Rattle.slotcheck.specs.Searches.{tested}
-use Rattle.search.specs.Windows.{within-rows, throughout-rows}
+use Rattle.slotcheck.specs.declared.Search.the-variants.{Clear}
+use Rattle.slotcheck.specs.Searches.{reached, reached-clear, clear-is}
+use Rattle.search.specs.Blocks.{nth-ready, Testing, testing-start, testing-more, testing-over, part-tested}
 use borrow.Author.Needs.{needs}
 use Rattle.search.proofs.test_node.Statement.{statement}
 use Rattle.search.proofs.test_node.Tie as tie
 
-looks-at-requires : tie.Need-looks-at-requires
-looks-at-requires c κs = search needs
+abbrev Inv-loop : tie.InvT-loop
+Inv-loop count t l block v figures e rows₀ i₀ rows i = Testing t l block v e (shortfall figures) (Clear count) i (Clear rows)
 
-enum-told : tie.Need-enum-told
-enum-told c = search needs
+abbrev μ-loop : tie.MeasureT-loop
+μ-loop count t l block v figures e rows₀ i₀ rows i = 2 - i
 
-test-plain-requires : tie.Need-test-plain-requires
-test-plain-requires c κs = search needs
+first-block-requires : tie.Need-first-block-requires Inv-loop μ-loop
+first-block-requires c κs = search needs
 
-enum-told-2 : tie.Need-enum-told-2
-enum-told-2 c = search needs
+loop-holds : tie.Need-loop-holds Inv-loop μ-loop
+loop-holds c = testing-start _ _ _ _ _ _ _ _ (c .first-block .ensures)
 
-test-within-requires : tie.Need-test-within-requires
-test-within-requires c κs =
-    let x = c .before .before .before .args in
-    let k = some-within (x .kind) (sym (c .before .before .looks-at .ensures) ∙ c .enum-told2 .given .1) in
-    let o = c .before .before .before .pre in
-    (o .0, o .1, o .2, rw k at (o .4), o .5)
+nth-block-requires : tie.Need-nth-block-requires Inv-loop μ-loop
+nth-block-requires c κs =
+    let r = c .before .before .before .pre .0 in
+    (r .block .placed, r .place-low, omega (arith, c .loop-test))
 
-enum-told-3 : tie.Need-enum-told-3
-enum-told-3 c = search needs
+test-block-requires : tie.Need-test-block-requires Inv-loop μ-loop
+test-block-requires c κs =
+    let a = c .before .before .before .before in
+    let l = c .before .before .loop in
+    let n = c .nth-block .ensures in
+    let rows = reached-clear (Clear (l .rows)) (l .rows) refl in
+    let count = reached-clear (Clear (a .args .count)) (a .args .count) refl in (
+      nth-ready (a .pre .0) (omega (arith, c .before .loop-test)) (n .0) (n .1),
+      omega (arith, a .pre .1, l .inv .few, c .before .loop-test, rows, count),
+      a .pre .2,
+    )
 
-test-throughout-requires : tie.Need-test-throughout-requires
-test-throughout-requires c κs =
-    let x = c .before .before .before .args in
-    let k = all-throughout (x .kind) (sym (c .before .before .looks-at .ensures) ∙ c .enum-told3 .given .1) in
-    let o = c .before .before .before .pre in
-    (o .0, o .1, o .2, rw k at (o .4), o .5)
+is-over-requires : tie.Need-is-over-requires Inv-loop μ-loop
+is-over-requires c κs = search needs
 
-returns : tie.Need-returns
+returns : tie.Need-returns Inv-loop μ-loop
 returns c =
-    let o = c .test-plain .ensures in
-    (o .0 (c .before .before .before .before .args .a) (c .before .before .before .before .args .b), o .1)
+    let a = c .before .before .before .before .before .before .before in
+    let x = a .args in
+    let l = c .before .before .before .before .before .loop in
+    let f = shortfall (x .figures .now) in
+    let s = Clear (x .count) in
+    let o = c .before .before .test-block .ensures in
+    let low : l .i < 2 = omega (arith, c .before .before .before .before .loop-test) in
+    let few : reached (c .before .before .test-block .result) ≤ reached (Clear (l .rows)) + 4160 = omega
+    (arith, o .few, reached-clear (Clear (l .rows)) (l .rows) refl) in
+    let more = testing-more (x .t) (x .l) (x .block) (x .v) (x .e) f s (l .i) low (l .inv) (c .before .before .before .nth-block .ensures .0) (o .is) few in
+    let all = testing-over (x .t) (x .l) (x .block) (x .v) (x .e) f s (l .i + 1) more (sym (c .before .is-over .ensures) ∙ c .if1 .taken) in
+    (λ m n ns own. part-tested (x .t) m (x .l) ns n (x .v) (x .block) own (x .e) f s all, omega (arith, all .few, reached-clear s (x .count) refl))
 
-returns-2 : tie.Need-returns-2
+row-count-requires : tie.Need-row-count-requires Inv-loop μ-loop
+row-count-requires c κs = search needs
+
+add-i : tie.Need-add-i Inv-loop μ-loop
+add-i c = omega (arith, c .before .before .before .before .before .loop-test)
+
+loop-less : tie.Need-loop-less Inv-loop μ-loop
+loop-less c = omega (arith, c .before .before .before .before .before .loop-test)
+
+loop-again : tie.Need-loop-again Inv-loop μ-loop
+loop-again c =
+    let a = c .before .before .before .before .before .before .before .before in
+    let x = a .args in
+    let l = c .before .before .before .before .before .before .loop in
+    let f = shortfall (x .figures .now) in
+    let s = Clear (x .count) in
+    let o = c .before .before .before .test-block .ensures in
+    let low : l .i < 2 = omega (arith, c .before .before .before .before .before .loop-test) in
+    let few : reached (c .before .before .before .test-block .result) ≤ reached (Clear (l .rows)) + 4160 = omega
+    (arith, o .few, reached-clear (Clear (l .rows)) (l .rows) refl) in
+    let more = testing-more (x .t) (x .l) (x .block) (x .v) (x .e) f s (l .i) low (l .inv) (c .before .before .before .before .nth-block .ensures .0) (o .is)
+    few in
+    let clear = clear-is (c .before .before .before .test-block .result) (sym (c .before .before .is-over .ensures) ∙ c .before .if1 .left) in
+    subst⁻¹ (Testing (x .t) (x .l) (x .block) (x .v) (x .e) f s (l .i + 1)) (ap Clear (c .row-count .ensures) ∙ clear) more
+
+returns-2 : tie.Need-returns-2 Inv-loop μ-loop
 returns-2 c =
-    let x = c .before .before .before .before .args in
-    let k = some-within (x .kind) (sym (c .before .before .before .looks-at .ensures) ∙ c .before .enum-told2 .given .1) in
-    let o = c .test-within .ensures in
-    (rw k (o .0 ∙ ap (tested (x .e) (shortfall (x .figures .now)) (x .state)) (within-rows (x .t) (x .big) (x .p) (x .q) (x .a) (x .b))), o .1)
-
-returns-3 : tie.Need-returns-3
-returns-3 c =
-    let x = c .before .before .before .before .args in
-    let k = all-throughout (x .kind) (sym (c .before .before .before .looks-at .ensures) ∙ c .before .enum-told3 .given .1) in
-    let o = c .test-throughout .ensures in
-    (rw k (o .0 ∙ ap (tested (x .e) (shortfall (x .figures .now)) (x .state)) (throughout-rows (x .t) (x .big) (x .p) (x .q) (x .a) (x .b))), o .1)
+    let x = c .before .before .before .args in
+    let l = c .before .loop in
+    let f = shortfall (x .figures .now) in
+    let s = Clear (x .count) in
+    let end : l .i ≡ 2 = omega (arith, c .loop-test, l .inv .to) in
+    let all = subst (λ (i : ℕ). Testing (x .t) (x .l) (x .block) (x .v) (x .e) f s i (Clear (l .rows))) end (l .inv) in
+    (λ m n ns own. part-tested (x .t) m (x .l) ns n (x .v) (x .block) own (x .e) f s all, omega (arith, all .few, reached-clear s (x .count) refl))
 
 pub test-node-spec : {M : Type 1} → statement M
 test-node-spec =
     tie.close
     (tie.spec
-    looks-at-requires
-    enum-told
-    test-plain-requires
-    enum-told-2
-    test-within-requires
-    enum-told-3
-    test-throughout-requires
+    Inv-loop
+    μ-loop
+    first-block-requires
+    loop-holds
+    nth-block-requires
+    test-block-requires
+    is-over-requires
     returns
-    returns-2
-    returns-3)
+    row-count-requires
+    add-i
+    loop-less
+    loop-again
+    returns-2)

@@ -19,13 +19,13 @@ plain-verdict-requires : tie.Need-plain-verdict-requires
 plain-verdict-requires c κs =
     let s = c .before .before in
     let a = s .args in
-    subst VerdictFits (sym (c .judge .ensures)) (judge-fits (a .t) (a .m) (a .table .now) (a .figures .now) _)
+    subst VerdictFits (sym (c .judge .ensures)) (judge-fits (a .t) (a .m) (a .l) (a .table .now) (a .figures .now) _)
 
 returns : tie.Need-returns
 returns c =
     let s = c .before .before .before in
     let a = s .args in
-    let told = c .before .judge .ensures ∙ ap (judgeOutcome (a .t) (a .m) (a .table .now) (a .figures .now)) (toZ-ofZ (s .fits .e)) in
+    let told = c .before .judge .ensures ∙ ap (judgeOutcome (a .t) (a .m) (a .l) (a .table .now) (a .figures .now)) (toZ-ofZ (s .fits .e)) in
     c .plain-verdict .ensures ∙ ap verdictInC told
 
 pub sepia-judge-spec : {M : Type 1} → statement M

@@ -13,7 +13,7 @@ write-rows-requires c κs = search needs
 plain-requires : tie.Need-plain-requires
 plain-requires c κs =
     let a = c .before .before .before .before .before .before .args in
-    rw (c .before .before .write-rows .ensures .0) (write-rows-fits (a .t) (a .m) (a .table .now) (length (a .out .now)))
+    rw (c .before .before .write-rows .ensures .0) (write-rows-fits (a .t) (a .m) (a .l) (a .table .now) (length (a .out .now)))
 
 same-length : tie.Need-same-length
 same-length c = search needs

@@ -20,7 +20,13 @@ wide-requires : tie.Need-wide-requires
 wide-requires c κs = search needs
 
 add-t8 : tie.Need-add-t8
-add-t8 c = omega (arith, reached-clear _ _ (c .before .before .state2 .given .1), c .wide .ensures, c .before .before .before .before .fits .rows, c .before .before .before .before .pre)
+add-t8 c = omega (
+  arith,
+  reached-clear _ _ (c .before .before .state2 .given .1),
+  c .wide .ensures,
+  c .before .before .before .before .fits .rows,
+  c .before .before .before .before .pre,
+)
 
 returns : tie.Need-returns
 returns c = passed-broken _ (c .before .state .given .1) (toZ-ofZ {w = w64} {z = c .before .state .given .0 .0} (search needs))

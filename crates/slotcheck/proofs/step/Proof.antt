@@ -50,7 +50,8 @@ returns : tie.Need-returns
 returns c = already-broken _ _ _ _ (c .before .state .given .1) (toZ-ofZ {w = w64} {z = c .before .state .given .0 .0} (search needs))
 
 returns-2 : tie.Need-returns-2
-returns-2 c = now-broken _ _ _ _ (c .before .before .state2 .given .1) (sym (test-is (c .before)) ∙ c .if1 .taken) (toZ-ofZ (c .before .before .before .before .fits .shortfall))
+returns-2 c = now-broken _ _ _ _ (c .before .before .state2 .given .1) (sym (test-is (c .before)) ∙ c .if1 .taken)
+    (toZ-ofZ (c .before .before .before .before .fits .shortfall))
 
 returns-3 : tie.Need-returns-3
 returns-3 c = still-clear _ _ _ _ (c .before .before .state2 .given .1) (sym (test-is (c .before)) ∙ c .if1 .left)

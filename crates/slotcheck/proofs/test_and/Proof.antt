@@ -44,7 +44,8 @@ returns c =
     let x = toZ-ofZ {w = w32} {z = fx .result} (search needs) ∙ fx .ensures in
     let y = toZ-ofZ {w = w32} {z = fy .result} (search needs) ∙ fy .ensures in
     let z = toZ-ofZ {w = w32} {z = fz .result} (search needs) ∙ fz .ensures in
-    three-tested (c .before .before .before .before .before .before .before .before .before .args .e) (shortfall (c .before .before .before .before .before .before .before .before .before .args .figures .now))
+    three-tested (c .before .before .before .before .before .before .before .before .before .args .e)
+    (shortfall (c .before .before .before .before .before .before .before .before .before .args .figures .now))
     (kept (c .before .before .before .before .before .pair-short .ensures) ∙ rw (y, x) refl)
     (kept (c .before .before .before .pair-short2 .ensures) ∙ rw (z, x) refl)
     (kept (c .before .triple-short .ensures) ∙ rw (x, y, z) refl)

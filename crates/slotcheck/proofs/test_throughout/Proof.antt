@@ -24,7 +24,8 @@ search-throughout-requires c κs = search needs
 returns : tie.Need-returns
 returns c =
     let a = c .before .before .before .before .args in
-    held-tested (a .e) (shortfall (a .figures .now)) (a .looks .count + 1) (a .state) (c .before .before .before .throughout-holds .ensures (c .before .before .if1 .taken))
+    held-tested (a .e) (shortfall (a .figures .now)) (a .looks .count + 1) (a .state)
+    (c .before .before .before .throughout-holds .ensures (c .before .before .if1 .taken))
     (window-count throughout (a .big) (a .looks) (a .p)) (omega (arith, c .before .before .before .before .pre .0 .few)) (c .go-on .ensures)
 
 returns-2 : tie.Need-returns-2

@@ -55,7 +55,8 @@ returns c =
     let y = toZ-ofZ {w = w32} {z = fy .result} (search needs) ∙ fy .ensures in
     let z = toZ-ofZ {w = w32} {z = fz .result} (search needs) ∙ fz .ensures in
     let w = toZ-ofZ {w = w32} {z = fw .result} (search needs) ∙ fw .ensures in
-    four-tested (c .before .before .before .before .before .before .before .before .before .before .before .before .args .e) (shortfall (c .before .before .before .before .before .before .before .before .before .before .before .before .args .figures .now))
+    four-tested (c .before .before .before .before .before .before .before .before .before .before .before .before .args .e)
+    (shortfall (c .before .before .before .before .before .before .before .before .before .before .before .before .args .figures .now))
     (kept (c .before .before .before .before .before .before .before .pair-short .ensures) ∙ rw (x, z) refl)
     (kept (c .before .before .before .before .before .triple-short .ensures) ∙ rw (y, z, x) refl)
     (kept (c .before .before .before .triple-short2 .ensures) ∙ rw (z, w, x) refl)

@@ -4,7 +4,6 @@ use mathlib.Core.Bool.{false}
 use mathlib.Core.List.{[], _∷_, map}
 use Prim.Native.Nat.{ℕ, _-_, _≤_}
 use native.Mathlib.Omega.{arith}
-use borrow.Author.Needs.{needs}
 use lib.IntN.{ℤ, pos, negsuc, negℤ, natAbs}
 use lib.ListN.{length}
 use mir.Syntax.{w8, w32}
@@ -18,18 +17,13 @@ use Rattle.sums.specs.Laws.{shortOf}
 use Rattle.window.specs.Slots.{variables, length-variables}
 use Rattle.slotcheck.specs.Windows.{belowRow, below-rows}
 use Rattle.slotcheck.specs.Holding.{never, fails, held-last}
-use Rattle.slotcheck.specs.Spreads.{window-small, passed-sum, window-below, over-least}
+use Rattle.slotcheck.specs.Spreads.{wide-fits, window-small, passed-sum, over-least}
+use borrow.Author.Needs.{needs}
 use Rattle.slotcheck.proofs.throughout_holds.Statement.{statement}
 use Rattle.slotcheck.proofs.throughout_holds.Tie as tie
 
-start-requires : tie.Need-start-requires
-start-requires c κs = search needs
-
-wide-requires : tie.Need-wide-requires
-wide-requires c κs = search needs
-
-add-if1 : tie.Need-add-if1
-add-if1 c = search needs
+past-requires : tie.Need-past-requires
+past-requires c κs = search needs
 
 returns : tie.Need-returns
 returns c t = never t
@@ -37,8 +31,8 @@ returns c t = never t
 figure-of-requires : tie.Need-figure-of-requires
 figure-of-requires c κs = search needs
 
-spread-of-requires : tie.Need-spread-of-requires
-spread-of-requires c κs = search needs
+window-spread-requires : tie.Need-window-spread-requires
+window-spread-requires c κs = search needs
 
 pair-short-requires : tie.Need-pair-short-requires
 pair-short-requires c κs = search needs
@@ -49,30 +43,37 @@ is-short-requires c κs = search needs
 returns-2 : tie.Need-returns-2
 returns-2 c t = never t
 
+cast-throughout-sum : tie.Need-cast-throughout-sum
+cast-throughout-sum c =
+    let a = c .before .before .before .before .before .before .before .before .before .before .args in
+    let seen = c .before .before .before .before .before .before .window-spread in
+    let few = c .before .before .before .before .before .before .before .before .before .before .pre .0 .few in
+    wide-fits (a .figures .now) (a .looks) (a .p) (seen .ensures) few
+
 throughout-sum-requires : tie.Need-throughout-sum-requires
 throughout-sum-requires c κs =
     let a = c .before .before .before .before .before .before .before .before .before .before .args in
-    let seen = c .before .before .before .before .before .spread-of in
-    let from = c .before .before .before .before .before .before .before .before .before .start .ensures .0 in
-    let k = c .before .before .before .before .before .before .before .before .wide .ensures in
-    let few = c .before .before .before .before .before .before .before .before .before .before .pre .few in
-    window-small (a .figures .now) (a .looks) (a .p) from k (seen .ensures) few
+    let seen = c .before .before .before .before .before .before .window-spread in
+    let few = c .before .before .before .before .before .before .before .before .before .before .pre .0 .few in
+    window-small (a .figures .now) (a .looks) (a .p) (seen .ensures) few
 
 less-one-requires : tie.Need-less-one-requires
-less-one-requires c κs = (c .before .before .before .before .before .before .before .before .before .before .before .pre .some, c .before .before .before .before .before .before .before .before .before .before .before .pre .few)
+less-one-requires c κs = (
+  c .before .before .before .before .before .before .before .before .before .before .before .pre .0 .some,
+  c .before .before .before .before .before .before .before .before .before .before .before .pre .0 .few,
+)
 
 short-requires : tie.Need-short-requires
 short-requires c κs =
     let a = c .before .before .before .before .before .before .before .before .before .before .before .before .before .args in
-    let seen = c .before .before .before .before .before .before .before .before .spread-of in
-    let from = c .before .before .before .before .before .before .before .before .before .before .before .before .start .ensures .0 in
-    let k = c .before .before .before .before .before .before .before .before .before .before .before .wide .ensures in
-    let few = c .before .before .before .before .before .before .before .before .before .before .before .before .before .pre .few in
-    let fx = c .before .before .before .before .before .before .before .before .before .figure-of in
+    let seen = c .before .before .before .before .before .before .before .before .before .window-spread in
+    let few = c .before .before .before .before .before .before .before .before .before .before .before .before .before .pre .0 .few in
+    let fx = c .before .before .before .before .before .before .before .before .before .before .figure-of in
     let x = toZ-ofZ {w = w32} {z = fx .result} (search needs) ∙ fx .ensures in
-    let s = passed-sum (a .figures .now) (a .looks) (a .p) from k (seen .ensures) few in
+    let s = passed-sum (a .figures .now) (a .looks) (a .p) (seen .ensures) few in
     let r = c .before .before .throughout-sum .ensures (a .figures .now) (variables (a .looks) (a .p)) (a .big) s x in
-    subst⁻¹ (λ (z : ℤ). natAbs z ≤ 824633720832) (back (c .before .before .throughout-sum .result .whole) (omega (arith, r .whole-small))) (r .whole-small)
+    let z = back (c .before .before .throughout-sum .result .whole) (omega (arith, r .whole-small)) in
+    subst⁻¹ (λ (z : ℤ). natAbs z ≤ 824633720832) z (r .whole-small)
 
 is-short-requires-2 : tie.Need-is-short-requires-2
 is-short-requires-2 c κs = search needs
@@ -80,35 +81,40 @@ is-short-requires-2 c κs = search needs
 returns-3 : tie.Need-returns-3
 returns-3 c t =
     let a = c .before .before .before .before .before .before .before .before .before .before .before .before .before .before .before .args in
-    let seen = c .before .before .before .before .before .before .before .before .before .before .spread-of in
-    let from = c .before .before .before .before .before .before .before .before .before .before .before .before .before .before .start .ensures .0 in
-    let k = c .before .before .before .before .before .before .before .before .before .before .before .before .before .wide .ensures in
-    let few = c .before .before .before .before .before .before .before .before .before .before .before .before .before .before .before .pre .few in
-    let fx = c .before .before .before .before .before .before .before .before .before .before .before .figure-of in
+    let seen = c .before .before .before .before .before .before .before .before .before .before .before .window-spread in
+    let few = c .before .before .before .before .before .before .before .before .before .before .before .before .before .before .before .pre .0 .few in
+    let fx = c .before .before .before .before .before .before .before .before .before .before .before .before .figure-of in
     let x = toZ-ofZ {w = w32} {z = fx .result} (search needs) ∙ fx .ensures in
-    let s = passed-sum (a .figures .now) (a .looks) (a .p) from k (seen .ensures) few in
+    let s = passed-sum (a .figures .now) (a .looks) (a .p) (seen .ensures) few in
     let r = c .before .before .before .before .throughout-sum .ensures (a .figures .now) (variables (a .looks) (a .p)) (a .big) s x in
     let n = ap (λ (m : ℕ). negℤ (pos (m - 1))) (sym (length-variables (a .looks) (a .p))) in
-    let right = toZ-ofZ {w = w8} {z = c .before .before .before .less-one .result} (search needs) ∙ c .before .before .before .less-one .ensures ∙ n in
+    let less = c .before .before .before .less-one in
+    let right = toZ-ofZ {w = w8} {z = less .result} (search needs) ∙ less .ensures ∙ n in
     let m = toZ-ofZ {w = w32} {z = seen .result .least} (search needs) in
-    let extreme : isShort (a .e) (shortOf (pos 0) (pairOf (pos 1) (seen .result .least) (negsuc 0) (valueAt (a .figures .now) (a .big)))) ≡ false = sym (c .before .before .before .before .before .before .before .is-short .ensures ∙ ap (isShort (a .e)) (kept (c .before .before .before .before .before .before .before .before .pair-short .ensures) ∙ ap₂ (λ (u v : ℤ). shortOf (pos 0) (pairOf (pos 1) u (negsuc 0) v)) m x)) ∙ c .before .before .before .before .before .before .if2 .left in
-    let all = sym (c .is-short2 .ensures ∙ ap (isShort (a .e)) (kept (c .before .short .ensures) ∙ ap₂ shortOf right (sums-whole r))) ∙ fails (c .is-short2 .result) t in
-    held-last (a .e) (shortfall (a .figures .now)) (belowRow (a .big) (a .looks) (a .p)) (a .looks .count) (ge (plus (a .big) ∷ map minus (variables (a .looks) (a .p))) (negℤ (pos (length (variables (a .looks) (a .p)) - 1)))) (below-rows (a .big) (a .looks) (a .p))
-    (λ i g. over-least (a .e) (valueAt (a .figures .now) (a .big)) (window-below (a .figures .now) (a .looks) (a .p) from k (seen .ensures) i g) extreme) all
+    let pair = ap₂ (λ (u v : ℤ). shortOf (pos 0) (pairOf (pos 1) u (negsuc 0) v)) m x in
+    let told = ap (isShort (a .e)) (kept (c .before .before .before .before .before .before .before .before .before .pair-short .ensures) ∙ pair) in
+    let extreme : isShort (a .e) (shortOf (pos 0) (pairOf (pos 1) (seen .result .least) (negsuc 0) (valueAt (a .figures .now) (a .big)))) ≡ false = sym
+    (c .before .before .before .before .before .before .before .before .is-short .ensures ∙ told)
+    ∙ c .before .before .before .before .before .before .before .if2 .left in
+    let sum = kept (c .before .short .ensures) ∙ ap₂ shortOf right (sums-whole r) in
+    let all = sym (c .is-short2 .ensures ∙ ap (isShort (a .e)) sum) ∙ fails (c .is-short2 .result) t in
+    held-last (a .e) (shortfall (a .figures .now)) (belowRow (a .big) (a .looks) (a .p)) (a .looks .count)
+    (ge (plus (a .big) ∷ map minus (variables (a .looks) (a .p))) (negℤ (pos (length (variables (a .looks) (a .p)) - 1))))
+    (below-rows (a .big) (a .looks) (a .p))
+    (λ i g. over-least (a .e) (valueAt (a .figures .now) (a .big)) (seen .ensures .below i g) extreme) all
 
 pub throughout-holds-spec : {M : Type 1} → statement M
 throughout-holds-spec =
     tie.close
     (tie.spec
-    start-requires
-    wide-requires
-    add-if1
+    past-requires
     returns
     figure-of-requires
-    spread-of-requires
+    window-spread-requires
     pair-short-requires
     is-short-requires
     returns-2
+    cast-throughout-sum
     throughout-sum-requires
     less-one-requires
     short-requires

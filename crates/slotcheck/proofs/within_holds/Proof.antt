@@ -4,7 +4,6 @@ use mathlib.Core.Bool.{false}
 use mathlib.Core.List.{[], _∷_, _++_, map}
 use Prim.Native.Nat.{ℕ, _≤_}
 use native.Mathlib.Omega.{arith}
-use borrow.Author.Needs.{needs}
 use lib.IntN.{ℤ, pos, negsuc, natAbs}
 use mir.Syntax.{w32}
 use mir.Facts.{toZ-ofZ}
@@ -17,18 +16,13 @@ use Rattle.sums.specs.Laws.{shortOf}
 use Rattle.window.specs.Slots.{variables}
 use Rattle.slotcheck.specs.Windows.{aboveRow, above-rows}
 use Rattle.slotcheck.specs.Holding.{never, fails, held-last}
-use Rattle.slotcheck.specs.Spreads.{window-small, passed-sum, window-above, under-most}
+use Rattle.slotcheck.specs.Spreads.{wide-fits, window-small, passed-sum, under-most}
+use borrow.Author.Needs.{needs}
 use Rattle.slotcheck.proofs.within_holds.Statement.{statement}
 use Rattle.slotcheck.proofs.within_holds.Tie as tie
 
-start-requires : tie.Need-start-requires
-start-requires c κs = search needs
-
-wide-requires : tie.Need-wide-requires
-wide-requires c κs = search needs
-
-add-if1 : tie.Need-add-if1
-add-if1 c = search needs
+past-requires : tie.Need-past-requires
+past-requires c κs = search needs
 
 returns : tie.Need-returns
 returns c t = never t
@@ -36,8 +30,8 @@ returns c t = never t
 figure-of-requires : tie.Need-figure-of-requires
 figure-of-requires c κs = search needs
 
-spread-of-requires : tie.Need-spread-of-requires
-spread-of-requires c κs = search needs
+window-spread-requires : tie.Need-window-spread-requires
+window-spread-requires c κs = search needs
 
 pair-short-requires : tie.Need-pair-short-requires
 pair-short-requires c κs = search needs
@@ -48,27 +42,31 @@ is-short-requires c κs = search needs
 returns-2 : tie.Need-returns-2
 returns-2 c t = never t
 
+cast-within-sum : tie.Need-cast-within-sum
+cast-within-sum c =
+    let a = c .before .before .before .before .before .before .before .before .before .before .args in
+    let seen = c .before .before .before .before .before .before .window-spread in
+    let few = c .before .before .before .before .before .before .before .before .before .before .pre .0 .few in
+    wide-fits (a .figures .now) (a .looks) (a .p) (seen .ensures) few
+
 within-sum-requires : tie.Need-within-sum-requires
 within-sum-requires c κs =
     let a = c .before .before .before .before .before .before .before .before .before .before .args in
-    let seen = c .before .before .before .before .before .spread-of in
-    let from = c .before .before .before .before .before .before .before .before .before .start .ensures .0 in
-    let k = c .before .before .before .before .before .before .before .before .wide .ensures in
-    let few = c .before .before .before .before .before .before .before .before .before .before .pre .few in
-    window-small (a .figures .now) (a .looks) (a .p) from k (seen .ensures) few
+    let seen = c .before .before .before .before .before .before .window-spread in
+    let few = c .before .before .before .before .before .before .before .before .before .before .pre .0 .few in
+    window-small (a .figures .now) (a .looks) (a .p) (seen .ensures) few
 
 short-requires : tie.Need-short-requires
 short-requires c κs =
     let a = c .before .before .before .before .before .before .before .before .before .before .before .before .args in
-    let seen = c .before .before .before .before .before .before .before .spread-of in
-    let from = c .before .before .before .before .before .before .before .before .before .before .before .start .ensures .0 in
-    let k = c .before .before .before .before .before .before .before .before .before .before .wide .ensures in
-    let few = c .before .before .before .before .before .before .before .before .before .before .before .before .pre .few in
-    let fx = c .before .before .before .before .before .before .before .before .figure-of in
+    let seen = c .before .before .before .before .before .before .before .before .window-spread in
+    let few = c .before .before .before .before .before .before .before .before .before .before .before .before .pre .0 .few in
+    let fx = c .before .before .before .before .before .before .before .before .before .figure-of in
     let x = toZ-ofZ {w = w32} {z = fx .result} (search needs) ∙ fx .ensures in
-    let s = passed-sum (a .figures .now) (a .looks) (a .p) from k (seen .ensures) few in
+    let s = passed-sum (a .figures .now) (a .looks) (a .p) (seen .ensures) few in
     let r = c .before .within-sum .ensures (a .figures .now) (variables (a .looks) (a .p)) (a .big) s x in
-    subst⁻¹ (λ (z : ℤ). natAbs z ≤ 824633720832) (back (c .before .within-sum .result .whole) (omega (arith, r .whole-small))) (r .whole-small)
+    let z = back (c .before .within-sum .result .whole) (omega (arith, r .whole-small)) in
+    subst⁻¹ (λ (z : ℤ). natAbs z ≤ 824633720832) z (r .whole-small)
 
 is-short-requires-2 : tie.Need-is-short-requires-2
 is-short-requires-2 c κs = search needs
@@ -76,33 +74,35 @@ is-short-requires-2 c κs = search needs
 returns-3 : tie.Need-returns-3
 returns-3 c t =
     let a = c .before .before .before .before .before .before .before .before .before .before .before .before .before .before .args in
-    let seen = c .before .before .before .before .before .before .before .before .before .spread-of in
-    let from = c .before .before .before .before .before .before .before .before .before .before .before .before .before .start .ensures .0 in
-    let k = c .before .before .before .before .before .before .before .before .before .before .before .before .wide .ensures in
-    let few = c .before .before .before .before .before .before .before .before .before .before .before .before .before .before .pre .few in
-    let fx = c .before .before .before .before .before .before .before .before .before .before .figure-of in
+    let seen = c .before .before .before .before .before .before .before .before .before .before .window-spread in
+    let few = c .before .before .before .before .before .before .before .before .before .before .before .before .before .before .pre .0 .few in
+    let fx = c .before .before .before .before .before .before .before .before .before .before .before .figure-of in
     let x = toZ-ofZ {w = w32} {z = fx .result} (search needs) ∙ fx .ensures in
-    let s = passed-sum (a .figures .now) (a .looks) (a .p) from k (seen .ensures) few in
+    let s = passed-sum (a .figures .now) (a .looks) (a .p) (seen .ensures) few in
     let r = c .before .before .before .within-sum .ensures (a .figures .now) (variables (a .looks) (a .p)) (a .big) s x in
     let m = toZ-ofZ {w = w32} {z = seen .result .most} (search needs) in
-    let extreme : isShort (a .e) (shortOf (pos 0) (pairOf (pos 1) (valueAt (a .figures .now) (a .big)) (negsuc 0) (seen .result .most))) ≡ false = sym (c .before .before .before .before .before .before .is-short .ensures ∙ ap (isShort (a .e)) (kept (c .before .before .before .before .before .before .before .pair-short .ensures) ∙ ap₂ (λ (u v : ℤ). shortOf (pos 0) (pairOf (pos 1) u (negsuc 0) v)) x m)) ∙ c .before .before .before .before .before .if2 .left in
-    let all = sym (c .is-short2 .ensures ∙ ap (isShort (a .e)) (kept (c .before .short .ensures) ∙ ap (shortOf (pos 0)) (sums-whole r))) ∙ fails (c .is-short2 .result) t in
-    held-last (a .e) (shortfall (a .figures .now)) (aboveRow (a .big) (a .looks) (a .p)) (a .looks .count) (ge (map plus (variables (a .looks) (a .p)) ++ (minus (a .big) ∷ [])) (pos 0)) (above-rows (a .big) (a .looks) (a .p))
-    (λ i g. under-most (a .e) (valueAt (a .figures .now) (a .big)) (window-above (a .figures .now) (a .looks) (a .p) from k (seen .ensures) i g) extreme) all
+    let pair = ap₂ (λ (u v : ℤ). shortOf (pos 0) (pairOf (pos 1) u (negsuc 0) v)) x m in
+    let told = ap (isShort (a .e)) (kept (c .before .before .before .before .before .before .before .before .pair-short .ensures) ∙ pair) in
+    let extreme : isShort (a .e) (shortOf (pos 0) (pairOf (pos 1) (valueAt (a .figures .now) (a .big)) (negsuc 0) (seen .result .most))) ≡ false = sym
+    (c .before .before .before .before .before .before .before .is-short .ensures ∙ told) ∙ c .before .before .before .before .before .before .if2 .left in
+    let sum = kept (c .before .short .ensures) ∙ ap (shortOf (pos 0)) (sums-whole r) in
+    let all = sym (c .is-short2 .ensures ∙ ap (isShort (a .e)) sum) ∙ fails (c .is-short2 .result) t in
+    held-last (a .e) (shortfall (a .figures .now)) (aboveRow (a .big) (a .looks) (a .p)) (a .looks .count)
+    (ge (map plus (variables (a .looks) (a .p)) ++ (minus (a .big) ∷ [])) (pos 0)) (above-rows (a .big) (a .looks) (a .p))
+    (λ i g. under-most (a .e) (valueAt (a .figures .now) (a .big)) (seen .ensures .above i g) extreme) all
 
 pub within-holds-spec : {M : Type 1} → statement M
 within-holds-spec =
     tie.close
     (tie.spec
-    start-requires
-    wide-requires
-    add-if1
+    past-requires
     returns
     figure-of-requires
-    spread-of-requires
+    window-spread-requires
     pair-short-requires
     is-short-requires
     returns-2
+    cast-within-sum
     within-sum-requires
     short-requires
     is-short-requires-2

@@ -1,15 +1,29 @@
--- `slotlines::put_slot` meets its contract. By the kind, and whether a slot follows. Assumes nothing.
-use mathlib.Core.Path.{refl, subst}
+-- `slotlines::put_slot` meets its contract. By the kind, and whether something follows. Assumes nothing.
+use mathlib.Core.Path.{_≡_, refl, ap, subst, subst⁻¹, _∙_}
+use mathlib.Core.Bool.{Bool, true, false}
+use Prim.Native.Nat.{ℕ}
 use native.Mathlib.Omega.{arith}
-use Rattle.rowlines.specs.Texts.{lineOf}
-use Rattle.lines.specs.Sent.{sent-as}
-use Rattle.rowlines.specs.Laws.{of-kind}
-use Rattle.slotlines.specs.Each.{Seen}
+use Rattle.mps.specs.Page.{eachRow}
 use Rattle.table.specs.declared.Kind.{Kind}
-use Rattle.windowlines.specs.Over.{run}
+use Rattle.window.specs.Slots.{windowBy, Few, variables}
+use Rattle.row.specs.Kinds.{overRows}
+use Rattle.lines.specs.Sent.{sent-as}
+use Rattle.rowlines.specs.declared.Text.{Text}
+use Rattle.rowlines.specs.Texts.{lineOf}
+use Rattle.rowlines.specs.Laws.{of-kind}
+use Rattle.windowlines.specs.declared.Over.{Over}
+use Rattle.windowlines.specs.Places.{PartBelow}
+use Rattle.slotlines.specs.declared.Spot.{Spot}
+use Rattle.slotlines.specs.Spots.{overOf, SeenBy}
 use borrow.Author.Needs.{needs}
 use Rattle.slotlines.proofs.put_slot.Statement.{statement}
 use Rattle.slotlines.proofs.put_slot.Tie as tie
+
+-- the rows over what was handed on
+over-lines : (text : Text) (i : ℕ) (s : Spot) (within : Bool) {o : Over} → o ≡ overOf s within →
+    eachRow (lineOf text) i (overRows (windowBy (o .within)) (o .own) (variables (o .looks) (o .left))) ≡
+    eachRow (lineOf text) i (overRows (windowBy within) (s .own) (variables (s .looks) (s .first)))
+over-lines text i s within e = ap (λ (o : Over). eachRow (lineOf text) i (overRows (windowBy (o .within)) (o .own) (variables (o .looks) (o .left)))) e
 
 enum-told : tie.Need-enum-told
 enum-told c = search needs
@@ -44,9 +58,6 @@ put-implies-requires c κs = search needs
 enum-told-6 : tie.Need-enum-told-6
 enum-told-6 c = search needs
 
-add-put-or : tie.Need-add-put-or
-add-put-or c = search needs
-
 put-or-requires-2 : tie.Need-put-or-requires-2
 put-or-requires-2 c κs = search needs
 
@@ -55,9 +66,6 @@ put-same-requires-2 c κs = search needs
 
 enum-told-7 : tie.Need-enum-told-7
 enum-told-7 c = search needs
-
-add-put-and : tie.Need-add-put-and
-add-put-and c = search needs
 
 put-and-requires-2 : tie.Need-put-and-requires-2
 put-and-requires-2 c κs = search needs
@@ -77,171 +85,243 @@ put-same-requires-4 c κs = search needs
 enum-told-9 : tie.Need-enum-told-9
 enum-told-9 c = search needs
 
+over-requires : tie.Need-over-requires
+over-requires c κs = search needs
+
 put-window-requires : tie.Need-put-window-requires
 put-window-requires c κs =
-    let k = c .before in
-    let s = k .before .before .before in
-    let w = subst (λ (x : Kind). Seen x (s .args .big) (s .args .first) (s .args .count)) (k .enum-told9 .given .1) (s .pre .4) in
-    (s .pre .0, s .pre .1, s .pre .2, w .0, w .1, w .2, s .pre .3)
+    let start = c .before .before .before .before .before in
+    let s = start .args .spot in
+    let seen = subst (λ (k : Kind). SeenBy k s) (c .before .before .enum-told9 .given .1) (start .pre .3) in (
+      start .pre .0,
+      start .pre .1,
+      start .pre .2,
+      subst⁻¹ (λ (o : Over). Few (o .looks)) (c .over .ensures) (seen .0),
+      subst⁻¹ PartBelow (c .over .ensures) (seen .1),
+    )
 
 enum-told-10 : tie.Need-enum-told-10
 enum-told-10 c = search needs
 
+over-requires-2 : tie.Need-over-requires-2
+over-requires-2 c κs = search needs
+
 put-window-requires-2 : tie.Need-put-window-requires-2
 put-window-requires-2 c κs =
-    let k = c .before in
-    let s = k .before .before .before in
-    let w = subst (λ (x : Kind). Seen x (s .args .big) (s .args .first) (s .args .count)) (k .enum-told10 .given .1) (s .pre .4) in
-    (s .pre .0, s .pre .1, s .pre .2, w .0, w .1, w .2, s .pre .3)
+    let start = c .before .before .before .before .before in
+    let s = start .args .spot in
+    let seen = subst (λ (k : Kind). SeenBy k s) (c .before .before .enum-told10 .given .1) (start .pre .3) in (
+      start .pre .0,
+      start .pre .1,
+      start .pre .2,
+      subst⁻¹ (λ (o : Over). Few (o .looks)) (c .over2 .ensures) (seen .0),
+      subst⁻¹ PartBelow (c .over2 .ensures) (seen .1),
+    )
 
 same-length : tie.Need-same-length
 same-length c = search needs
 
 returns : tie.Need-returns
 returns c =
-    let w = c .before .before in
-    let k = w .before .before in
-    let a = k .before .before .before .args in
-    let p = w .put-same .ensures in
-    (sent-as (of-kind (lineOf (a .text)) (a .i) (a .big) (a .p) (a .q) (run (a .first) (a .count)) (k .enum-told .given .1) refl) (p .0), omega (arith, p .1))
+    let t = c .before .before .before .before in
+    let start = t .before .before .before in
+    let a = start .args in
+    let s = a .spot in
+    let p = c .before .before .put-same .ensures in (
+      sent-as (of-kind (lineOf (a .text)) (a .i) (s .own) (s .left) (s .right) (s .next) (variables (s .looks) (s .first)) (t .enum-told .given .1)
+          refl) (p .0),
+      omega (arith, p .1),
+    )
 
 same-length-2 : tie.Need-same-length-2
 same-length-2 c = search needs
 
 returns-2 : tie.Need-returns-2
 returns-2 c =
-    let w = c .before .before in
-    let k = w .before .before in
-    let a = k .before .before .before .args in
-    let p = w .put-not .ensures in
-    (sent-as (of-kind (lineOf (a .text)) (a .i) (a .big) (a .p) (a .q) (run (a .first) (a .count)) (k .enum-told2 .given .1) refl) (p .0), omega (arith, p .1))
+    let t = c .before .before .before .before in
+    let start = t .before .before .before in
+    let a = start .args in
+    let s = a .spot in
+    let p = c .before .before .put-not .ensures in (
+      sent-as (of-kind (lineOf (a .text)) (a .i) (s .own) (s .left) (s .right) (s .next) (variables (s .looks) (s .first)) (t .enum-told2 .given .1)
+          refl) (p .0),
+      omega (arith, p .1),
+    )
 
 same-length-3 : tie.Need-same-length-3
 same-length-3 c = search needs
 
 returns-3 : tie.Need-returns-3
 returns-3 c =
-    let w = c .before .before in
-    let k = w .before .before in
-    let a = k .before .before .before .args in
-    let p = w .put-and .ensures in
-    (sent-as (of-kind (lineOf (a .text)) (a .i) (a .big) (a .p) (a .q) (run (a .first) (a .count)) (k .enum-told3 .given .1) refl) (p .0), omega (arith, p .1))
+    let t = c .before .before .before .before in
+    let start = t .before .before .before in
+    let a = start .args in
+    let s = a .spot in
+    let p = c .before .before .put-and .ensures in (
+      sent-as (of-kind (lineOf (a .text)) (a .i) (s .own) (s .left) (s .right) (s .next) (variables (s .looks) (s .first)) (t .enum-told3 .given .1)
+          refl) (p .0),
+      omega (arith, p .1),
+    )
 
 same-length-4 : tie.Need-same-length-4
 same-length-4 c = search needs
 
 returns-4 : tie.Need-returns-4
 returns-4 c =
-    let w = c .before .before in
-    let k = w .before .before in
-    let a = k .before .before .before .args in
-    let p = w .put-or .ensures in
-    (sent-as (of-kind (lineOf (a .text)) (a .i) (a .big) (a .p) (a .q) (run (a .first) (a .count)) (k .enum-told4 .given .1) refl) (p .0), omega (arith, p .1))
+    let t = c .before .before .before .before in
+    let start = t .before .before .before in
+    let a = start .args in
+    let s = a .spot in
+    let p = c .before .before .put-or .ensures in (
+      sent-as (of-kind (lineOf (a .text)) (a .i) (s .own) (s .left) (s .right) (s .next) (variables (s .looks) (s .first)) (t .enum-told4 .given .1)
+          refl) (p .0),
+      omega (arith, p .1),
+    )
 
 same-length-5 : tie.Need-same-length-5
 same-length-5 c = search needs
 
 returns-5 : tie.Need-returns-5
 returns-5 c =
-    let w = c .before .before in
-    let k = w .before .before in
-    let a = k .before .before .before .args in
-    let p = w .put-implies .ensures in
-    (sent-as (of-kind (lineOf (a .text)) (a .i) (a .big) (a .p) (a .q) (run (a .first) (a .count)) (k .enum-told5 .given .1) refl) (p .0), omega (arith, p .1))
+    let t = c .before .before .before .before in
+    let start = t .before .before .before in
+    let a = start .args in
+    let s = a .spot in
+    let p = c .before .before .put-implies .ensures in (
+      sent-as (of-kind (lineOf (a .text)) (a .i) (s .own) (s .left) (s .right) (s .next) (variables (s .looks) (s .first)) (t .enum-told5 .given .1)
+          refl) (p .0),
+      omega (arith, p .1),
+    )
 
 same-length-6 : tie.Need-same-length-6
 same-length-6 c = search needs
 
 returns-6 : tie.Need-returns-6
 returns-6 c =
-    let w = c .before .before in
-    let t = w .before .before in
-    let k = t .before in
-    let a = k .before .before .before .args in
-    let p = w .put-or2 .ensures in
-    (sent-as (of-kind (lineOf (a .text)) (a .i) (a .big) (a .p) (a .q) (run (a .first) (a .count)) (k .enum-told6 .given .1) (t .if1 .taken)) (p .0), omega (arith, p .1))
+    let i = c .before .before .before .before in
+    let t = i .before in
+    let start = t .before .before .before in
+    let a = start .args in
+    let s = a .spot in
+    let p = c .before .before .put-or2 .ensures in (
+      sent-as (of-kind (lineOf (a .text)) (a .i) (s .own) (s .left) (s .right) (s .next) (variables (s .looks) (s .first)) (t .enum-told6 .given .1)
+          (i .if1 .taken)) (p .0),
+      omega (arith, p .1),
+    )
 
 same-length-7 : tie.Need-same-length-7
 same-length-7 c = search needs
 
 returns-7 : tie.Need-returns-7
 returns-7 c =
-    let w = c .before .before in
-    let t = w .before .before in
-    let k = t .before in
-    let a = k .before .before .before .args in
-    let p = w .put-same2 .ensures in
-    (sent-as (of-kind (lineOf (a .text)) (a .i) (a .big) (a .p) (a .q) (run (a .first) (a .count)) (k .enum-told6 .given .1) (t .if1 .left)) (p .0), omega (arith, p .1))
+    let i = c .before .before .before .before in
+    let t = i .before in
+    let start = t .before .before .before in
+    let a = start .args in
+    let s = a .spot in
+    let p = c .before .before .put-same2 .ensures in (
+      sent-as (of-kind (lineOf (a .text)) (a .i) (s .own) (s .left) (s .right) (s .next) (variables (s .looks) (s .first)) (t .enum-told6 .given .1)
+          (i .if1 .left)) (p .0),
+      omega (arith, p .1),
+    )
 
 same-length-8 : tie.Need-same-length-8
 same-length-8 c = search needs
 
 returns-8 : tie.Need-returns-8
 returns-8 c =
-    let w = c .before .before in
-    let t = w .before .before in
-    let k = t .before in
-    let a = k .before .before .before .args in
-    let p = w .put-and2 .ensures in
-    (sent-as (of-kind (lineOf (a .text)) (a .i) (a .big) (a .p) (a .q) (run (a .first) (a .count)) (k .enum-told7 .given .1) (t .if2 .taken)) (p .0), omega (arith, p .1))
+    let i = c .before .before .before .before in
+    let t = i .before in
+    let start = t .before .before .before in
+    let a = start .args in
+    let s = a .spot in
+    let p = c .before .before .put-and2 .ensures in (
+      sent-as (of-kind (lineOf (a .text)) (a .i) (s .own) (s .left) (s .right) (s .next) (variables (s .looks) (s .first)) (t .enum-told7 .given .1)
+          (i .if2 .taken)) (p .0),
+      omega (arith, p .1),
+    )
 
 same-length-9 : tie.Need-same-length-9
 same-length-9 c = search needs
 
 returns-9 : tie.Need-returns-9
 returns-9 c =
-    let w = c .before .before in
-    let t = w .before .before in
-    let k = t .before in
-    let a = k .before .before .before .args in
-    let p = w .put-same3 .ensures in
-    (sent-as (of-kind (lineOf (a .text)) (a .i) (a .big) (a .p) (a .q) (run (a .first) (a .count)) (k .enum-told7 .given .1) (t .if2 .left)) (p .0), omega (arith, p .1))
+    let i = c .before .before .before .before in
+    let t = i .before in
+    let start = t .before .before .before in
+    let a = start .args in
+    let s = a .spot in
+    let p = c .before .before .put-same3 .ensures in (
+      sent-as (of-kind (lineOf (a .text)) (a .i) (s .own) (s .left) (s .right) (s .next) (variables (s .looks) (s .first)) (t .enum-told7 .given .1)
+          (i .if2 .left)) (p .0),
+      omega (arith, p .1),
+    )
 
 same-length-10 : tie.Need-same-length-10
 same-length-10 c = search needs
 
 returns-10 : tie.Need-returns-10
 returns-10 c =
-    let w = c .before .before in
-    let t = w .before .before in
-    let k = t .before in
-    let a = k .before .before .before .args in
-    let p = w .put-until .ensures in
-    (sent-as (of-kind (lineOf (a .text)) (a .i) (a .big) (a .p) (a .q) (run (a .first) (a .count)) (k .enum-told8 .given .1) (t .if3 .taken)) (p .0), omega (arith, p .1))
+    let i = c .before .before .before .before in
+    let t = i .before in
+    let start = t .before .before .before in
+    let a = start .args in
+    let s = a .spot in
+    let p = c .before .before .put-until .ensures in (
+      sent-as (of-kind (lineOf (a .text)) (a .i) (s .own) (s .left) (s .right) (s .next) (variables (s .looks) (s .first)) (t .enum-told8 .given .1)
+          (i .if3 .taken)) (p .0),
+      omega (arith, p .1),
+    )
 
 same-length-11 : tie.Need-same-length-11
 same-length-11 c = search needs
 
 returns-11 : tie.Need-returns-11
 returns-11 c =
-    let w = c .before .before in
-    let t = w .before .before in
-    let k = t .before in
-    let a = k .before .before .before .args in
-    let p = w .put-same4 .ensures in
-    (sent-as (of-kind (lineOf (a .text)) (a .i) (a .big) (a .p) (a .q) (run (a .first) (a .count)) (k .enum-told8 .given .1) (t .if3 .left)) (p .0), omega (arith, p .1))
+    let i = c .before .before .before .before in
+    let t = i .before in
+    let start = t .before .before .before in
+    let a = start .args in
+    let s = a .spot in
+    let p = c .before .before .put-same4 .ensures in (
+      sent-as (of-kind (lineOf (a .text)) (a .i) (s .own) (s .left) (s .right) (s .next) (variables (s .looks) (s .first)) (t .enum-told8 .given .1)
+          (i .if3 .left)) (p .0),
+      omega (arith, p .1),
+    )
 
 same-length-12 : tie.Need-same-length-12
 same-length-12 c = search needs
 
 returns-12 : tie.Need-returns-12
 returns-12 c =
-    let w = c .before .before in
-    let k = w .before .before in
-    let a = k .before .before .before .args in
-    let p = w .put-window .ensures in
-    (sent-as (of-kind (lineOf (a .text)) (a .i) (a .big) (a .p) (a .q) (run (a .first) (a .count)) (k .enum-told9 .given .1) refl) (p .0), p .1)
+    let o = c .before .before .before in
+    let t = o .before .before in
+    let start = t .before .before .before in
+    let a = start .args in
+    let s = a .spot in
+    let p = c .before .before .put-window .ensures in
+    let rows = over-lines (a .text) (a .i) s true (o .over .ensures) in (
+      sent-as (rows ∙ of-kind (lineOf (a .text)) (a .i) (s .own) (s .left) (s .right) (s .next) (variables (s .looks) (s .first))
+          (t .enum-told9 .given .1) refl) (p .0),
+      p .1,
+    )
 
 same-length-13 : tie.Need-same-length-13
 same-length-13 c = search needs
 
 returns-13 : tie.Need-returns-13
 returns-13 c =
-    let w = c .before .before in
-    let k = w .before .before in
-    let a = k .before .before .before .args in
-    let p = w .put-window2 .ensures in
-    (sent-as (of-kind (lineOf (a .text)) (a .i) (a .big) (a .p) (a .q) (run (a .first) (a .count)) (k .enum-told10 .given .1) refl) (p .0), p .1)
+    let o = c .before .before .before in
+    let t = o .before .before in
+    let start = t .before .before .before in
+    let a = start .args in
+    let s = a .spot in
+    let p = c .before .before .put-window2 .ensures in
+    let rows = over-lines (a .text) (a .i) s false (o .over2 .ensures) in (
+      sent-as (rows ∙ of-kind (lineOf (a .text)) (a .i) (s .own) (s .left) (s .right) (s .next) (variables (s .looks) (s .first))
+          (t .enum-told10 .given .1) refl) (p .0),
+      p .1,
+    )
 
 pub put-slot-spec : {M : Type 1} → statement M
 put-slot-spec =
@@ -258,19 +338,19 @@ put-slot-spec =
     enum-told-5
     put-implies-requires
     enum-told-6
-    add-put-or
     put-or-requires-2
     put-same-requires-2
     enum-told-7
-    add-put-and
     put-and-requires-2
     put-same-requires-3
     enum-told-8
     put-until-requires
     put-same-requires-4
     enum-told-9
+    over-requires
     put-window-requires
     enum-told-10
+    over-requires-2
     put-window-requires-2
     same-length
     returns

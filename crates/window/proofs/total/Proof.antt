@@ -3,28 +3,27 @@ use mathlib.Core.Path.{_≡_, sym, ap, _∙_}
 use Prim.Native.Nat.{_-_, _*_, _≤_}
 use native.Mathlib.Omega.{arith}
 use borrow.Author.Needs.{needs}
-use Rattle.window.specs.Slots.{count-is}
 use Rattle.window.specs.Total.{totalTo, total-none, total-more}
 use Rattle.window.proofs.total.Statement.{statement}
 use Rattle.window.proofs.total.Tie as tie
 
 abbrev Inv-loop : tie.InvT-loop
-Inv-loop t a b sum₀ s₀ sum s = (s ≤ t) × (sum ≡ totalTo t a b s) × (sum ≤ 64 * s)
+Inv-loop t l a b sum₀ s₀ sum s = (s ≤ t) × (sum ≡ totalTo t l a b s) × (sum ≤ 64 * s)
 
 abbrev μ-loop : tie.MeasureT-loop
-μ-loop t a b sum₀ s₀ sum s = t - s
+μ-loop t l a b sum₀ s₀ sum s = t - s
 
 loop-holds : tie.Need-loop-holds Inv-loop μ-loop
-loop-holds c = (omega arith, sym (total-none _ _ _), omega arith)
+loop-holds c = (omega arith, sym (total-none _ _ _ _), omega arith)
 
-look-requires : tie.Need-look-requires Inv-loop μ-loop
-look-requires c κs = search needs
+slot-count-requires : tie.Need-slot-count-requires Inv-loop μ-loop
+slot-count-requires c κs = search needs
 
 cast-sum : tie.Need-cast-sum Inv-loop μ-loop
 cast-sum c = search needs
 
 add-sum : tie.Need-add-sum Inv-loop μ-loop
-add-sum c = omega (arith, c .before .look .ensures .are-few .few)
+add-sum c = search needs
 
 add-s : tie.Need-add-s Inv-loop μ-loop
 add-s c = search needs
@@ -34,17 +33,17 @@ loop-less c = search needs
 
 loop-again : tie.Need-loop-again Inv-loop μ-loop
 loop-again c =
-    let k = c .before .look .ensures in
-    let l = c .before .before .before in
+    let k = c .slot-count .ensures in
+    let l = c .before .before in
     let a = l .before .args in
-    (omega arith, omega (arith, l .loop .inv .1, count-is k, total-more (a .t) (a .a) (a .b) (l .loop .s)), omega (arith, k .are-few .few))
+    (omega arith, omega (arith, l .loop .inv .1, k .0, total-more (a .t) (a .l) (a .a) (a .b) (l .loop .s)), omega (arith, k .1))
 
 returns : tie.Need-returns Inv-loop μ-loop
 returns c =
     let l = c .before in
     let a = l .before .args in
     let e : l .loop .s ≡ a .t = omega arith in
-    (l .loop .inv .1 ∙ ap (totalTo (a .t) (a .a) (a .b)) e, omega arith)
+    (l .loop .inv .1 ∙ ap (totalTo (a .t) (a .l) (a .a) (a .b)) e, omega arith)
 
 pub total-spec : {M : Type 1} → statement M
 total-spec =
@@ -53,7 +52,7 @@ total-spec =
     Inv-loop
     μ-loop
     loop-holds
-    look-requires
+    slot-count-requires
     cast-sum
     add-sum
     add-s

@@ -1,5 +1,5 @@
 -- `words::always` meets its contract. Assumes nothing.
-use Rattle.words.specs.Words.{word-always}
+use Rattle.words.specs.Words.{eventuallyAt, eventually-same, word-dual}
 use borrow.Author.Needs.{needs}
 use Rattle.words.proofs.always.Statement.{statement}
 use Rattle.words.proofs.always.Tie as tie
@@ -16,9 +16,10 @@ not-requires-2 c κs = search needs
 returns : tie.Need-returns
 returns c =
     let s = c .before .before .before in
+    let a = s .args in
     let p = c .before .before .not in
-    word-always (s .args .t) (s .args .p) (p .result) (c .before .eventually .result) (c .not2 .result)
-    (p .ensures) (c .before .eventually .ensures (s .args .t) (p .ensures .small)) (c .not2 .ensures)
+    word-dual (a .t) (a .p) (p .result) (c .before .eventually .result) (c .not2 .result) (eventuallyAt (a .t) (a .l))
+    (eventually-same (a .t) (a .l) (s .pre .0, s .pre .1)) (p .ensures) (c .before .eventually .ensures) (c .not2 .ensures)
 
 pub always-spec : {M : Type 1} → statement M
 always-spec = tie.close (tie.spec not-requires eventually-requires not-requires-2 returns)

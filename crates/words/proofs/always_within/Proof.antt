@@ -1,5 +1,6 @@
 -- `words::always_within` meets its contract. Assumes nothing.
-use Rattle.words.specs.Windows.{word-throughout}
+use Rattle.words.specs.Words.{withinAt, word-dual}
+use Rattle.words.specs.Windows.{within-same}
 use borrow.Author.Needs.{needs}
 use Rattle.words.proofs.always_within.Statement.{statement}
 use Rattle.words.proofs.always_within.Tie as tie
@@ -8,9 +9,7 @@ not-requires : tie.Need-not-requires
 not-requires c κs = search needs
 
 eventually-within-requires : tie.Need-eventually-within-requires
-eventually-within-requires c κs =
-    let s = c .before in
-    (s .pre .0, s .pre .1, c .not .ensures .small, s .pre .2, s .pre .3)
+eventually-within-requires c κs = search needs
 
 not-requires-2 : tie.Need-not-requires-2
 not-requires-2 c κs = search needs
@@ -18,9 +17,10 @@ not-requires-2 c κs = search needs
 returns : tie.Need-returns
 returns c =
     let s = c .before .before .before in
+    let a = s .args in
     let p = c .before .before .not in
-    word-throughout (s .args .t) (s .args .a) (s .args .b) (s .args .p) (p .result) (c .before .eventually-within .result) (c .not2 .result)
-    (s .pre .0) (p .ensures) (c .before .eventually-within .ensures) (c .not2 .ensures)
+    word-dual (a .t) (a .p) (p .result) (c .before .eventually-within .result) (c .not2 .result) (withinAt (a .t) (a .l) (a .a) (a .b))
+    (within-same (a .t) (a .l) (s .pre .0, s .pre .1) (a .a) (a .b)) (p .ensures) (c .before .eventually-within .ensures) (c .not2 .ensures)
 
 pub always-within-spec : {M : Type 1} → statement M
 always-within-spec =

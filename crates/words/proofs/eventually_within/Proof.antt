@@ -1,69 +1,42 @@
 -- `words::eventually_within` meets its contract. Assumes nothing.
-use mathlib.Core.Path.{sym, ap, _∙_}
-use mathlib.Core.Bool.{not, _&&_}
-use Prim.Native.Nat.{ℕ, _/_, _^_}
-use Rattle.words.specs.Bits.{on}
-use Rattle.words.specs.Windows.{within-yes, within-no}
+use mathlib.Core.Path.{_≡_}
+use native.Mathlib.Omega.{arith}
+use Rattle.words.specs.Windows.{within-later}
 use borrow.Author.Needs.{needs}
 use Rattle.words.proofs.eventually_within.Statement.{statement}
 use Rattle.words.proofs.eventually_within.Tie as tie
 
-shr-some-ahead : tie.Need-shr-some-ahead
-shr-some-ahead c = search needs
+later-requires : tie.Need-later-requires
+later-requires c κs = search needs
 
-sub-some-ahead : tie.Need-sub-some-ahead
-sub-some-ahead c = search needs
+sub-within-next : tie.Need-sub-within-next
+sub-within-next c = search needs
 
-add-some-ahead : tie.Need-add-some-ahead
-add-some-ahead c = search needs
-
-some-ahead-requires : tie.Need-some-ahead-requires
-some-ahead-requires c κs = search needs
-
-sub-is-on : tie.Need-sub-is-on
-sub-is-on c = search needs
-
-is-on-requires : tie.Need-is-on-requires
-is-on-requires c κs = search needs
-
-ones-requires : tie.Need-ones-requires
-ones-requires c κs = search needs
-
-shr-without : tie.Need-shr-without
-shr-without c = search needs
-
-without-requires : tie.Need-without-requires
-without-requires c κs = search needs
+within-next-requires : tie.Need-within-next-requires
+within-next-requires c κs = search needs
 
 returns : tie.Need-returns
 returns c =
-    let s = c .before .before .before .before .before in
-    let near = c .before .before .before .before .some-ahead in
-    let last = c .before .before .before .is-on in
-    let all = c .before .ones in
-    within-yes (s .args .t) (s .args .p) (s .args .a) (s .args .b) (near .result) (s .pre .0) (s .pre .2) (s .pre .3) (near .ensures)
-    (c .without .result) (λ j. c .without .ensures j ∙ ap (λ (w : ℕ). on w j && not (on (w / 2 ^ s .args .b) j)) (all .ensures))
-    (sym (last .ensures) ∙ c .before .before .if1 .taken)
+    let s = c .before .before .before in
+    let a = s .args in
+    within-later (a .t) (a .l) (s .pre .0, s .pre .1) (a .a) (a .b) (a .p) (c .before .later .result) (c .within-next .result) (s .pre .4)
+    (c .before .later .ensures) (c .within-next .ensures)
+
+within-last-requires : tie.Need-within-last-requires
+within-last-requires c κs = search needs
 
 returns-2 : tie.Need-returns-2
 returns-2 c =
-    let s = c .before .before .before in
-    let near = c .before .before .some-ahead in
-    within-no (s .args .t) (s .args .p) (s .args .a) (s .args .b) (near .result) (s .pre .0) (s .pre .2) (s .pre .3) (near .ensures)
-    (sym (c .before .is-on .ensures) ∙ c .if1 .left)
+    let z : c .before .before .args .l ≡ c .before .before .args .t = omega arith in
+    rw z (c .within-last .ensures)
 
 pub eventually-within-spec : {M : Type 1} → statement M
 eventually-within-spec =
     tie.close
     (tie.spec
-    shr-some-ahead
-    sub-some-ahead
-    add-some-ahead
-    some-ahead-requires
-    sub-is-on
-    is-on-requires
-    ones-requires
-    shr-without
-    without-requires
+    later-requires
+    sub-within-next
+    within-next-requires
     returns
+    within-last-requires
     returns-2)

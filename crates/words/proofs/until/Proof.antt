@@ -1,51 +1,28 @@
 -- `words::until` meets its contract. Assumes nothing.
+use mathlib.Core.Path.{_≡_}
+use native.Mathlib.Omega.{arith}
 use Rattle.words.specs.Bits.{on}
-use Rattle.words.specs.Ahead.{doubled-one}
-use Rattle.words.specs.Words.{word-until}
+use Rattle.words.specs.Words.{until-last, word-same}
 use borrow.Author.Needs.{needs}
 use Rattle.words.proofs.until.Statement.{statement}
 use Rattle.words.proofs.until.Tie as tie
 
-double-requires : tie.Need-double-requires
-double-requires c κs = search needs
+until-kept-requires : tie.Need-until-kept-requires
+until-kept-requires c κs = search needs
 
-double-requires-2 : tie.Need-double-requires-2
-double-requires-2 c κs = search needs
-
-double-requires-3 : tie.Need-double-requires-3
-double-requires-3 c κs = search needs
-
-double-requires-4 : tie.Need-double-requires-4
-double-requires-4 c κs = search needs
-
-double-requires-5 : tie.Need-double-requires-5
-double-requires-5 c κs = search needs
-
-double-requires-6 : tie.Need-double-requires-6
-double-requires-6 c κs = search needs
+until-again-requires : tie.Need-until-again-requires
+until-again-requires c κs = search needs
 
 returns : tie.Need-returns
 returns c =
-    let s = c .before .before .before .before .before .before in
-    let p = on (s .args .p) in
-    let q = on (s .args .q) in
-    let d =
-    c .double6 .ensures p q
-    (c .before .double5 .ensures p q
-    (c .before .before .double4 .ensures p q
-    (c .before .before .before .double3 .ensures p q
-    (c .before .before .before .before .double2 .ensures p q
-    (c .before .before .before .before .before .double .ensures p q (doubled-one (s .args .p) (s .args .q))))))) in
-    λ T h small. word-until T (s .args .p) (s .args .q) (c .double6 .result .met) (c .double6 .result .held) h small d
+    let s = c .before .before .before in
+    c .until-again .ensures (on (s .args .q)) (c .before .before .until-kept .ensures (s .args .t) (s .pre .2) (s .pre .3))
+
+returns-2 : tie.Need-returns-2
+returns-2 c =
+    let s = c .before .before in
+    let z : s .args .l ≡ s .args .t = omega arith in
+    rw z (word-same (c .before .until-kept .ensures (s .args .t) (s .pre .2) (s .pre .3)) _ (until-last (s .args .t) (on (s .args .p)) (on (s .args .q))))
 
 pub until-spec : {M : Type 1} → statement M
-until-spec =
-    tie.close
-    (tie.spec
-    double-requires
-    double-requires-2
-    double-requires-3
-    double-requires-4
-    double-requires-5
-    double-requires-6
-    returns)
+until-spec = tie.close (tie.spec until-kept-requires until-again-requires returns returns-2)

@@ -5,4 +5,4 @@ use Rattle.known.proofs.calls.judge_counted.Statement.{statement}
 use Rattle.known.proofs.calls.judge_counted.Tie as tie
 
 pub judge-counted-spec : {M : Type 1} → statement M
-judge-counted-spec = tie.close (tie.spec (λ c. filled-length 9216 0) (λ c κs. search needs) (λ c. search needs))
+judge-counted-spec = tie.close (tie.spec (λ c. filled-length 17344 0) (λ c κs. search needs) (λ c. search needs))

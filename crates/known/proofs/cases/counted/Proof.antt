@@ -7,7 +7,7 @@ use Rattle.known.proofs.cases.counted.Statement.{statement}
 use Rattle.known.proofs.cases.counted.Tie as tie
 
 abbrev Inv-loop : tie.InvT-loop
-Inv-loop list into₀ end n₀ i₀ into n i = (n ≤ length into) × (length into ≡ length into₀) × (5 ≤ i) × (end ≤ 1024)
+Inv-loop list into₀ end n₀ i₀ into n i = (n ≤ length into) × (length into ≡ length into₀) × (6 ≤ i) × (end ≤ 1024)
 
 abbrev μ-loop : tie.MeasureT-loop
 μ-loop list into₀ end n₀ i₀ into n i = end - i

@@ -1,0 +1,124 @@
+-- `columnlines::put_windows` meets its contract. The loop's invariant: the lines of the slots passed are put. Assumes nothing.
+use mathlib.Core.Path.{_≡_, sym, ap, _∙_}
+use Prim.Native.Nat.{ℕ, _+_, _-_, _*_, _≤_}
+use native.Mathlib.Omega.{arith}
+use Rattle.lists.specs.Flat.{flat, flat-zero, flat-more}
+use Rattle.mps.specs.Page.{eachRow, entryLine}
+use Rattle.row.specs.NodeRows.{blockOn, blockRows}
+use Rattle.lines.specs.Sent.{sent-as}
+use Rattle.nodelines.specs.Turns.{Listed, listed-none, listed-more, listed-as}
+use borrow.Author.Needs.{needs}
+use Rattle.columnlines.proofs.put_windows.Statement.{statement}
+use Rattle.columnlines.proofs.put_windows.Tie as tie
+use Rattle.columnlines.proofs.is_within.Reads as is-within-reads
+use Rattle.columnlines.proofs.over_at.Reads as over-at-reads
+use Rattle.columnlines.proofs.put_seen.Reads as put-seen-reads
+use Rattle.windowlines.proofs.wide.Reads as wide-reads
+
+abbrev Inv-loop : tie.InvT-loop
+Inv-loop out₀ at v start block t l within next₀ i₀ s₀ out next i s =
+    (s ≤ t) × (next ≤ at + 2600 * s) × (i ≤ start + 65 * s) ×
+    Listed (entryLine v) start (flat (blockOn block t l) s) i at out₀ out next
+
+abbrev μ-loop : tie.MeasureT-loop
+μ-loop out₀ at v start block t l within next₀ i₀ s₀ out next i s = t - s
+
+-- src/lib.rt:244:9
+is-within-requires : tie.Need-is-within-requires Inv-loop μ-loop
+is-within-requires c κs = search needs
+
+-- src/lib.rt:248:5
+loop-holds : tie.Need-loop-holds Inv-loop μ-loop
+loop-holds c =
+    let a = c .before .before .args in
+    let line = entryLine (a .v) in (
+      omega arith,
+      omega arith,
+      omega arith,
+      listed-as line (a .start) (a .at) (a .out .now) (sym (flat-zero _))
+          (listed-none line (a .start) (a .at) (a .out .now)),
+    )
+
+-- src/lib.rt:259:13
+over-at-requires : tie.Need-over-at-requires Inv-loop μ-loop
+over-at-requires c κs =
+    let s = c .before .before .before .before in
+    (s .pre .3, s .pre .4, s .pre .5, c .loop-test .taken, s .pre .6, s .pre .7, c .before .before .is-within .ensures)
+
+-- src/lib.rt:261:13
+wide-requires : tie.Need-wide-requires Inv-loop μ-loop
+wide-requires c κs = search needs
+
+-- src/lib.rt:262:9
+put-seen-requires : tie.Need-put-seen-requires Inv-loop μ-loop
+put-seen-requires c κs =
+    let z = c .before .before .before .over-at .ensures in
+    (omega arith, c .before .before .before .before .before .before .before .before .pre .1, omega arith, z .are-few, z .below)
+
+-- src/lib.rt:263:14
+add-i : tie.Need-add-i Inv-loop μ-loop
+add-i c = search needs
+
+-- src/lib.rt:263:9
+add-i-2 : tie.Need-add-i-2 Inv-loop μ-loop
+add-i-2 c =
+    let h = c .before .before .before .before .before .before .over-at .ensures .are-few .few in
+    let k = c .before .before .before .before .wide .ensures .0 in
+    search needs
+
+-- src/lib.rt:264:9
+add-s : tie.Need-add-s Inv-loop μ-loop
+add-s c = search needs
+
+-- src/lib.rt:248:5
+loop-less : tie.Need-loop-less Inv-loop μ-loop
+loop-less c = search needs
+
+-- src/lib.rt:248:5
+loop-again : tie.Need-loop-again Inv-loop μ-loop
+loop-again c =
+    let a = c .before .before .before .before .before .before .before .before .before .before .before .args in
+    let l = c .before .before .before .before .before .before .before .before .loop in
+    let line = entryLine (a .v) in
+    let f = blockOn (a .block) (a .t) (a .l) in
+    let z = c .before .before .before .before .before .before .over-at .ensures in
+    let k = c .before .before .before .before .wide .ensures .0 in
+    let p = c .before .before .put-seen .ensures in (
+      omega arith,
+      omega (arith, p .1),
+      omega (arith, k, z .are-few .few),
+      listed-as line (a .start) (a .at) (a .out .now) (sym (flat-more f (l .s)))
+          (listed-more line (a .start) (a .at) (a .out .now) (f (l .s)) (l .inv .3) (sent-as (ap (eachRow line (l .i)) (z .rows)) (p .0))
+          (ap (λ (n : ℕ). l .i + n) (ap (λ (n : ℕ). n + 1) k ∙ z .counted))),
+    )
+
+-- src/lib.rt:224:1
+same-length : tie.Need-same-length Inv-loop μ-loop
+same-length c = c .before .loop .inv .3 .sent .same
+
+-- src/lib.rt:224:1
+returns : tie.Need-returns Inv-loop μ-loop
+unfolding blockRows
+returns c =
+    let l = c .before .loop in
+    let e : l .s ≡ c .before .before .before .before .args .t = omega arith in
+    (rw e at (l .inv .3 .sent), omega arith)
+
+pub put-windows-spec : {M : Type 1} → statement M
+put-windows-spec =
+    tie.close
+    (tie.spec
+    Inv-loop
+    μ-loop
+    is-within-requires
+    loop-holds
+    over-at-requires
+    wide-requires
+    put-seen-requires
+    add-i
+    add-i-2
+    add-s
+    loop-less
+    loop-again
+    same-length
+    returns)
