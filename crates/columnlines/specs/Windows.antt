@@ -37,9 +37,6 @@ abbrev pub Missed : Over → (v : ℕ) → Bool → Type 0
 Missed o v true = (v ≡ o .own → ⊥) × ((j : ℕ) → j < o .looks .count → variableAt (o .looks) (o .left) j ≡ v → ⊥)
 Missed o v false = Unit {0}
 
-pub missed-before : (o : Over) (v : ℕ) → (v ≡ o .own → ⊥) → v < o .left + o .looks .first → Missed o v true
-missed-before o v a h = (a, λ j l e. omega arith)
-
 pub missed-behind : (o : Over) (v : ℕ) → (v ≡ o .own → ⊥) → o .left + o .looks .first + o .looks .count + o .looks .skip ≤ v → Missed o v true
 missed-behind o v a h = (a, λ j l e. omega (arith, place-high (o .looks) j))
 

@@ -127,7 +127,6 @@ looked-seen Throughout T L a b s P p q w l g z e f h = rw (e, f, h) (l .sees .ar
 
 pub record Spotted (b : Block) (T L s : ℕ) (z : Spot) : Type 0 where
   pub kind-is : z .kind ≡ b .kind
-  pub inner-is : z .inner ≡ followed T (b .loops) s
   pub rows : spotRows z ≡ blockOn b T L s
   pub seen : Seen z
   pub few : z .looks .count ≤ 64
@@ -139,7 +138,6 @@ pub spotted : (b : Block) (T L s : ℕ) (inner : Bool) (next : ℕ) (w : Looks) 
     (record { kind = b .kind; inner = inner; own = b .own + s; left = b .left + s; right = b .right + s; next = next; first = b .left; looks = w })
 spotted b T L s inner next w f l e g = record {
   kind-is = refl;
-  inner-is = e;
   rows =
       ap₂ (λ (i : Bool) (n : ℕ). kindRows (b .kind) i (b .own + s) (b .left + s) (b .right + s) n (variables w (b .left))) e g
       ∙ looked-rows (b .kind) T L (b .from) (b .to) s w (followed T (b .loops) s) (b .own + s) (b .left + s) (b .right + s)

@@ -1,22 +1,20 @@
 -- Laws of the texts of a table's rows: by slot, by a block's kind, by node, and how far row numbers go.
 use mathlib.Core.Path.{_≡_, refl, sym, ap, ap₂, _∙_}
-use mathlib.Core.Bool.{Bool, true, cond}
+use mathlib.Core.Bool.{Bool, true}
 use mathlib.Core.List.{List, [], _∷_, _++_, append-assoc, append-nil}
 use Prim.Native.Nat.{ℕ, zero, suc, _+_, _-_, _*_, _≤_, _<_}
 use native.Mathlib.Nat.{mul-le-mul}
 use native.Mathlib.Omega.{arith}
 use lib.ListN.{length, length-append}
-use Rattle.lists.specs.Flat.{flat, flat-zero, flat-more, flat-same, length-flat-even}
+use Rattle.lists.specs.Flat.{flat, flat-zero, flat-same, length-flat-even}
 use Rattle.rules.specs.Table.{Node, nodeAt}
 use Rattle.rules.specs.Rows.{Row, windowSlots, slackRows, goalRow, rowsOf}
 use Rattle.rules.specs.RowParts.{nodes-parts}
-use Rattle.table.specs.Nodes.{nodeOf}
-use Rattle.table.specs.declared.Node as Table
 use Rattle.table.specs.declared.Kind.{Kind}
 use Rattle.table.specs.declared.Kind.the-variants.{Atom, Not, And, Or, Implies, Eventually, Always, Until, Within, Throughout}
 use Rattle.row.specs.declared.Block.{Block}
 use Rattle.row.specs.Kinds.{kindRows, slotCount, followed, followed-inner, length-on}
-use Rattle.row.specs.NodeRows.{blockOn, blockRows, Own, Kept, keptPlace, hasKept, both-rows, partRows, rowsTo}
+use Rattle.row.specs.NodeRows.{blockOn, blockRows, partRows, rowsTo}
 use Rattle.rules.specs.RowCount.{node-count}
 use Rattle.mps.specs.Page.{eachRow}
 use Rattle.rowlines.specs.Slots.{rowsBefore, slotText}
@@ -84,14 +82,6 @@ module _ (T L : ℕ) (b : Block) where
   slot-length : (s : ℕ) → length (blockOn b T L s) ≡ slotCount (b .kind) (followed T (b .loops) s) (length (windowSlots T L (s + 1) (b .from) (b .to)))
   slot-length = length-on (b .kind) T L (b .loops) (b .next) (b .own) (b .left) (b .right) (b .from) (b .to)
 
-  pub before-next : (s : ℕ) →
-      rowsBefore T L b (s + 1) ≡ rowsBefore T L b s + slotCount (b .kind) (followed T (b .loops) s) (length (windowSlots T L (s + 1) (b .from) (b .to)))
-  unfolding rowsBefore
-  before-next s =
-      let f : ℕ → List Row = blockOn b T L in
-      let x : length (flat f (s + 1)) ≡ length (flat f s) + length (f s) = ap length (flat-more f s) ∙ length-append (flat f s) (f s) in
-      omega (arith, x, slot-length s)
-
   -- without a window, the slots before one have as many rows each
   pub before-kind : Plain (b .kind) → (s : ℕ) → s < T → rowsBefore T L b s ≡ s * slotCount (b .kind) true 0
   unfolding rowsBefore
@@ -118,18 +108,6 @@ module _ (T M L : ℕ) (ns : List Node) where
       (ap (eachRow line 0) (nodes-parts T M L ns) ∙ each-flat line f 0 (length ns)
       ∙ flat-same (λ i. eachRow line (0 + length (flat f i)) (f i)) (nodeText line) (length ns) (λ i h. ap (λ (j : ℕ). eachRow line j (f i)) (omega arith)))
       (append-nil (line (0 + length (slackRows T M L ns)) (goalRow T M ns)) ∙ ap (λ (j : ℕ). line j (goalRow T M ns)) (omega arith))
-
-  -- of a node by its blocks: its V's, if it has one, and then its own
-  module _ (n v : ℕ) (nd : Table.Node) (b c : Block) (is : nodeOf nd ≡ nodeAt ns n) (place : v ≡ keptPlace T M ns n)
-      (o : Own T M L n v nd b) (k : Kept v b c) where
-    abbrev kept : List Row
-    kept = cond (hasKept T L nd) (blockRows c T L) []
-
-    pub node-text : (line : ℕ → Row → List ℕ) (i : ℕ) → i ≡ length (rowsTo T M L ns n) →
-        eachRow line i kept ++ eachRow line (i + length kept) (blockRows b T L) ≡ nodeText line n
-    unfolding nodeText
-    node-text line i e =
-        sym (each-append line i kept (blockRows b T L)) ∙ ap₂ (λ (j : ℕ) (rs : List Row). eachRow line j rs) e (both-rows T M L ns n v nd b c is place o k)
 
 -- ---- a node has at most T + 8 rows a slot, so that row numbers have at most 6 digits
 

@@ -60,7 +60,7 @@ lines =
     -- with L equal to T there is no V
     rows 1 1 1 (70 ∷ 97 ∷ 48 ∷ []) (answered (wrote 3
     (82 ∷ 87 ∷ 2 ∷ 2 ∷ 0 ∷ 1 ∷ 1 ∷ 0 ∷ 255 ∷ 0 ∷ 0 ∷ 82 ∷ 87 ∷ 2 ∷ 2 ∷ 0 ∷ 1 ∷ 2 ∷ 0 ∷ 255 ∷ 1 ∷ 0 ∷ 82 ∷ 87 ∷ 2 ∷ 1 ∷ 1 ∷ 1 ∷ 2 ∷ 0 ∷ []))) ∷
-    -- L above T and L 0 are refused with 13, after 2 and before 7
+    -- L above T and L 0 are refused with 13, which comes after 2
     rows 2 1 3 (97 ∷ 48 ∷ []) (refused 13) ∷
     rows 2 1 0 (97 ∷ 48 ∷ []) (refused 13) ∷
     rows 2 17 0 (97 ∷ 48 ∷ []) (refused 2) ∷ []

@@ -5,13 +5,15 @@ use mathlib.Core.List.{List}
 use Prim.Native.Nat.{ℕ, _≤_}
 use lib.IntN.{ℤ}
 use Rattle.rules.specs.Quantities.{LoopAllowed}
+use Rattle.rules.specs.Rule.{Rule}
 use Rattle.rules.specs.Table.{Node, Good}
-use Rattle.rules.specs.Truth.{TruthWords}
+use Rattle.rules.specs.Truth.{Holds, endless, TruthWords}
 use Rattle.rules.specs.Rows.{variableCount, slackRows, goalRow, rowsOf}
 use Rattle.rules.specs.Judge.{Verdict, Judged}
 use Rattle.rules.specs.Demands.{ReaderExact, OneReading, HeightsRight, EvaluatorExact, FirstSlotExact, RowsExact, JudgeExact, OnlyTheTruth, Demand3}
 use Rattle.rules.specs.Demands.{PassedIsNear, RoundedRun, OneFigureEach}
-use Rattle.rules.specs.Before.{TruthWordsBefore, rowsBefore, variablesBefore, JudgedBefore, EvaluatorExactBefore, RowsExactBefore, JudgeExactBefore}
+use Rattle.rules.specs.Before.{endlessBefore, TruthWordsBefore, rowsBefore, variablesBefore, JudgedBefore}
+use Rattle.rules.specs.Before.{EvaluatorExactBefore, RowsExactBefore, JudgeExactBefore}
 use Rattle.rules.specs.Outcome.{readOutcome, evaluateOutcome, rowsOutcome, judgeOutcome}
 use Rattle.rules.specs.TableTest
 use Rattle.rules.specs.Words
@@ -73,6 +75,9 @@ one-figure-each T M L e table ns good loop =
 -- before is in Before.antt; the page is in crate mps.
 pub same-rows : (T M : ℕ) → 1 ≤ T → (ns : List Node) → rowsOf T M T ns ≡ rowsBefore T M ns
 same-rows = NoLoop.same-rows
+
+pub same-truth : (T : ℕ) (run : List ℕ) → 1 ≤ T → (p : Rule) (t : ℕ) → Holds (endless T T run) p t ≡ Holds (endlessBefore T run) p t
+same-truth = NoLoop.same-truth
 
 pub same-words : (T : ℕ) (run : List ℕ) → 1 ≤ T → (ns : List Node) (words : List ℕ) → TruthWords T T run ns words ↔ TruthWordsBefore T run ns words
 same-words = NoLoop.same-words

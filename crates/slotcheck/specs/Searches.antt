@@ -85,10 +85,6 @@ pub reached-clear : (s : Search) (i : ℕ) → s ≡ Clear i → reached s ≡ i
 unfolding reached
 reached-clear s i e = rw e
 
-pub reached-start : reached (Clear 0) ≡ 0
-unfolding reached
-reached-start = refl
-
 -- the rows of a node at a slot, as the call that tests them ensures
 pub record Tested (e : ℕ) (f : Row → ℤ) (s : Search) (rs : List Row) (x : Search) : Type 0 where
   pub is : x ≡ tested e f s rs

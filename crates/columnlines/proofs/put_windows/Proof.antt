@@ -10,10 +10,6 @@ use Rattle.nodelines.specs.Turns.{Listed, listed-none, listed-more, listed-as}
 use borrow.Author.Needs.{needs}
 use Rattle.columnlines.proofs.put_windows.Statement.{statement}
 use Rattle.columnlines.proofs.put_windows.Tie as tie
-use Rattle.columnlines.proofs.is_within.Reads as is-within-reads
-use Rattle.columnlines.proofs.over_at.Reads as over-at-reads
-use Rattle.columnlines.proofs.put_seen.Reads as put-seen-reads
-use Rattle.windowlines.proofs.wide.Reads as wide-reads
 
 abbrev Inv-loop : tie.InvT-loop
 Inv-loop out₀ at v start block t l within next₀ i₀ s₀ out next i s =
@@ -23,11 +19,9 @@ Inv-loop out₀ at v start block t l within next₀ i₀ s₀ out next i s =
 abbrev μ-loop : tie.MeasureT-loop
 μ-loop out₀ at v start block t l within next₀ i₀ s₀ out next i s = t - s
 
--- src/lib.rt:244:9
 is-within-requires : tie.Need-is-within-requires Inv-loop μ-loop
 is-within-requires c κs = search needs
 
--- src/lib.rt:248:5
 loop-holds : tie.Need-loop-holds Inv-loop μ-loop
 loop-holds c =
     let a = c .before .before .args in
@@ -39,42 +33,34 @@ loop-holds c =
           (listed-none line (a .start) (a .at) (a .out .now)),
     )
 
--- src/lib.rt:259:13
 over-at-requires : tie.Need-over-at-requires Inv-loop μ-loop
 over-at-requires c κs =
     let s = c .before .before .before .before in
     (s .pre .3, s .pre .4, s .pre .5, c .loop-test .taken, s .pre .6, s .pre .7, c .before .before .is-within .ensures)
 
--- src/lib.rt:261:13
 wide-requires : tie.Need-wide-requires Inv-loop μ-loop
 wide-requires c κs = search needs
 
--- src/lib.rt:262:9
 put-seen-requires : tie.Need-put-seen-requires Inv-loop μ-loop
 put-seen-requires c κs =
     let z = c .before .before .before .over-at .ensures in
     (omega arith, c .before .before .before .before .before .before .before .before .pre .1, omega arith, z .are-few, z .below)
 
--- src/lib.rt:263:14
 add-i : tie.Need-add-i Inv-loop μ-loop
 add-i c = search needs
 
--- src/lib.rt:263:9
 add-i-2 : tie.Need-add-i-2 Inv-loop μ-loop
 add-i-2 c =
     let h = c .before .before .before .before .before .before .over-at .ensures .are-few .few in
     let k = c .before .before .before .before .wide .ensures .0 in
     search needs
 
--- src/lib.rt:264:9
 add-s : tie.Need-add-s Inv-loop μ-loop
 add-s c = search needs
 
--- src/lib.rt:248:5
 loop-less : tie.Need-loop-less Inv-loop μ-loop
 loop-less c = search needs
 
--- src/lib.rt:248:5
 loop-again : tie.Need-loop-again Inv-loop μ-loop
 loop-again c =
     let a = c .before .before .before .before .before .before .before .before .before .before .before .args in
@@ -92,11 +78,9 @@ loop-again c =
           (ap (λ (n : ℕ). l .i + n) (ap (λ (n : ℕ). n + 1) k ∙ z .counted))),
     )
 
--- src/lib.rt:224:1
 same-length : tie.Need-same-length Inv-loop μ-loop
 same-length c = c .before .loop .inv .3 .sent .same
 
--- src/lib.rt:224:1
 returns : tie.Need-returns Inv-loop μ-loop
 unfolding blockRows
 returns c =
