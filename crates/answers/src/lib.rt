@@ -1,6 +1,6 @@
 // What the calls answer: a result, or a refusal.
 ghost use mathlib.Core.Path.{_≡_};
-ghost use Rattle.answers.specs.Told.{numberOf};
+ghost use Rattle.answers.specs.Meaning.{numberOf};
 
 // The refusals of documents 01 and 02, in the order of their numbers, 1 to 13.
 pub enum Refusal {

@@ -21,7 +21,7 @@ use Rattle.rules.specs.Demands.Written.{wrote}
 use Rattle.rules.specs.Outcome.{result, buffer, readOutcome, rowsOutcome, evaluateOutcome}
 use Rattle.rules.specs.Exactness.Tests.{at-least}
 use Rattle.rules.specs.Theorems.{reader-exact, rows-exact, evaluator-exact, demand3}
-use Rattle.answers.specs.Told.{told}
+use Rattle.answers.specs.Meaning.{answerOf}
 use Rattle.answers.specs.declared.Answer.the-variants.{Value, Refused as Refusing}
 use Rattle.answers.specs.declared.Refusal.{Refusal}
 use Rattle.demands.specs.declared.Planned.{Planned}
@@ -73,12 +73,12 @@ evaluated-long t m l table run room v bytes e =
     (i .0, i .3, ap length g ∙ i .4 .count)
 
 -- an answer with a value comes from an outcome that wrote
-wrote-value : (a : Answer Written) (n : ℕ) → told (Value n) ≡ result a → (bytes : List ℕ) × (a ≡ answered (wrote n bytes))
+wrote-value : (a : Answer Written) (n : ℕ) → answerOf (Value n) ≡ result a → (bytes : List ℕ) × (a ≡ answered (wrote n bytes))
 wrote-value (refused k) n e = let z : _≡_ {A = ℕ} 0 1 = cc in absurd (omega arith)
 wrote-value (answered (wrote j bytes)) n e = let z : j ≡ n = cc in (bytes, ap (λ (i : ℕ). answered (wrote i bytes)) z)
 
 -- a table that was read has room
-pub read-room : (m : ℕ) (text out out′ : List ℕ) (n : ℕ) → told (Value n) ≡ result (readOutcome m text (length out)) →
+pub read-room : (m : ℕ) (text out out′ : List ℕ) (n : ℕ) → answerOf (Value n) ≡ result (readOutcome m text (length out)) →
     out′ ≡ buffer (readOutcome m text (length out)) out →
     (8 * n ≤ length out) × (length out′ ≡ length out)
 read-room m text out out′ n e left =
@@ -145,7 +145,7 @@ module _ (t m l : ℕ) (text run table rows truth table′ : List ℕ) (left : t
           }
 
   -- the reader's value is the rule's node count
-  nodes-are : (D : ℕ) (p : Rule) → Facts D p → (n : ℕ) → told (Value n) ≡ result (readOutcome m text (length table)) → n ≡ size p
+  nodes-are : (D : ℕ) (p : Rule) → Facts D p → (n : ℕ) → answerOf (Value n) ≡ result (readOutcome m text (length table)) → n ≡ size p
   nodes-are D p x n e = let f = e ∙ ap result (x .read-is) in cc f
 
   -- ---- the four ends of the function
@@ -154,13 +154,13 @@ module _ (t m l : ℕ) (text run table rows truth table′ : List ℕ) (left : t
     abbrev End : Type 0
     End = Demanded t m l text run table rows truth table′ rows′ truth′ r
 
-    pub read-refused : (k : Refusal) → told (Refusing k) ≡ result (readOutcome m text (length table)) → End
+    pub read-refused : (k : Refusal) → answerOf (Refusing k) ≡ result (readOutcome m text (length table)) → End
     read-refused k e none slots loop runs D 0<D =
         let f = facts none slots loop runs D 0<D in
         (f .0, f .1, λ a b c. let x = f .2 (a, b, c) in let g = e ∙ ap result (x .read-is) in let z : _≡_ {A = ℕ} 0 1 = cc g in absurd (omega arith))
 
-    module _ (n : ℕ) (e : told (Value n) ≡ result (readOutcome m text (length table))) where
-      pub rows-refused : (k : Refusal) → told (Refusing k) ≡ result (rowsOutcome t m l (take (8 * n) table′) (length rows)) → End
+    module _ (n : ℕ) (e : answerOf (Value n) ≡ result (readOutcome m text (length table))) where
+      pub rows-refused : (k : Refusal) → answerOf (Refusing k) ≡ result (rowsOutcome t m l (take (8 * n) table′) (length rows)) → End
       rows-refused k h none slots loop runs D 0<D =
           let f = facts none slots loop runs D 0<D in (
             f .0,
@@ -172,7 +172,7 @@ module _ (t m l : ℕ) (text run table rows truth table′ : List ℕ) (left : t
                 let z : _≡_ {A = ℕ} 0 1 = cc g in absurd (omega arith),
           )
 
-      pub evaluate-refused : (k : Refusal) → told (Refusing k) ≡ result (evaluateOutcome t m l (take (8 * n) table′) run (length truth)) → End
+      pub evaluate-refused : (k : Refusal) → answerOf (Refusing k) ≡ result (evaluateOutcome t m l (take (8 * n) table′) run (length truth)) → End
       evaluate-refused k h none slots loop runs D 0<D =
           let f = facts none slots loop runs D 0<D in (
             f .0,
@@ -184,10 +184,10 @@ module _ (t m l : ℕ) (text run table rows truth table′ : List ℕ) (left : t
                 let z : _≡_ {A = ℕ} 0 1 = cc g in absurd (omega arith),
           )
 
-  module _ (n count v : ℕ) (rows′ truth′ : List ℕ) (e : told (Value n) ≡ result (readOutcome m text (length table)))
-      (h : told (Value count) ≡ result (rowsOutcome t m l (take (8 * n) table′) (length rows)))
+  module _ (n count v : ℕ) (rows′ truth′ : List ℕ) (e : answerOf (Value n) ≡ result (readOutcome m text (length table)))
+      (h : answerOf (Value count) ≡ result (rowsOutcome t m l (take (8 * n) table′) (length rows)))
       (h′ : rows′ ≡ buffer (rowsOutcome t m l (take (8 * n) table′) (length rows)) rows)
-      (i : told (Value v) ≡ result (evaluateOutcome t m l (take (8 * n) table′) run (length truth)))
+      (i : answerOf (Value v) ≡ result (evaluateOutcome t m l (take (8 * n) table′) run (length truth)))
       (i′ : truth′ ≡ buffer (evaluateOutcome t m l (take (8 * n) table′) run (length truth)) truth) where
     pub done : Demanded t m l text run table rows truth table′ rows′ truth′ (Done n count v)
     done none slots loop runs D 0<D =

@@ -1,9 +1,9 @@
 // The demands, as the contracts of functions that only make the calls.
-ghost use Rattle.answers.specs.Told.{told};
+ghost use Rattle.answers.specs.Meaning.{answerOf};
 ghost use Rattle.row.specs.Meaning.{termsOf};
-ghost use Rattle.sums.specs.Summed.{summed};
-ghost use Rattle.words.specs.Told.{toldSlot};
-ghost use Rattle.judge.specs.Ruled.{ruled};
+ghost use Rattle.judge_sums.specs.Meaning.{rowSumOf};
+ghost use Rattle.evaluator_words.specs.Meaning.{firstSlotOf};
+ghost use Rattle.judge.specs.Meaning.{rulingOf};
 ghost use Rattle.demands.specs.Demand1.{ReaderRefuses, EvaluatorRefuses, RowWriterRefuses, JudgeRefuses};
 ghost use Rattle.demands.specs.Demand2.{ReaderAnswers, EvaluatorAnswers, FirstAnswers, RowWriterAnswers, JudgeAnswers};
 ghost use Rattle.demands.specs.Heights.{ReaderHeights};
@@ -16,40 +16,40 @@ ghost use Rattle.demands.specs.RowSum.{PositiveFirst, SummedVerdict};
 ghost use Rattle.demands.specs.Page.{PageRefuses, PageAnswers, PageMeans};
 use answers::Answer;
 use answers::Refusal;
+use evaluator_words::FirstSlot;
 use judge::Ruling;
+use judge_sums::RowSum;
 use row::Terms;
-use sums::RowSum;
-use words::FirstSlot;
 
 // Demands 1 and 2 of the reader, and the heights that it writes.
 pub fn read(text: &[u8], m: usize, out: &mut [u8]) -> Answer
-    ensures { λ r. ⌜ ReaderRefuses m (now (text .entry)) (told r) (now (out .entry)) (now (out .exit)) ⌝ }
-    ensures { λ r. ⌜ ReaderAnswers m (now (text .entry)) (told r) (now (out .entry)) (now (out .exit)) ⌝ }
-    ensures { λ r. ⌜ ReaderHeights (now (text .entry)) (told r) (now (out .exit)) ⌝ }
+    ensures { λ r. ⌜ ReaderRefuses m (now (text .entry)) (answerOf r) (now (out .entry)) (now (out .exit)) ⌝ }
+    ensures { λ r. ⌜ ReaderAnswers m (now (text .entry)) (answerOf r) (now (out .entry)) (now (out .exit)) ⌝ }
+    ensures { λ r. ⌜ ReaderHeights (now (text .entry)) (answerOf r) (now (out .exit)) ⌝ }
 {
     reader::read(text, m, out)
 }
 
 // Demands 1 and 2 of the evaluator, and that its words say what its bytes said.
 pub fn evaluate(table: &[u8], t: usize, m: usize, l: usize, run: &[u16], out: &mut [u64]) -> Answer
-    ensures { λ r. ⌜ EvaluatorRefuses t m l (now (table .entry)) (now (run .entry)) (told r) (now (out .entry)) (now (out .exit)) ⌝ }
-    ensures { λ r. ⌜ EvaluatorAnswers t m l (now (table .entry)) (now (run .entry)) (told r) (now (out .entry)) (now (out .exit)) ⌝ }
-    ensures { λ r. ⌜ SaysBytes t m l (now (table .entry)) (now (run .entry)) (told r) (now (out .exit)) ⌝ }
+    ensures { λ r. ⌜ EvaluatorRefuses t m l (now (table .entry)) (now (run .entry)) (answerOf r) (now (out .entry)) (now (out .exit)) ⌝ }
+    ensures { λ r. ⌜ EvaluatorAnswers t m l (now (table .entry)) (now (run .entry)) (answerOf r) (now (out .entry)) (now (out .exit)) ⌝ }
+    ensures { λ r. ⌜ SaysBytes t m l (now (table .entry)) (now (run .entry)) (answerOf r) (now (out .exit)) ⌝ }
 {
     evaluator::evaluate(table, t, m, l, run, out)
 }
 
 // What the first slot of a truth word is.
 pub fn first_slot(word: u64) -> FirstSlot
-    ensures { λ r. ⌜ FirstAnswers word (toldSlot r) ⌝ }
+    ensures { λ r. ⌜ FirstAnswers word (firstSlotOf r) ⌝ }
 {
-    words::first_slot(word)
+    evaluator_words::first_slot(word)
 }
 
 // Demands 1 and 2 of the row writer.
 pub fn write_rows(table: &[u8], t: usize, m: usize, l: usize, out: &mut [u8]) -> Answer
-    ensures { λ r. ⌜ RowWriterRefuses t m l (now (table .entry)) (told r) (now (out .entry)) (now (out .exit)) ⌝ }
-    ensures { λ r. ⌜ RowWriterAnswers t m l (now (table .entry)) (told r) (now (out .entry)) (now (out .exit)) ⌝ }
+    ensures { λ r. ⌜ RowWriterRefuses t m l (now (table .entry)) (answerOf r) (now (out .entry)) (now (out .exit)) ⌝ }
+    ensures { λ r. ⌜ RowWriterAnswers t m l (now (table .entry)) (answerOf r) (now (out .entry)) (now (out .exit)) ⌝ }
 {
     rows::write_rows(table, t, m, l, out)
 }
@@ -57,32 +57,32 @@ pub fn write_rows(table: &[u8], t: usize, m: usize, l: usize, out: &mut [u8]) ->
 // Demands 1 and 2 of the judge, what a passed verdict means and its error figure promises, what a broken one carries, and the
 // verdict by row sums.
 pub fn judge_figures(table: &[u8], t: usize, m: usize, l: usize, figures: &[i32], e: i32) -> Ruling
-    ensures { λ r. ⌜ JudgeRefuses t m l (now (table .entry)) (now (figures .entry)) e (ruled r) ⌝ }
-    ensures { λ r. ⌜ JudgeAnswers t m l (now (table .entry)) (now (figures .entry)) e (ruled r) ⌝ }
-    ensures { λ r. ⌜ PassedMeans t m l (now (table .entry)) (now (figures .entry)) e (ruled r) ⌝ }
-    ensures { λ r. ⌜ PassedAtZero t m l (now (table .entry)) (now (figures .entry)) e (ruled r) ⌝ }
-    ensures { λ r. ⌜ PassedNear t m l (now (table .entry)) (now (figures .entry)) e (ruled r) ⌝ }
-    ensures { λ r. ⌜ SameVerdict t m l (now (table .entry)) (now (figures .entry)) e (ruled r) ⌝ }
-    ensures { λ r. ⌜ CarriesShortfall t m l (now (table .entry)) (now (figures .entry)) e (ruled r) ⌝ }
-    ensures { λ r. ⌜ SummedVerdict t m l (now (table .entry)) (now (figures .entry)) e (ruled r) ⌝ }
+    ensures { λ r. ⌜ JudgeRefuses t m l (now (table .entry)) (now (figures .entry)) e (rulingOf r) ⌝ }
+    ensures { λ r. ⌜ JudgeAnswers t m l (now (table .entry)) (now (figures .entry)) e (rulingOf r) ⌝ }
+    ensures { λ r. ⌜ PassedMeans t m l (now (table .entry)) (now (figures .entry)) e (rulingOf r) ⌝ }
+    ensures { λ r. ⌜ PassedAtZero t m l (now (table .entry)) (now (figures .entry)) e (rulingOf r) ⌝ }
+    ensures { λ r. ⌜ PassedNear t m l (now (table .entry)) (now (figures .entry)) e (rulingOf r) ⌝ }
+    ensures { λ r. ⌜ SameVerdict t m l (now (table .entry)) (now (figures .entry)) e (rulingOf r) ⌝ }
+    ensures { λ r. ⌜ CarriesShortfall t m l (now (table .entry)) (now (figures .entry)) e (rulingOf r) ⌝ }
+    ensures { λ r. ⌜ SummedVerdict t m l (now (table .entry)) (now (figures .entry)) e (rulingOf r) ⌝ }
 {
     judge::judge(table, t, m, l, figures, e)
 }
 
 // The row sum of a row's terms, in whatever order they stand.
 pub fn row_sum(figures: &[i32], terms: Terms) -> RowSum
-    ensures { λ r. ⌜ PositiveFirst (now (figures .entry)) (termsOf terms) (summed r) ⌝ }
+    ensures { λ r. ⌜ PositiveFirst (now (figures .entry)) (termsOf terms) (rowSumOf r) ⌝ }
 {
-    sums::row_sum(figures, terms)
+    judge_sums::row_sum(figures, terms)
 }
 
 // Demands 1 and 2 of the page writer, and what its page says.
 pub fn mps_page(table: &[u8], t: usize, m: usize, l: usize, out: &mut [u8]) -> Answer
-    ensures { λ r. ⌜ PageRefuses t m l (now (table .entry)) (told r) (now (out .entry)) (now (out .exit)) ⌝ }
-    ensures { λ r. ⌜ PageAnswers t m l (now (table .entry)) (told r) (now (out .entry)) (now (out .exit)) ⌝ }
-    ensures { λ r. ⌜ PageMeans t m l (now (table .entry)) (told r) (now (out .exit)) ⌝ }
+    ensures { λ r. ⌜ PageRefuses t m l (now (table .entry)) (answerOf r) (now (out .entry)) (now (out .exit)) ⌝ }
+    ensures { λ r. ⌜ PageAnswers t m l (now (table .entry)) (answerOf r) (now (out .entry)) (now (out .exit)) ⌝ }
+    ensures { λ r. ⌜ PageMeans t m l (now (table .entry)) (answerOf r) (now (out .exit)) ⌝ }
 {
-    pages::mps_page(table, t, m, l, out)
+    mps_page::mps_page(table, t, m, l, out)
 }
 
 // The node count, the row count and the root's truth at slot 1, or the first refusal.

@@ -9,7 +9,7 @@ use lib.Seq.{getD-set-same, getD-set-other}
 use Rattle.rules.specs.Table as Table
 use Rattle.rules.specs.Table.{Node, NodeGood}
 use Rattle.rules.specs.Table.Node.{atom, unary, binary, windowed}
-use Rattle.words.specs.Words.{Word}
+use Rattle.evaluator_words.specs.Words.{Word}
 use Rattle.evaluator.specs.Nodes.{nodeAt, unaryAt, binaryAt, windowAt, by-one, by-two}
 
 -- the first n nodes have their words, and what stands behind is as it was

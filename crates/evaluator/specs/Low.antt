@@ -11,8 +11,8 @@ use Rattle.rules.specs.Table.Node.{atom, unary, binary, windowed}
 use Rattle.rules.specs.TableRules.{NodesGood, ruleAt-is}
 use Rattle.rules.specs.TableTest.{byteAt, good, nodesIn, good-sound}
 use Rattle.rules.specs.Theorems.{heights-right}
-use Rattle.words.specs.Words.{Word}
-use Rattle.atomwords.specs.Columns.{Columns}
+use Rattle.evaluator_words.specs.Words.{Word}
+use Rattle.evaluator_atoms.specs.Columns.{Columns}
 use Rattle.table.specs.Nodes.{nodeBy, nodeOf}
 use Rattle.table.specs.declared.Kind.{Kind}
 use Rattle.table.specs.declared.Kind.the-variants.{Atom, Not, And, Or, Implies, Eventually, Always, Until, Within, Throughout}

@@ -11,8 +11,8 @@ use Rattle.rules.specs.Rule.Binary.{and, or, implies, until}
 use Rattle.rules.specs.Rule.Window.{within, throughout}
 use Rattle.rules.specs.Table.{Node, NodeGood}
 use Rattle.rules.specs.Table.Node.{atom, unary, binary, windowed}
-use Rattle.words.specs.Bits.{on}
-use Rattle.words.specs.Words.{Word, eventuallyAt, alwaysAt, untilAt, withinAt, throughoutAt}
+use Rattle.evaluator_words.specs.Bits.{on}
+use Rattle.evaluator_words.specs.Words.{Word, eventuallyAt, alwaysAt, untilAt, withinAt, throughoutAt}
 
 abbrev pub unaryAt : (T L : ℕ) → Unary → (ℕ → Bool) → ℕ → Bool
 unaryAt T L not p j = notb (p j)

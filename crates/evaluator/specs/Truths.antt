@@ -27,10 +27,10 @@ use Rattle.rules.specs.Evaluation.{unaryFrom, binaryFrom, unaryTo, binaryTo, wi
 use Rattle.rules.specs.Evaluation.{not-to, at-once, window-at, at-window}
 use Rattle.rules.specs.Words.{wordOf, word-slot, word-above, same-slots, first-bit}
 use Rattle.rules.specs.Outcome.{truthWords}
-use Rattle.words.specs.Bits.{on, on-is}
-use Rattle.words.specs.Ahead.{some, reached, some-at, at-some, front}
-use Rattle.words.specs.Words.{eventuallyKept, alwaysKept, untilKept, eventuallyAt, alwaysAt, untilAt, slotFrom, withinAt}
-use Rattle.words.specs.Windows.{slot-inside}
+use Rattle.evaluator_words.specs.Bits.{on, on-is}
+use Rattle.evaluator_words.specs.Ahead.{some, reached, some-at, at-some, front}
+use Rattle.evaluator_words.specs.Words.{eventuallyKept, alwaysKept, untilKept, eventuallyAt, alwaysAt, untilAt, slotFrom, withinAt}
+use Rattle.evaluator_words.specs.Windows.{slot-inside}
 use Rattle.evaluator.specs.Nodes.{nodeAt, unaryAt, binaryAt, windowAt}
 use Rattle.evaluator.specs.Filled.{Filled}
 

@@ -7,10 +7,10 @@ ghost use Rattle.rules.specs.Outcome.{runGood, evaluateOutcome, result, buffer}
 ghost use Rattle.rules.specs.Table as Table;
 ghost use Rattle.rules.specs.Table.{NodeGood};
 ghost use Rattle.rules.specs.TableTest.{nodesIn, recordCount};
-ghost use Rattle.answers.specs.Told.{told};
+ghost use Rattle.answers.specs.Meaning.{answerOf};
 ghost use Rattle.table.specs.Nodes.{nodeOf};
-ghost use Rattle.words.specs.Words.{Word};
-ghost use Rattle.atomwords.specs.Columns.{Columns};
+ghost use Rattle.evaluator_words.specs.Words.{Word};
+ghost use Rattle.evaluator_atoms.specs.Columns.{Columns};
 ghost use Rattle.evaluator.specs.Low.{Low};
 ghost use Rattle.evaluator.specs.Nodes.{nodeAt, Children};
 ghost use Rattle.evaluator.specs.Filled.{Filled};
@@ -105,15 +105,15 @@ fn node_word(words: &[u64], cols: &[u64; 16], t: usize, l: usize, node: Node) ->
     let to = node.to;
     match kind {
         Kind::Atom => column_of(cols, left),
-        Kind::Not => words::not(word_of(words, left), t),
-        Kind::And => words::and(word_of(words, left), word_of(words, right)),
-        Kind::Or => words::or(word_of(words, left), word_of(words, right)),
-        Kind::Implies => words::implies(word_of(words, left), word_of(words, right), t),
-        Kind::Eventually => words::eventually(word_of(words, left), t, l),
-        Kind::Always => words::always(word_of(words, left), t, l),
-        Kind::Until => words::until(word_of(words, left), word_of(words, right), t, l),
-        Kind::Within => words::eventually_within(word_of(words, left), t, l, from, to),
-        Kind::Throughout => words::always_within(word_of(words, left), t, l, from, to),
+        Kind::Not => evaluator_words::not(word_of(words, left), t),
+        Kind::And => evaluator_words::and(word_of(words, left), word_of(words, right)),
+        Kind::Or => evaluator_words::or(word_of(words, left), word_of(words, right)),
+        Kind::Implies => evaluator_words::implies(word_of(words, left), word_of(words, right), t),
+        Kind::Eventually => evaluator_words::eventually(word_of(words, left), t, l),
+        Kind::Always => evaluator_words::always(word_of(words, left), t, l),
+        Kind::Until => evaluator_words::until(word_of(words, left), word_of(words, right), t, l),
+        Kind::Within => evaluator_words::eventually_within(word_of(words, left), t, l, from, to),
+        Kind::Throughout => evaluator_words::always_within(word_of(words, left), t, l, from, to),
     }
 }
 
@@ -140,7 +140,7 @@ fn work(table: &[u8], t: usize, m: usize, l: usize, run: &[u16], out: &mut [u64]
         (length (nodesIn (now (table .entry)))) (now (out .exit)) ⌝ }
 {
     let mut cols = [0u64; 16];
-    atomwords::columns(&mut cols, run, t, m);
+    evaluator_atoms::columns(&mut cols, run, t, m);
     let count = table::count(table);
     let mut n: usize = 0;
     while n < count {
@@ -160,7 +160,7 @@ fn at_first(word: u64) -> usize
 // Writes one word for each node, "with bit t − 1 for slot t and zeros above", and answers the root's truth at slot 1. After
 // slot t comes slot l again.
 pub fn evaluate(table: &[u8], t: usize, m: usize, l: usize, run: &[u16], out: &mut [u64]) -> Answer
-    ensures { λ r. ⌜ told r ≡ result (evaluateOutcome t m l (now (table .entry)) (now (run .entry)) (length (now (out .entry)))) ⌝ }
+    ensures { λ r. ⌜ answerOf r ≡ result (evaluateOutcome t m l (now (table .entry)) (now (run .entry)) (length (now (out .entry)))) ⌝ }
     ensures { λ _. ⌜ now (out .exit) ≡ buffer (evaluateOutcome t m l (now (table .entry)) (now (run .entry)) (length (now (out .entry)))) (now (out .entry)) ⌝ }
 {
     let checked = check(table, t, m, l, run, out.len());

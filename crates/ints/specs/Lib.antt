@@ -1,3 +1,3 @@
 pub mod Sums
-pub mod Sizes
+pub mod Magnitudes
 pub mod Stored

@@ -1,4 +1,4 @@
-pub mod Ruled
+pub mod Meaning
 pub mod Checks
 pub mod Parts
 pub mod Limits

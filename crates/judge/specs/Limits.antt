@@ -14,8 +14,8 @@ use Rattle.lists.specs.First.{first, first-found, Found}
 use Rattle.rules.specs.Quantities.{one}
 use Rattle.rules.specs.Rows.{valueAt}
 use Rattle.rules.specs.Verdicts.{isOutside}
-use Rattle.limits.specs.Tests.{outsideAt}
-use Rattle.slotcheck.specs.Spreads.{Limited}
+use Rattle.judge_limits.specs.Tests.{outsideAt}
+use Rattle.judge_slot.specs.Spreads.{Limited}
 
 near : (e : ℕ) (x : ℤ) → (Is (isOutside e x) → ⊥) → natAbs x ≤ one + e
 near e (pos n) h = go (decLt (one + e) n)

@@ -14,11 +14,11 @@ use Rattle.rules.specs.Judge.Verdict.{outside, not-binary, broken, passed}
 use Rattle.rules.specs.Judge.{shortfall}
 use Rattle.rules.specs.Errors.Figures.{rootError}
 use Rattle.rules.specs.Verdicts.{orElse, firstOutside, firstNotBinary, firstBroken, brokenAt, verdict}
-use Rattle.slotcheck.specs.declared.Search.{Search}
-use Rattle.slotcheck.specs.declared.Search.the-variants.{Clear, Broken}
-use Rattle.slotcheck.specs.Searches.{tested, first-broken, shortfall-of, all-clear}
-use Rattle.slotcheck.specs.Searches as Searches
-use Rattle.limits.specs.Tests.{outsideAt, notBinaryAt}
+use Rattle.judge_slot.specs.declared.Search.{Search}
+use Rattle.judge_slot.specs.declared.Search.the-variants.{Clear, Broken}
+use Rattle.judge_slot.specs.Searches.{tested, first-broken, shortfall-of, all-clear}
+use Rattle.judge_slot.specs.Searches as Searches
+use Rattle.judge_limits.specs.Tests.{outsideAt, notBinaryAt}
 
 module _ (T M L e : ℕ) (ns : List Node) (xs : List ℤ) where
   unfoldable pub rowsVerdict : Judge.Verdict

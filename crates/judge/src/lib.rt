@@ -1,7 +1,7 @@
 // The judge of a solver's figures.
 use answers::Refusal;
-use limits::Found;
-use slotcheck::Search;
+use judge_limits::Found;
+use judge_slot::Search;
 use table::Checked;
 ghost use mathlib.Core.Path.{_≡_};
 ghost use Prim.Native.Nat.{_*_, _≤_};
@@ -11,8 +11,8 @@ ghost use Rattle.rules.specs.TableTest.{recordCount, nodesIn};
 ghost use Rattle.rules.specs.Outcome.{judgeOutcome};
 ghost use Rattle.rules.specs.Verdicts as Verdicts;
 ghost use Rattle.table.specs.Checks.{Ready};
-ghost use Rattle.slotcheck.specs.Spreads.{Limited};
-ghost use Rattle.judge.specs.Ruled.{verdictOf, ruled};
+ghost use Rattle.judge_slot.specs.Spreads.{Limited};
+ghost use Rattle.judge.specs.Meaning.{verdictOf, rulingOf};
 ghost use Rattle.judge.specs.Checks.{tolerated, counted};
 ghost use Rattle.judge.specs.Parts.{rowsVerdict, atomsVerdict};
 
@@ -45,10 +45,10 @@ fn rows_verdict(
     requires { ⌜ Ready t m l (now table) × (n ≡ recordCount (now table)) × Limited (now figures) ⌝ }
     ensures { λ r. ⌜ verdictOf r ≡ rowsVerdict t m l e (nodesIn (now (table .entry))) (now (figures .entry)) ⌝ }
 {
-    let rows = search::test_all(table, n, t, m, l, figures, e);
+    let rows = judge_search::test_all(table, n, t, m, l, figures, e);
     match rows {
         Search::Broken(shortfall, i) => Verdict::Broken(i, shortfall),
-        Search::Clear(i) => Verdict::Passed(i, errors::root_figure(table, n, t, m, l, e)),
+        Search::Clear(i) => Verdict::Passed(i, judge_errors::root_figure(table, n, t, m, l, e)),
     }
 }
 
@@ -65,8 +65,8 @@ fn atoms_verdict(
     requires { ⌜ Ready t m l (now table) × (n ≡ recordCount (now table)) × (m * t ≤ length (now figures)) × Limited (now figures) ⌝ }
     ensures { λ r. ⌜ verdictOf r ≡ atomsVerdict t m l e (nodesIn (now (table .entry))) (now (figures .entry)) ⌝ }
 {
-    let atoms = row::place(m, t) as usize;
-    let binary = limits::first_not_binary(figures, atoms, e);
+    let atoms = row::first_variable(m, t) as usize;
+    let binary = judge_limits::first_not_binary(figures, atoms, e);
     match binary {
         Found::At(v) => Verdict::NotBinary(v),
         Found::Nowhere => rows_verdict(table, n, t, m, l, figures, e),
@@ -87,7 +87,7 @@ fn verdict_of(
     ensures { λ r. ⌜ verdictOf r ≡ Verdicts.verdict t m l e (nodesIn (now (table .entry))) (now (figures .entry)) ⌝ }
 {
     let all = figures.len();
-    let outside = limits::first_outside(figures, all, e);
+    let outside = judge_limits::first_outside(figures, all, e);
     match outside {
         Found::At(v) => Verdict::Outside(v),
         Found::Nowhere => atoms_verdict(table, n, t, m, l, figures, e),
@@ -105,7 +105,7 @@ fn judge_counted(
     e: i32,
 ) -> Ruling
     requires { ⌜ Ready t m l (now table) × (n ≡ recordCount (now table)) × (length (now figures) ≡ variableCount t m l (nodesIn (now table))) ⌝ }
-    ensures { λ r. ⌜ ruled r ≡ tolerated t m l (now (table .entry)) (now (figures .entry)) e ⌝ }
+    ensures { λ r. ⌜ rulingOf r ≡ tolerated t m l (now (table .entry)) (now (figures .entry)) e ⌝ }
 {
     if e < 0 {
         return Ruling::Refused(Refusal::Tolerance);
@@ -122,13 +122,13 @@ fn variable_count(table: &[u8], n: usize, t: usize, m: usize, l: usize) -> usize
     requires { ⌜ Ready t m l (now table) × (n ≡ recordCount (now table)) ⌝ }
     ensures { λ r. ⌜ r ≡ variableCount t m l (nodesIn (now (table .entry))) ⌝ }
 {
-    row::place(m + (n + table::kept_count(table, t, l)), t) as usize
+    row::first_variable(m + (n + table::kept_count(table, t, l)), t) as usize
 }
 
 // The ruling where the table is checked.
 fn judge_checked(table: &[u8], t: usize, m: usize, l: usize, figures: &[i32], e: i32) -> Ruling
     requires { ⌜ Ready t m l (now table) ⌝ }
-    ensures { λ r. ⌜ ruled r ≡ counted t m l (now (table .entry)) (now (figures .entry)) e ⌝ }
+    ensures { λ r. ⌜ rulingOf r ≡ counted t m l (now (table .entry)) (now (figures .entry)) e ⌝ }
 {
     let n = table::count(table);
     if figures.len() != variable_count(table, n, t, m, l) {
@@ -139,7 +139,7 @@ fn judge_checked(table: &[u8], t: usize, m: usize, l: usize, figures: &[i32], e:
 
 // Judges figures, one for each variable, with a tolerance; after slot t comes slot l again. It writes nothing.
 pub fn judge(table: &[u8], t: usize, m: usize, l: usize, figures: &[i32], e: i32) -> Ruling
-    ensures { λ r. ⌜ ruled r ≡ judgeOutcome t m l (now (table .entry)) (now (figures .entry)) e ⌝ }
+    ensures { λ r. ⌜ rulingOf r ≡ judgeOutcome t m l (now (table .entry)) (now (figures .entry)) e ⌝ }
 {
     let checked = table::check(table, t, m, l);
     match checked {

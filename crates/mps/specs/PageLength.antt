@@ -11,7 +11,7 @@ use lib.IntN.{ℤ, pos, negsuc, negℤ, natAbs, _+ℤ_}
 use lib.ListN.{length, length-append, length-map, length-replicate}
 use Rattle.lists.specs.Every.{Every}
 use Rattle.lists.specs.Flat.{flat}
-use Rattle.ints.specs.Sizes.{sum-size}
+use Rattle.ints.specs.Magnitudes.{sum-magnitude}
 use Rattle.lists.specs.Passing.{passing-length}
 use Rattle.rules.specs.Rule.{Unary, Binary, Window}
 use Rattle.rules.specs.Rule.Unary.{not, eventually, always}
@@ -157,8 +157,8 @@ coefficient-size v [] h = omega arith
 coefficient-size v (t ∷ ts) h = go (eqb (t .variable) v) (coefficient-size v ts (h .1))
   where
     go : (b : Bool) → natAbs (coefficient v ts) ≤ 128 * length ts → natAbs (cond b (t .coefficient) (pos 0) +ℤ coefficient v ts) ≤ 128 * suc (length ts)
-    go true g = omega (arith, sum-size (t .coefficient) (coefficient v ts) (small-size (t .coefficient) (h .0)) g)
-    go false g = omega (arith, sum-size (pos 0) (coefficient v ts) {m = 0} (omega arith) g)
+    go true g = omega (arith, sum-magnitude (t .coefficient) (coefficient v ts) (small-size (t .coefficient) (h .0)) g)
+    go false g = omega (arith, sum-magnitude (pos 0) (coefficient v ts) {m = 0} (omega arith) g)
 
 unless-zero-short : (name : List ℕ) (i : ℕ) (c : ℤ) → length name ≤ 7 → i < 1000000 → natAbs c < 100000 → length (numberUnlessZero name i c) ≤ 40
 unfolding numberUnlessZero

@@ -8,8 +8,8 @@ fn write_page(page: &mut [u8])
     requires { ⌜ 20 ≤ length (now page) ⌝ }
 {
     let mut text = [0u8; 1025];
-    let scan = scan::read_all(&mut text);
-    let n = paging::print(scan, &text, page);
+    let scan = program_stdin::read_all(&mut text);
+    let n = mpspage_page::print(scan, &text, page);
     io::write_all(STDOUT_FILENO, &page[..n]);
 }
 

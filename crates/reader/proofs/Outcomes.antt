@@ -25,17 +25,17 @@ use Rattle.answers.specs.declared.Refusal.{Refusal}
 use Rattle.answers.specs.declared.Refusal.the-variants.{Atoms, LongText, Grammar, AtomNumber, Window, Nodes, Room}
 use Rattle.answers.specs.declared.Answer.{Answer}
 use Rattle.answers.specs.declared.Answer.the-variants.{Value, Refused}
-use Rattle.answers.specs.Told.{numberOf, told}
-use Rattle.levels.specs.declared.Step.{Step}
-use Rattle.levels.specs.declared.Step.the-variants.{Fail, Part}
-use Rattle.levels.specs.Records.{top, flaw, records, length-records}
-use Rattle.levels.specs.Steps.{Told}
-use Rattle.levels.specs.Parts.{Got, got, failed}
+use Rattle.answers.specs.Meaning.{numberOf, answerOf}
+use Rattle.reader_levels.specs.declared.Step.{Step}
+use Rattle.reader_levels.specs.declared.Step.the-variants.{Fail, Part}
+use Rattle.reader_levels.specs.Records.{top, flaw, records, length-records}
+use Rattle.reader_levels.specs.Steps.{Told}
+use Rattle.reader_levels.specs.Parts.{Got, got, failed}
 use Rattle.reader.proofs.Records.{records-table, below-top, top-below, good-flaw}
 
 -- what is promised of an answer, and of the buffer
 abbrev Kept : ℕ → List ℕ → List ℕ → List ℕ → Answer → Type 0
-Kept m s out out₁ r = (told r ≡ result (readOutcome m s (length out))) × (out₁ ≡ buffer (readOutcome m s (length out)) out)
+Kept m s out out₁ r = (answerOf r ≡ result (readOutcome m s (length out))) × (out₁ ≡ buffer (readOutcome m s (length out)) out)
 
 module _ (m : ℕ) (s out : List ℕ) where
   refuses : (r : Refusal) → readOutcome m s (length out) ≡ refused (numberOf r) → Kept m s out out (Refused r)

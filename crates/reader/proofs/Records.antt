@@ -14,7 +14,7 @@ use Rattle.rules.specs.Table.{unaryKind, binaryKind, windowKind, tableBytes, no
 use Rattle.rules.specs.RuleRecords.{recordsFrom, rule-records}
 use Rattle.rules.specs.TableTest.{windowGood}
 use Rattle.rules.specs.Outcome.{atomsBelow, windowsGood}
-use Rattle.levels.specs.Records.{top, bad, flaw, height-less, entry, records}
+use Rattle.reader_levels.specs.Records.{top, bad, flaw, height-less, entry, records}
 
 -- ---- a window that is not allowed
 

@@ -1,13 +1,13 @@
 // A rule text read into its node table: the checks, and the records copied where nothing refuses.
-use levels::Step;
+use reader_levels::Step;
 ghost use mathlib.Core.Path.{_≡_};
 ghost use lib.ListN.{length};
 ghost use Rattle.rules.specs.Outcome.{result, buffer, readOutcome};
-ghost use Rattle.answers.specs.Told.{told};
+ghost use Rattle.answers.specs.Meaning.{answerOf};
 
 // The text's node table into `out`, and its node count; or the first refusal that applies, with `out` as it was.
 pub fn read(text: &[u8], m: usize, out: &mut [u8]) -> answers::Answer
-    ensures { λ r. ⌜ told r ≡ result (readOutcome m (now (text .entry)) (length (now (out .entry)))) ⌝ }
+    ensures { λ r. ⌜ answerOf r ≡ result (readOutcome m (now (text .entry)) (length (now (out .entry)))) ⌝ }
     ensures { λ _. ⌜ now (out .exit) ≡ buffer (readOutcome m (now (text .entry)) (length (now (out .entry)))) (now (out .entry)) ⌝ }
 {
     if m < 1 {
@@ -20,7 +20,7 @@ pub fn read(text: &[u8], m: usize, out: &mut [u8]) -> answers::Answer
         return answers::Answer::Refused(answers::Refusal::LongText);
     }
     let mut scratch = [0u8; 1024];
-    match levels::whole(text, &mut scratch) {
+    match reader_levels::whole(text, &mut scratch) {
         Step::Fail => answers::Answer::Refused(answers::Refusal::Grammar),
         Step::Part {
             next,

@@ -10,7 +10,7 @@ use Rattle.table.specs.declared.Node as Table
 use Rattle.table.specs.declared.Kind.{Kind}
 use Rattle.table.specs.declared.Kind.the-variants.{Atom, Not, And, Or, Implies, Eventually, Always, Until, Within, Throughout}
 use Rattle.row.specs.declared.Block.{Block}
-use Rattle.row.specs.Kinds.{leftPart}
+use Rattle.row.specs.Kinds.{leftBlock}
 use Rattle.row.specs.NodeRows.{Own, Kept}
 
 abbrev pub Apart : Kind → (T P p q : ℕ) → Type 0
@@ -25,7 +25,7 @@ Apart Until T P p q = (p + T ≤ P) × (q + T ≤ P)
 Apart Within T P p q = p + T ≤ P
 Apart Throughout T P p q = p + T ≤ P
 
-apart : (M n T : ℕ) (k : Kind) (l r a b : ℕ) → NodeGood M n (nodeBy k l r a b) → Apart k T ((M + n) * T) (leftPart k M l * T) ((M + r) * T)
+apart : (M n T : ℕ) (k : Kind) (l r a b : ℕ) → NodeGood M n (nodeBy k l r a b) → Apart k T ((M + n) * T) (leftBlock k M l * T) ((M + r) * T)
 apart M n T Atom l r a b h = place-end T (omega arith)
 apart M n T Not l r a b h = place-end T (omega arith)
 apart M n T And l r a b h = (place-end T (omega (arith, h .0)), place-end T (omega (arith, h .1)))
@@ -37,11 +37,11 @@ apart M n T Until l r a b h = (place-end T (omega (arith, h .0)), place-end T (o
 apart M n T Within l r a b h = place-end T (omega (arith, h .0))
 apart M n T Throughout l r a b h = place-end T (omega (arith, h .0))
 
-pub apart-by : (M n T : ℕ) (k : Kind) (l r a b P p q : ℕ) → P ≡ (M + n) * T → p ≡ leftPart k M l * T → q ≡ (M + r) * T → NodeGood M n (nodeBy k l r a b) →
+pub apart-by : (M n T : ℕ) (k : Kind) (l r a b P p q : ℕ) → P ≡ (M + n) * T → p ≡ leftBlock k M l * T → q ≡ (M + r) * T → NodeGood M n (nodeBy k l r a b) →
     Apart k T P p q
 apart-by M n T k l r a b P p q e f g h =
     subst⁻¹ (λ (x : ℕ). Apart k T x p q) e
-    (subst⁻¹ (λ (x : ℕ). Apart k T ((M + n) * T) x q) f (subst⁻¹ (Apart k T ((M + n) * T) (leftPart k M l * T)) g (apart M n T k l r a b h)))
+    (subst⁻¹ (λ (x : ℕ). Apart k T ((M + n) * T) x q) f (subst⁻¹ (Apart k T ((M + n) * T) (leftBlock k M l * T)) g (apart M n T k l r a b h)))
 
 -- so it is at each slot
 pub apart-at : (k : Kind) (T P p q s : ℕ) → 1 ≤ T → Apart k T P p q → Apart k 1 (P + s) (p + s) (q + s)

@@ -66,18 +66,18 @@ length-kindRows Until false P p q P′ vs = refl
 length-kindRows Within inner P p q P′ vs = window-count within P (λ v. v) vs
 length-kindRows Throughout inner P p q P′ vs = window-count throughout P (λ v. v) vs
 
--- the part of the variables, in slots, that the left part has: an atom's own, or a node's after the M atoms'
-abbrev pub leftPart : Kind → (M left : ℕ) → ℕ
-leftPart Atom M l = l
-leftPart Not M l = M + l
-leftPart And M l = M + l
-leftPart Or M l = M + l
-leftPart Implies M l = M + l
-leftPart Eventually M l = M + l
-leftPart Always M l = M + l
-leftPart Until M l = M + l
-leftPart Within M l = M + l
-leftPart Throughout M l = M + l
+-- the block of the left part: an atom's own, or a node's after the M atoms'
+abbrev pub leftBlock : Kind → (M left : ℕ) → ℕ
+leftBlock Atom M l = l
+leftBlock Not M l = M + l
+leftBlock And M l = M + l
+leftBlock Or M l = M + l
+leftBlock Implies M l = M + l
+leftBlock Eventually M l = M + l
+leftBlock Always M l = M + l
+leftBlock Until M l = M + l
+leftBlock Within M l = M + l
+leftBlock Throughout M l = M + l
 
 -- the window that a node of a kind may have
 abbrev pub Allowed : Kind → (a b : ℕ) → Type 0
@@ -138,11 +138,11 @@ module _ (T M L : ℕ) (ns : List Node) (n : ℕ) (k : Kind) (l r a b s : ℕ) w
   loopBlock = (M + (length ns + looping (take n ns))) * T
 
   pub slot-rows : rowsAt T M L ns n (nodeBy k l r a b) (s + 1) ≡
-      rowsOn k T L (ltb L T) (loopBlock + (L - 1)) ((M + n) * T) (leftPart k M l * T) ((M + r) * T) a b s
+      rowsOn k T L (ltb L T) (loopBlock + (L - 1)) ((M + n) * T) (leftBlock k M l * T) ((M + r) * T) a b s
   slot-rows = go k
     where
       go : (k : Kind) → rowsAt T M L ns n (nodeBy k l r a b) (s + 1) ≡
-          rowsOn k T L (ltb L T) (loopBlock + (L - 1)) ((M + n) * T) (leftPart k M l * T) ((M + r) * T) a b s
+          rowsOn k T L (ltb L T) (loopBlock + (L - 1)) ((M + n) * T) (leftBlock k M l * T) ((M + r) * T) a b s
       go Atom = rw here
       go Not = rw here
       go And = rw here
@@ -175,14 +175,14 @@ module _ (T M L : ℕ) (ns : List Node) (n : ℕ) (k : Kind) (l r a b s : ℕ) w
   v-rows j e false = last-alone j e (loopBlock + s + 1) 0
 
   pub loop-slot-rows : loopsBy k ≡ true → loopRowsAt T M ns n (nodeBy k l r a b) (s + 1) ≡
-      rowsOn k T L false 0 loopBlock (leftPart k M l * T) ((M + r) * T) a b s
+      rowsOn k T L false 0 loopBlock (leftBlock k M l * T) ((M + r) * T) a b s
   loop-slot-rows = go k
     where
       never : false ≡ true → {A : Type 0} → A
       never e = let z : _≡_ {A = ℕ} 0 1 = cc in absurd (omega arith)
 
       go : (k : Kind) → loopsBy k ≡ true → loopRowsAt T M ns n (nodeBy k l r a b) (s + 1) ≡
-          rowsOn k T L false 0 loopBlock (leftPart k M l * T) ((M + r) * T) a b s
+          rowsOn k T L false 0 loopBlock (leftBlock k M l * T) ((M + r) * T) a b s
       go Eventually e = rw (next (M + (length ns + looping (take n ns))), here) (v-rows Eventually refl (ltb (s + 1) T))
       go Always e = rw (next (M + (length ns + looping (take n ns))), here) (v-rows Always refl (ltb (s + 1) T))
       go Until e = rw (next (M + (length ns + looping (take n ns))), here) (v-rows Until refl (ltb (s + 1) T))

@@ -19,7 +19,7 @@ use Rattle.table.specs.Looping.{loopsBy}
 use Rattle.table.specs.declared.Kind.{Kind}
 use Rattle.table.specs.declared.Node as Table
 use Rattle.row.specs.declared.Block.{Block}
-use Rattle.row.specs.Kinds.{rowsOn, leftPart, slot-rows, loop-slot-rows, no-loop-rows, blockCount, length-on, counted}
+use Rattle.row.specs.Kinds.{rowsOn, leftBlock, slot-rows, loop-slot-rows, no-loop-rows, blockCount, length-on, counted}
 
 -- the rows of a block at slot s + 1, and at all slots
 abbrev pub blockOn : Block → (T L s : ℕ) → List Row
@@ -45,7 +45,7 @@ nothing (suc i) = rw (nothing i) refl
 pub record Own (T M L n v : ℕ) (nd : Table.Node) (b : Block) : Type 0 where
   pub kind-is : b .kind ≡ nd .kind
   pub own-is : b .own ≡ (M + n) * T
-  pub left-is : b .left ≡ leftPart (nd .kind) M (nd .left) * T
+  pub left-is : b .left ≡ leftBlock (nd .kind) M (nd .left) * T
   pub right-is : b .right ≡ (M + nd .right) * T
   pub from-is : b .from ≡ nd .from
   pub to-is : b .to ≡ nd .to
@@ -181,7 +181,7 @@ module _ (T M L : ℕ) (ns : List Node) (n : ℕ) (nd : Table.Node) (is : nodeOf
   ownBlock = record {
     kind = nd .kind;
     own = (M + n) * T;
-    left = leftPart (nd .kind) M (nd .left) * T;
+    left = leftBlock (nd .kind) M (nd .left) * T;
     right = (M + nd .right) * T;
     from = nd .from;
     to = nd .to;

@@ -10,7 +10,7 @@ ghost use lib.IntN.{pos, negsuc, negℤ};
 ghost use Rattle.rules.specs.Rows as Definitions;
 ghost use Rattle.rules.specs.Rows.{ge, eq, plus, minus};
 ghost use Rattle.table.specs.Looping.{loopsBy};
-ghost use Rattle.row.specs.Kinds.{slotCount, leftPart, Allowed, blockCount};
+ghost use Rattle.row.specs.Kinds.{slotCount, leftBlock, Allowed, blockCount};
 ghost use Rattle.row.specs.NodeRows.{Own, Kept, nodeCount};
 ghost use Rattle.row.specs.Placed.{Small, Placed};
 ghost use Rattle.row.specs.Meaning.{rowOf};
@@ -51,12 +51,13 @@ pub struct Block {
     pub next: u16,
 }
 
-// The first variable of a part of the variables, with t slots to a part.
-pub fn place(part: usize, t: usize) -> u16
-    requires { ⌜ (part ≤ 400) × (t ≤ 64) ⌝ }
-    ensures { λ r. ⌜ (r ≡ part * t) × (r ≤ 25600) ⌝ }
+// The first variable of a block: the variables stand in blocks of t, one for each slot; the atoms' come first, then the nodes' and
+// then the V's.
+pub fn first_variable(block: usize, t: usize) -> u16
+    requires { ⌜ (block ≤ 400) × (t ≤ 64) ⌝ }
+    ensures { λ r. ⌜ (r ≡ block * t) × (r ≤ 25600) ⌝ }
 {
-    (part * t) as u16
+    (block * t) as u16
 }
 
 // The variable of node n at a slot.
@@ -64,13 +65,13 @@ pub fn slack(t: usize, m: usize, n: usize, slot: usize) -> u16
     requires { ⌜ (t ≤ 64) × (m ≤ 16) × (n ≤ 128) × (1 ≤ slot) × (slot ≤ 64) ⌝ }
     ensures { λ r. ⌜ r ≡ Definitions.slack t m n slot ⌝ }
 {
-    place(m + n, t) + (slot - 1) as u16
+    first_variable(m + n, t) + (slot - 1) as u16
 }
 
-// The part of the variables that a node's left part has: an atom's own, or a node's after the m atoms'.
-pub fn left_part(kind: Kind, m: usize, left: usize) -> usize
+// The block of a node's left part: an atom's own, or a node's after the m atoms'.
+pub fn left_block(kind: Kind, m: usize, left: usize) -> usize
     requires { ⌜ (m ≤ 16) × (left < 256) ⌝ }
-    ensures { λ r. ⌜ (r ≡ leftPart kind m left) × (r ≤ 400) ⌝ }
+    ensures { λ r. ⌜ (r ≡ leftBlock kind m left) × (r ≤ 400) ⌝ }
 {
     match kind {
         Kind::Atom => left,
@@ -255,12 +256,12 @@ pub fn slot_count(kind: Kind, inner: bool, looks: usize) -> usize
     }
 }
 
-// A slot, times rows to a slot.
-pub fn times(a: usize, b: usize) -> usize
-    requires { ⌜ (a ≤ 63) × (b ≤ 65) ⌝ }
-    ensures { λ r. ⌜ (r ≡ a * b) × (r ≤ 4095) ⌝ }
+// How many rows stand before a slot, counted from 0, with as many at each slot.
+pub fn rows_before(slot: usize, rows: usize) -> usize
+    requires { ⌜ (slot ≤ 63) × (rows ≤ 65) ⌝ }
+    ensures { λ r. ⌜ (r ≡ slot * rows) × (r ≤ 4095) ⌝ }
 {
-    a * b
+    slot * rows
 }
 
 // The block of node n, whose V has the first variable v.
@@ -269,12 +270,12 @@ pub fn own_block(node: Node, t: usize, m: usize, l: usize, n: usize, v: u16) -> 
     ensures { λ r. ⌜ Own t m l n v node r × Placed r ⌝ }
 {
     let kind = node.kind;
-    let own = place(m + n, t);
+    let own = first_variable(m + n, t);
     Block {
         kind: kind,
         own: own,
-        left: place(left_part(kind, m, node.left), t),
-        right: place(m + node.right, t),
+        left: first_variable(left_block(kind, m, node.left), t),
+        right: first_variable(m + node.right, t),
         from: node.from as u16,
         to: node.to as u16,
         loops: l < t,

@@ -3,8 +3,8 @@ use libc::STDOUT_FILENO;
 
 fn main() {
     let mut text = [0u8; 1025];
-    let scan = scan::read_all(&mut text);
+    let scan = program_stdin::read_all(&mut text);
     let mut page = [0u8; 184000];
-    let n = listing::print(scan, &text, &mut page);
+    let n = rowlist_page::print(scan, &text, &mut page);
     io::write_all(STDOUT_FILENO, &page[..n]);
 }

@@ -17,7 +17,7 @@ use Rattle.table.specs.declared.Node as Table
 use Rattle.row.specs.declared.Block.{Block}
 use Rattle.row.specs.Kinds.{Allowed, allowed}
 use Rattle.row.specs.NodeRows.{Own, hasKept, blockRows, both-rows, partRows, rowsTo, keptOf, kept-of}
-use Rattle.noderows.specs.Blocks.{block-bytes, keptPart, kept-some, kept-none, kept-bytes, kept-nothing, nodeBytes, node-parts}
+use Rattle.rows_node.specs.Blocks.{block-bytes, keptPart, kept-some, kept-none, kept-bytes, kept-nothing, nodeBytes, node-parts}
 use Rattle.rows.specs.Sizes.{nodeLength, part-length}
 
 -- the bytes of the rows of node n, and of the first k nodes
@@ -27,7 +27,7 @@ partBytes T M L ns n = rowsBytes (partRows T M L ns n)
 unfoldable pub nodesBytes : (T M L : ℕ) → List Node → (k : ℕ) → List ℕ
 nodesBytes T M L ns k = flat (partBytes T M L ns) k
 
--- node n, as it is read, and its own block; V's block has the part of the variables that comes after the nodes and the V's before it
+-- node n, as it is read, and its own block; V's block comes after the nodes and the V's before it
 module _ (T M L : ℕ) (table : List ℕ) (n part v : ℕ) (nd : Table.Node) (b : Block) (ready : Ready T M L table) (low : n < recordCount table)
     (read : NodeRead table n nd) (next : part ≡ recordCount table + loopingTo (nodesIn table) n) (at : v ≡ (M + part) * T) (own : Own T M L n v nd b) where
   abbrev ns : List Node

@@ -10,10 +10,10 @@ ghost use Rattle.lists.specs.Splice.{splice};
 ghost use Rattle.rules.specs.Rows.{rowsOf, rowsBytes};
 ghost use Rattle.rules.specs.TableTest.{recordCount, nodesIn};
 ghost use Rattle.rules.specs.Outcome.{result, buffer, rowsOutcome};
-ghost use Rattle.answers.specs.Told.{told};
+ghost use Rattle.answers.specs.Meaning.{answerOf};
 ghost use Rattle.table.specs.Checks.{Ready};
 ghost use Rattle.table.specs.Looping.{loopingTo};
-ghost use Rattle.families.specs.Put.{Wrote};
+ghost use Rattle.rows_family.specs.Put.{Wrote};
 ghost use Rattle.row.specs.Kinds.{Allowed};
 ghost use Rattle.row.specs.NodeRows.{nodeCount};
 ghost use Rattle.rows.specs.Sizes.{innerSlacks, nodeLength};
@@ -39,9 +39,9 @@ fn write_node(table: &[u8], n: usize, part: usize, plan: Plan, out: &mut [u8], a
     let m = plan.m;
     let l = plan.l;
     let node = table::node_at(table, n);
-    let v = row::place(m + part, t);
+    let v = row::first_variable(m + part, t);
     let own = row::own_block(node, t, m, l, n, v);
-    noderows::write_node(out, at, t as u16, l as u16, own, v)
+    rows_node::write_node(out, at, t as u16, l as u16, own, v)
 }
 
 // Writes the rows of a checked table's n nodes at the start of `out`, and returns the next place.
@@ -148,13 +148,13 @@ fn write_all(table: &[u8], n: usize, t: usize, m: usize, l: usize, out: &mut [u8
     ensures { λ _. ⌜ now (out .exit) ≡ splice 0 (rowsBytes (rowsOf t m l (nodesIn (now (table .entry))))) (now (out .entry)) ⌝ }
 {
     let next = write_nodes(table, n, t, m, l, out);
-    record::put_row(out, next, row::goal(row::slack(t, m, n - 1, 1)));
+    rows_record::put_row(out, next, row::goal(row::slack(t, m, n - 1, 1)));
 }
 
 // Writes the rows, where the checks are passed and there is room.
 fn write_checked(table: &[u8], t: usize, m: usize, l: usize, out: &mut [u8]) -> Answer
     requires { ⌜ Ready t m l (now table) ⌝ }
-    ensures { λ r. ⌜ told r ≡ result (rowsAnswer t m l (now (table .entry)) (length (now (out .entry)))) ⌝ }
+    ensures { λ r. ⌜ answerOf r ≡ result (rowsAnswer t m l (now (table .entry)) (length (now (out .entry)))) ⌝ }
     ensures { λ _. ⌜ now (out .exit) ≡ buffer (rowsAnswer t m l (now (table .entry)) (length (now (out .entry)))) (now (out .entry)) ⌝ }
 {
     let n = table::count(table);
@@ -169,7 +169,7 @@ fn write_checked(table: &[u8], t: usize, m: usize, l: usize, out: &mut [u8]) -> 
 
 // Writes a table's rows at the start of `out`, for t slots that loop to slot l. The result is the row count.
 pub fn write_rows(table: &[u8], t: usize, m: usize, l: usize, out: &mut [u8]) -> Answer
-    ensures { λ r. ⌜ told r ≡ result (rowsOutcome t m l (now (table .entry)) (length (now (out .entry)))) ⌝ }
+    ensures { λ r. ⌜ answerOf r ≡ result (rowsOutcome t m l (now (table .entry)) (length (now (out .entry)))) ⌝ }
     ensures { λ _. ⌜ now (out .exit) ≡ buffer (rowsOutcome t m l (now (table .entry)) (length (now (out .entry)))) (now (out .entry)) ⌝ }
 {
     let checked = table::check(table, t, m, l);

@@ -24,7 +24,7 @@ use Rattle.rules.specs.Outcome.{result, readOutcome, evaluateOutcome, rowsOutco
 use Rattle.rules.specs.Exactness.Tests.{at-least}
 use Rattle.rules.specs.Theorems.{reader-exact, evaluator-exact, rows-exact, judge-exact}
 use Rattle.mps.specs.Proved.{looping-le, if-le}
-use Rattle.pages.specs.Answers.{Short}
+use Rattle.mps_page.specs.Answers.{Short}
 use Rattle.sepia.specs.Boundary.{Fits, verdictValue, VerdictFits}
 
 -- an outcome's result fits, where every result that it may have does

@@ -3,14 +3,14 @@ ghost use mathlib.Core.Path.{_≡_};
 ghost use lib.ListN.{length};
 ghost use Rattle.rules.specs.Outcome.{result, buffer, readOutcome, evaluateOutcome, rowsOutcome, judgeOutcome};
 ghost use Rattle.rules.specs.Words.{firstSlot};
-ghost use Rattle.answers.specs.Told.{told};
+ghost use Rattle.answers.specs.Meaning.{answerOf};
 ghost use Rattle.mps.specs.Outcome.{pageOutcome};
-ghost use Rattle.judge.specs.Ruled.{ruled, verdictOf};
+ghost use Rattle.judge.specs.Meaning.{rulingOf, verdictOf};
 ghost use Rattle.sepia.specs.Boundary.{version, inC, Fits, slotInC, verdictNumber, verdictValue, verdictShortfall, verdictError, verdictInC, VerdictFits};
 use answers::Answer;
+use evaluator_words::FirstSlot;
 use judge::Ruling;
 use judge::Verdict;
-use words::FirstSlot;
 
 // The version of this boundary, for a caller to compare with its header's.
 #[no_mangle]
@@ -28,8 +28,8 @@ pub struct SepiaAnswer {
 }
 
 fn plain(answer: Answer) -> SepiaAnswer
-    requires { ⌜ Fits (told answer) ⌝ }
-    ensures { λ r. ⌜ r ≡ inC (told answer) ⌝ }
+    requires { ⌜ Fits (answerOf answer) ⌝ }
+    ensures { λ r. ⌜ r ≡ inC (answerOf answer) ⌝ }
 {
     match answer {
         Answer::Value(n) => SepiaAnswer {
@@ -73,7 +73,7 @@ pub extern "C" fn sepia_evaluate(
 pub extern "C" fn sepia_first_slot(word: u64) -> u32
     ensures { λ r. ⌜ r ≡ slotInC (firstSlot word) ⌝ }
 {
-    match words::first_slot(word) {
+    match evaluator_words::first_slot(word) {
         FirstSlot::Slot(t) => t as u32,
         FirstSlot::None => 0,
     }
@@ -106,7 +106,7 @@ pub extern "C" fn sepia_mps(
     ensures { λ r. ⌜ r ≡ inC (result (pageOutcome t m l (now (table .entry)) (length (now (out .entry))))) ⌝ }
     ensures { λ _. ⌜ now (out .exit) ≡ buffer (pageOutcome t m l (now (table .entry)) (length (now (out .entry)))) (now (out .entry)) ⌝ }
 {
-    plain(pages::mps_page(table, t, m, l, out))
+    plain(mps_page::mps_page(table, t, m, l, out))
 }
 
 // A refusal's number; or 0, the verdict's number, its value, its error figure and its shortfall.
@@ -164,8 +164,8 @@ fn verdict_error(verdict: Verdict) -> u32
 }
 
 fn plain_verdict(ruling: Ruling) -> SepiaVerdict
-    requires { ⌜ VerdictFits (ruled ruling) ⌝ }
-    ensures { λ r. ⌜ r ≡ verdictInC (ruled ruling) ⌝ }
+    requires { ⌜ VerdictFits (rulingOf ruling) ⌝ }
+    ensures { λ r. ⌜ r ≡ verdictInC (rulingOf ruling) ⌝ }
 {
     match ruling {
         Ruling::Refused(r) => SepiaVerdict {

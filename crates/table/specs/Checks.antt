@@ -14,7 +14,7 @@ use Rattle.rules.specs.Outcome.{between, require, tableChecked}
 use Rattle.rules.specs.Exactness.Tests.{between-true}
 use Rattle.rules.specs.Table.{NodeGood, nodeAt}
 use Rattle.rules.specs.TableTest.{good, recordGood, recordCount, nodesIn, good-sound, length-nodesIn}
-use Rattle.answers.specs.Told.{numberOf}
+use Rattle.answers.specs.Meaning.{numberOf}
 use Rattle.answers.specs.declared.Refusal.{Refusal}
 use Rattle.answers.specs.declared.Refusal.the-variants.{Slots, Atoms, Loop, Table}
 use Rattle.table.specs.declared.Checked.{Checked}

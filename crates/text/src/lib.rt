@@ -40,7 +40,7 @@ pub fn put_decimal(out: &mut [u8], at: usize, n: usize) -> usize
 }
 
 // A number without its sign.
-pub fn size(c: i64) -> usize
+pub fn magnitude(c: i64) -> usize
     requires { ⌜ natAbs c ≤ 1099511627776 ⌝ }
     ensures { λ r. ⌜ r ≡ natAbs c ⌝ }
 {

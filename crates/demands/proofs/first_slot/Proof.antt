@@ -1,4 +1,4 @@
--- `demands::first_slot` meets its contract, from the contract of `words::first_slot`.
+-- `demands::first_slot` meets its contract, from the contract of `evaluator_words::first_slot`.
 use mathlib.Core.Path.{subst⁻¹}
 use Rattle.rules.specs.Words.{first-slot-exact}
 use Rattle.demands.specs.Demand2.{FirstAnswers}

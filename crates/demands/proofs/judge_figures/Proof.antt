@@ -2,7 +2,7 @@
 use mathlib.Core.Path.{ap, _∙_}
 use mir.Facts.{toZ-ofZ}
 use Rattle.rules.specs.Outcome.{judgeOutcome}
-use Rattle.judge.specs.Ruled.{ruled}
+use Rattle.judge.specs.Meaning.{rulingOf}
 use Rattle.demands.specs.Refusing.{judge-refuses}
 use Rattle.demands.specs.Answering.{judge-answers}
 use Rattle.demands.specs.Passing.{passed-means, passed-at-zero, passed-near}
@@ -21,7 +21,7 @@ returns c =
     let a = s .args in
     let k = c .judge in
     let told = k .ensures ∙ ap (judgeOutcome (a .t) (a .m) (a .l) (a .table .now) (a .figures .now)) (toZ-ofZ (s .fits .e)) in
-    let r = ruled (k .result) in (
+    let r = rulingOf (k .result) in (
       judge-refuses (a .t) (a .m) (a .l) (a .table .now) (a .figures .now) (a .e) r told,
       (
         judge-answers (a .t) (a .m) (a .l) (a .table .now) (a .figures .now) (a .e) r told,

@@ -1,5 +1,5 @@
--- `demands::mps_page` meets its contract: demands 1 and 2 and what the page says, from the contract of `pages::mps_page`.
-use Rattle.answers.specs.Told.{told}
+-- `demands::mps_page` meets its contract: demands 1 and 2 and what the page says, from the contract of `mps_page::mps_page`.
+use Rattle.answers.specs.Meaning.{answerOf}
 use Rattle.demands.specs.Paging.{page-refuses, page-answers, page-means}
 use borrow.Author.Needs.{needs}
 use Rattle.demands.proofs.mps_page.Statement.{statement}
@@ -15,10 +15,10 @@ returns : tie.Need-returns
 returns c =
     let a = c .before .before .before .before .before .before .args in
     let k = c .before .before .mps-page in (
-      page-refuses (a .t) (a .m) (a .l) (a .table .now) (told (k .result)) (a .out .now) (k .last .1 .1 .1 .1 .0) (k .ensures .0) (k .ensures .1 .0),
+      page-refuses (a .t) (a .m) (a .l) (a .table .now) (answerOf (k .result)) (a .out .now) (k .last .1 .1 .1 .1 .0) (k .ensures .0) (k .ensures .1 .0),
       (
-        page-answers (a .t) (a .m) (a .l) (a .table .now) (told (k .result)) (a .out .now) (k .last .1 .1 .1 .1 .0) (k .ensures .0) (k .ensures .1 .0),
-        page-means (a .t) (a .m) (a .l) (a .table .now) (told (k .result)) (a .out .now) (k .last .1 .1 .1 .1 .0) (k .ensures .0) (k .ensures .1 .0),
+        page-answers (a .t) (a .m) (a .l) (a .table .now) (answerOf (k .result)) (a .out .now) (k .last .1 .1 .1 .1 .0) (k .ensures .0) (k .ensures .1 .0),
+        page-means (a .t) (a .m) (a .l) (a .table .now) (answerOf (k .result)) (a .out .now) (k .last .1 .1 .1 .1 .0) (k .ensures .0) (k .ensures .1 .0),
       ),
     )
 

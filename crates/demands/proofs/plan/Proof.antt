@@ -2,7 +2,7 @@
 use mathlib.Core.Path.{sym, ap, _∙_}
 use native.Mathlib.Omega.{arith}
 use lib.Seq.{length-take-le}
-use Rattle.answers.specs.Told.{told}
+use Rattle.answers.specs.Meaning.{answerOf}
 use Rattle.demands.proofs.Calls.{read-room, read-refused, rows-refused, evaluate-refused, done}
 use borrow.Author.Needs.{needs}
 use Rattle.demands.proofs.plan.Statement.{statement}
@@ -22,7 +22,7 @@ mul-end c =
     let a = c .before .before .before .before .before .before .before .before .before .before .before .before .args in
     let k = c .before .before .before .before .before .read in
     let n = c .before .n .given in
-    let r = read-room (a .m) (a .text .now) (a .table .now) (k .last .1 .1 .0) (n .0 .0) (sym (ap told (n .1)) ∙ k .ensures .0) (k .ensures .1) in
+    let r = read-room (a .m) (a .text .now) (a .table .now) (k .last .1 .1 .0) (n .0 .0) (sym (ap answerOf (n .1)) ∙ k .ensures .0) (k .ensures .1) in
     omega (arith, r)
 
 slice-reshare-prefix-write-rows : tie.Need-slice-reshare-prefix-write-rows
@@ -30,7 +30,7 @@ slice-reshare-prefix-write-rows c =
     let a = c .before .before .before .before .before .before .before .before .before .before .before .before .args in
     let k = c .before .before .before .before .before .read in
     let n = c .before .n .given in
-    let r = read-room (a .m) (a .text .now) (a .table .now) (k .last .1 .1 .0) (n .0 .0) (sym (ap told (n .1)) ∙ k .ensures .0) (k .ensures .1) in
+    let r = read-room (a .m) (a .text .now) (a .table .now) (k .last .1 .1 .0) (n .0 .0) (sym (ap answerOf (n .1)) ∙ k .ensures .0) (k .ensures .1) in
     omega (arith, r)
 
 slice-aggregate-write-rows : tie.Need-slice-aggregate-write-rows
@@ -38,7 +38,7 @@ slice-aggregate-write-rows c =
     let a = c .before .before .before .before .before .before .before .before .before .before .before .before .before .args in
     let k = c .before .before .before .before .before .before .read in
     let n = c .before .before .n .given in
-    let r = read-room (a .m) (a .text .now) (a .table .now) (k .last .1 .1 .0) (n .0 .0) (sym (ap told (n .1)) ∙ k .ensures .0) (k .ensures .1) in
+    let r = read-room (a .m) (a .text .now) (a .table .now) (k .last .1 .1 .0) (n .0 .0) (sym (ap answerOf (n .1)) ∙ k .ensures .0) (k .ensures .1) in
     sym (length-take-le _ _ (omega (arith, r)))
 
 write-rows-requires : tie.Need-write-rows-requires
@@ -56,7 +56,7 @@ slice-reshare-prefix-evaluate c =
     .before .before .before .before .before .before .before .args in
     let k = c .before .before .before .before .before .before .before .before .before .before .before .before .before .read in
     let n = c .before .before .before .before .before .before .before .before .before .n .given in
-    let r = read-room (a .m) (a .text .now) (a .table .now) (k .last .1 .1 .0) (n .0 .0) (sym (ap told (n .1)) ∙ k .ensures .0) (k .ensures .1) in
+    let r = read-room (a .m) (a .text .now) (a .table .now) (k .last .1 .1 .0) (n .0 .0) (sym (ap answerOf (n .1)) ∙ k .ensures .0) (k .ensures .1) in
     omega (arith, r)
 
 slice-aggregate-evaluate : tie.Need-slice-aggregate-evaluate
@@ -65,7 +65,7 @@ slice-aggregate-evaluate c =
     .before .before .before .before .before .before .before .before .args in
     let k = c .before .before .before .before .before .before .before .before .before .before .before .before .before .before .read in
     let n = c .before .before .before .before .before .before .before .before .before .before .n .given in
-    let r = read-room (a .m) (a .text .now) (a .table .now) (k .last .1 .1 .0) (n .0 .0) (sym (ap told (n .1)) ∙ k .ensures .0) (k .ensures .1) in
+    let r = read-room (a .m) (a .text .now) (a .table .now) (k .last .1 .1 .0) (n .0 .0) (sym (ap answerOf (n .1)) ∙ k .ensures .0) (k .ensures .1) in
     sym (length-take-le _ _ (omega (arith, r)))
 
 evaluate-requires : tie.Need-evaluate-requires
@@ -86,7 +86,7 @@ returns c =
     let k = c .before .before .before .before .before .read in
     let r = c .before .r .given in
     read-refused (a .t) (a .m) (a .l) (a .text .now) (a .run .now) (a .table .now) (a .rows .now) (a .truth .now)
-    (k .last .1 .1 .0) (k .ensures .1) _ _ _ (r .0 .0) (sym (ap told (r .1)) ∙ k .ensures .0)
+    (k .last .1 .1 .0) (k .ensures .1) _ _ _ (r .0 .0) (sym (ap answerOf (r .1)) ∙ k .ensures .0)
 
 same-length-2 : tie.Need-same-length-2
 same-length-2 c = search needs
@@ -103,7 +103,7 @@ returns-2 c =
     let w = c .before .before .before .before .before .write-rows in
     let r = c .before .r2 .given in
     rows-refused (a .t) (a .m) (a .l) (a .text .now) (a .run .now) (a .table .now) (a .rows .now) (a .truth .now)
-    (k .last .1 .1 .0) (k .ensures .1) _ _ _ (n .0 .0) (sym (ap told (n .1)) ∙ k .ensures .0) (r .0 .0) (sym (ap told (r .1)) ∙ w .ensures .0)
+    (k .last .1 .1 .0) (k .ensures .1) _ _ _ (n .0 .0) (sym (ap answerOf (n .1)) ∙ k .ensures .0) (r .0 .0) (sym (ap answerOf (r .1)) ∙ w .ensures .0)
 
 same-length-4 : tie.Need-same-length-4
 same-length-4 c = search needs
@@ -125,7 +125,7 @@ returns-3 c =
     let w = c .before .before .before .before .before .evaluate in
     let r = c .before .r3 .given in
     evaluate-refused (a .t) (a .m) (a .l) (a .text .now) (a .run .now) (a .table .now) (a .rows .now) (a .truth .now)
-    (k .last .1 .1 .0) (k .ensures .1) _ _ _ (n .0 .0) (sym (ap told (n .1)) ∙ k .ensures .0) (r .0 .0) (sym (ap told (r .1)) ∙ w .ensures .0)
+    (k .last .1 .1 .0) (k .ensures .1) _ _ _ (n .0 .0) (sym (ap answerOf (n .1)) ∙ k .ensures .0) (r .0 .0) (sym (ap answerOf (r .1)) ∙ w .ensures .0)
 
 same-length-7 : tie.Need-same-length-7
 same-length-7 c = search needs
@@ -149,8 +149,8 @@ returns-4 c =
     let e = c .before .before .before .before .before .evaluate in
     let v = c .before .v .given in
     done (a .t) (a .m) (a .l) (a .text .now) (a .run .now) (a .table .now) (a .rows .now) (a .truth .now)
-    (k .last .1 .1 .0) (k .ensures .1) (n .0 .0) (count .0 .0) (v .0 .0) _ _ (sym (ap told (n .1)) ∙ k .ensures .0)
-    (sym (ap told (count .1)) ∙ w .ensures .0) (w .ensures .1) (sym (ap told (v .1)) ∙ e .ensures .0) (e .ensures .1)
+    (k .last .1 .1 .0) (k .ensures .1) (n .0 .0) (count .0 .0) (v .0 .0) _ _ (sym (ap answerOf (n .1)) ∙ k .ensures .0)
+    (sym (ap answerOf (count .1)) ∙ w .ensures .0) (w .ensures .1) (sym (ap answerOf (v .1)) ∙ e .ensures .0) (e .ensures .1)
 
 pub plan-spec : {M : Type 1} → statement M
 plan-spec =

@@ -1,5 +1,5 @@
 -- `demands::read` meets its contract: demands 1 and 2 and the heights, from the contract of `reader::read`.
-use Rattle.answers.specs.Told.{told}
+use Rattle.answers.specs.Meaning.{answerOf}
 use Rattle.demands.specs.Refusing.{reader-refuses}
 use Rattle.demands.specs.Answering.{reader-answers, reader-heights}
 use borrow.Author.Needs.{needs}
@@ -16,10 +16,10 @@ returns : tie.Need-returns
 returns c =
     let a = c .before .before .before .before .before .before .args in
     let k = c .before .before .read in (
-      reader-refuses (a .m) (a .text .now) (told (k .result)) (a .out .now) (k .last .1 .1 .0) (k .ensures .0) (k .ensures .1),
+      reader-refuses (a .m) (a .text .now) (answerOf (k .result)) (a .out .now) (k .last .1 .1 .0) (k .ensures .0) (k .ensures .1),
       (
-        reader-answers (a .m) (a .text .now) (told (k .result)) (a .out .now) (k .last .1 .1 .0) (k .ensures .0) (k .ensures .1),
-        reader-heights (a .m) (a .text .now) (told (k .result)) (a .out .now) (k .last .1 .1 .0) (k .ensures .0) (k .ensures .1),
+        reader-answers (a .m) (a .text .now) (answerOf (k .result)) (a .out .now) (k .last .1 .1 .0) (k .ensures .0) (k .ensures .1),
+        reader-heights (a .m) (a .text .now) (answerOf (k .result)) (a .out .now) (k .last .1 .1 .0) (k .ensures .0) (k .ensures .1),
       ),
     )
 

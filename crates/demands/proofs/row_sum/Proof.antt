@@ -1,4 +1,4 @@
--- `demands::row_sum` meets its contract, from the contract of `sums::row_sum`.
+-- `demands::row_sum` meets its contract, from the contract of `judge_sums::row_sum`.
 use mathlib.Core.Path.{subst⁻¹}
 use Rattle.row.specs.Meaning.{termsOf}
 use Rattle.demands.specs.RowSum.{PositiveFirst}

@@ -1,5 +1,5 @@
 -- `demands::write_rows` meets its contract: demands 1 and 2, from the contract of `rows::write_rows`.
-use Rattle.answers.specs.Told.{told}
+use Rattle.answers.specs.Meaning.{answerOf}
 use Rattle.demands.specs.Refusing.{row-writer-refuses}
 use Rattle.demands.specs.Answering.{row-writer-answers}
 use borrow.Author.Needs.{needs}
@@ -16,8 +16,8 @@ returns : tie.Need-returns
 returns c =
     let a = c .before .before .before .before .before .before .args in
     let k = c .before .before .write-rows in (
-      row-writer-refuses (a .t) (a .m) (a .l) (a .table .now) (told (k .result)) (a .out .now) (k .last .1 .1 .1 .1 .0) (k .ensures .0) (k .ensures .1),
-      row-writer-answers (a .t) (a .m) (a .l) (a .table .now) (told (k .result)) (a .out .now) (k .last .1 .1 .1 .1 .0) (k .ensures .0) (k .ensures .1),
+      row-writer-refuses (a .t) (a .m) (a .l) (a .table .now) (answerOf (k .result)) (a .out .now) (k .last .1 .1 .1 .1 .0) (k .ensures .0) (k .ensures .1),
+      row-writer-answers (a .t) (a .m) (a .l) (a .table .now) (answerOf (k .result)) (a .out .now) (k .last .1 .1 .1 .1 .0) (k .ensures .0) (k .ensures .1),
     )
 
 pub write-rows-spec : {M : Type 1} → statement M

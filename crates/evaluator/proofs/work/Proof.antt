@@ -6,7 +6,7 @@ use borrow.Author.Needs.{needs}
 use lib.ListN.{length}
 use Rattle.rules.specs.Table.{nodeAt}
 use Rattle.rules.specs.TableTest.{nodesIn, length-nodesIn}
-use Rattle.atomwords.specs.Packing.{blank-zeros}
+use Rattle.evaluator_atoms.specs.Packing.{blank-zeros}
 use Rattle.evaluator.specs.Low.{low-atom}
 use Rattle.evaluator.specs.Nodes.{children-there}
 use Rattle.evaluator.specs.Filled.{Filled, filled-none, filled-more}

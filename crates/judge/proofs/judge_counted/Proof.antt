@@ -11,7 +11,7 @@ use mir.Val.{Fits, toZ, ofZ}
 use mir.Facts.{toZ-ofZ}
 use Rattle.ints.specs.Stored.{abs-sfits}
 use Rattle.rules.specs.Demands.Answer.{answered}
-use Rattle.ints.specs.Sizes.{size-above}
+use Rattle.ints.specs.Magnitudes.{magnitude-above}
 use Rattle.judge.specs.Checks.{not-below, tolerance-below, tolerance-above, tolerance-within}
 use Rattle.judge.proofs.judge_counted.Statement.{statement}
 use Rattle.judge.proofs.judge_counted.Tie as tie
@@ -20,7 +20,7 @@ whole : (c : tie.Else1) → ltZ (c .before .before .args .e) (pos 0) ≡ false
 whole c = ap (λ (z : ℤ). ltZ z (pos 0)) (sym (toZ-ofZ (c .before .before .fits .e))) ∙ c .if1 .left
 
 tolerance-is : (c : tie.Else1) → c .before .before .args .e ≡ pos (natAbs (toZ w32 (ofZ w32 (c .before .before .args .e))))
-tolerance-is c = size-above (c .before .before .args .e) (whole c) ∙ ap (λ (z : ℤ). pos (natAbs z)) (sym (toZ-ofZ (c .before .before .fits .e)))
+tolerance-is c = magnitude-above (c .before .before .args .e) (whole c) ∙ ap (λ (z : ℤ). pos (natAbs z)) (sym (toZ-ofZ (c .before .before .fits .e)))
 
 returns : tie.Need-returns
 returns c =

@@ -1,7 +1,7 @@
 -- `judge::verdict_of` meets its contract. A variable outside is found, or none. Assumes nothing.
 use mathlib.Core.Path.{sym, ap, _∙_}
 use native.Mathlib.Omega.{arith}
-use Rattle.limits.specs.Tests.{found}
+use Rattle.judge_limits.specs.Tests.{found}
 use Rattle.judge.specs.Limits.{limited}
 use Rattle.judge.specs.Parts.{outside-found, outside-clear}
 use borrow.Author.Needs.{needs}

@@ -10,7 +10,7 @@ use lib.IntN.{ℤ, pos, negsuc, negℤ, _-ℤ_}
 use mir.Syntax.{w8}
 use mir.Val.{toZ}
 use mir.Facts.{toZ-ofZ, toZ-pos}
-use Rattle.ints.specs.Sizes.{difference-size}
+use Rattle.ints.specs.Magnitudes.{difference-magnitude}
 use Rattle.ints.specs.Stored.{sfits-by}
 use Rattle.row.proofs.less_one.Statement.{statement}
 use Rattle.row.proofs.less_one.Tie as tie
@@ -30,7 +30,7 @@ cast-result : tie.Need-cast-result
 cast-result c = search needs
 
 sub-result : tie.Need-sub-result
-sub-result c = sfits-by (difference c) (let h = difference-size (pos 1) (pos (c .args .k)) (le-refl 1) (le-refl (c .args .k)) in omega (arith, c .pre .1))
+sub-result c = sfits-by (difference c) (let h = difference-magnitude (pos 1) (pos (c .args .k)) (le-refl 1) (le-refl (c .args .k)) in omega (arith, c .pre .1))
 
 returns : tie.Need-returns
 returns c = toZ-ofZ (sub-result c) ∙ difference c ∙ one-less (c .args .k) (c .pre .0)

@@ -6,23 +6,23 @@ use borrow.Author.Needs.{needs}
 use Rattle.row.proofs.own_block.Statement.{statement}
 use Rattle.row.proofs.own_block.Tie as tie
 
-add-place : tie.Need-add-place
-add-place c = search needs
+add-first-variable : tie.Need-add-first-variable
+add-first-variable c = search needs
 
-place-requires : tie.Need-place-requires
-place-requires c κs = search needs
+first-variable-requires : tie.Need-first-variable-requires
+first-variable-requires c κs = search needs
 
-left-part-requires : tie.Need-left-part-requires
-left-part-requires c κs = search needs
+left-block-requires : tie.Need-left-block-requires
+left-block-requires c κs = search needs
 
-place-requires-2 : tie.Need-place-requires-2
-place-requires-2 c κs = search needs
+first-variable-requires-2 : tie.Need-first-variable-requires-2
+first-variable-requires-2 c κs = search needs
 
-add-place-2 : tie.Need-add-place-2
-add-place-2 c = search needs
+add-first-variable-2 : tie.Need-add-first-variable-2
+add-first-variable-2 c = search needs
 
-place-requires-3 : tie.Need-place-requires-3
-place-requires-3 c κs = search needs
+first-variable-requires-3 : tie.Need-first-variable-requires-3
+first-variable-requires-3 c κs = search needs
 
 cast-t13 : tie.Need-cast-t13
 cast-t13 c = search needs
@@ -42,10 +42,10 @@ add-t18 c = search needs
 returns : tie.Need-returns
 returns c =
     let a = c .before .before .before .before .before .before .before .args in
-    let own = c .before .before .before .before .before .before .place .ensures in
-    let part = c .before .before .before .before .before .left-part .ensures in
-    let left = c .before .before .before .before .place2 .ensures in
-    let right = c .before .before .place3 .ensures in (
+    let own = c .before .before .before .before .before .before .first-variable .ensures in
+    let part = c .before .before .before .before .before .left-block .ensures in
+    let left = c .before .before .before .before .first-variable2 .ensures in
+    let right = c .before .before .first-variable3 .ensures in (
       record {
         kind-is = refl;
         own-is = own .0;
@@ -63,12 +63,12 @@ pub own-block-spec : {M : Type 1} → statement M
 own-block-spec =
     tie.close
     (tie.spec
-    add-place
-    place-requires
-    left-part-requires
-    place-requires-2
-    add-place-2
-    place-requires-3
+    add-first-variable
+    first-variable-requires
+    left-block-requires
+    first-variable-requires-2
+    add-first-variable-2
+    first-variable-requires-3
     cast-t13
     cast-t14
     sub-t16

@@ -4,9 +4,9 @@ use Prim.Native.Nat.{ℕ}
 use native.Mathlib.Omega.{arith}
 use lib.ListN.{replicate, length-replicate}
 use lib.Seq.{length-take-le}
-use Rattle.input.specs.Scanning.{state}
-use Rattle.listing.specs.Page.{shown}
-use Rattle.listing.specs.Exact.{page-length}
+use Rattle.program_input.specs.Scanning.{state}
+use Rattle.rowlist_page.specs.Page.{shown}
+use Rattle.rowlist_page.specs.Exact.{page-length}
 use borrow.Author.Needs.{needs}
 use Rattle.rowlist.proofs.main.Statement.{statement}
 use Rattle.rowlist.proofs.main.Tie as tie

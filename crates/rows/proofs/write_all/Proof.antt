@@ -8,7 +8,7 @@ use lib.ListN.{length}
 use Rattle.lists.specs.Filling.{splice-as, splice-then}
 use Rattle.rules.specs.Rows.{rowsOf, rowsBytes}
 use Rattle.rules.specs.TableTest.{nodesIn, length-nodesIn}
-use Rattle.record.specs.Records.{recordOf, record-is}
+use Rattle.rows_record.specs.Records.{recordOf, record-is}
 use Rattle.row.specs.NodeRows.{goal-is}
 use Rattle.rows.specs.Parts.{nodesBytes, lengthTo, before-goal, bytes-are}
 use Rattle.rows.proofs.write_all.Statement.{statement}

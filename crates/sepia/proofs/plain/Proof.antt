@@ -2,7 +2,7 @@
 use mathlib.Core.Path.{sym, ap, subst, _∙_}
 use Prim.Native.Nat.{ℕ}
 use native.Mathlib.Omega.{arith}
-use Rattle.answers.specs.Told.{told}
+use Rattle.answers.specs.Meaning.{answerOf}
 use Rattle.answers.specs.declared.Answer.{Answer}
 use Rattle.sepia.specs.declared.SepiaAnswer.{SepiaAnswer}
 use Rattle.sepia.specs.Boundary.{inC, Fits}
@@ -15,7 +15,7 @@ enum-known-answer c = search needs
 
 cast-t5 : tie.Need-cast-t5
 cast-t5 c =
-    let h = subst (λ (a : Answer). Fits (told a)) (c .before .answer .given .1) (c .before .before .before .pre) in
+    let h = subst (λ (a : Answer). Fits (answerOf a)) (c .before .answer .given .1) (c .before .before .before .pre) in
     record { fits = omega (arith, h) }
 
 enum-known-answer-2 : tie.Need-enum-known-answer-2
@@ -25,12 +25,12 @@ number-requires : tie.Need-number-requires
 number-requires c κs = search needs
 
 returns : tie.Need-returns
-returns c = ap (λ (a : Answer). inC (told a)) (sym (c .before .answer .given .1))
+returns c = ap (λ (a : Answer). inC (answerOf a)) (sym (c .before .answer .given .1))
 
 returns-2 : tie.Need-returns-2
 returns-2 c =
     ap (λ (k : ℕ). let r : SepiaAnswer = record { refusal = k; value = 0 } in r) (c .number .ensures)
-    ∙ ap (λ (a : Answer). inC (told a)) (sym (c .before .before .answer2 .given .1))
+    ∙ ap (λ (a : Answer). inC (answerOf a)) (sym (c .before .before .answer2 .given .1))
 
 pub plain-spec : {M : Type 1} → statement M
 plain-spec =

@@ -5,7 +5,7 @@ use native.Mathlib.Omega.{arith}
 use lib.IntN.{ℤ, pos}
 use mir.Syntax.{w64}
 use mir.Facts.{toZ-ofZ}
-use Rattle.judge.specs.Ruled.{ruled}
+use Rattle.judge.specs.Meaning.{rulingOf}
 use Rattle.judge.specs.declared.Ruling.{Ruling}
 use Rattle.sepia.specs.declared.SepiaVerdict.{SepiaVerdict}
 use Rattle.sepia.specs.Boundary.{verdictInC, VerdictFits}
@@ -35,7 +35,7 @@ verdict-value-requires c κs = search needs
 
 cast-t8 : tie.Need-cast-t8
 cast-t8 c =
-    let h = subst (λ (x : Ruling). VerdictFits (ruled x)) (c .before .before .before .ruling2 .given .1) (c .before .before .before .before .before .pre) in
+    let h = subst (λ (x : Ruling). VerdictFits (rulingOf x)) (c .before .before .before .ruling2 .given .1) (c .before .before .before .before .before .pre) in
     record { fits = omega (arith, h, c .verdict-value .ensures) }
 
 verdict-error-requires : tie.Need-verdict-error-requires
@@ -47,7 +47,7 @@ verdict-shortfall-requires c κs = search needs
 returns : tie.Need-returns
 returns c =
     ap (λ (k : ℕ). let r : SepiaVerdict = record { refusal = k; verdict = 0; value = 0; error = 0; shortfall = pos 0 } in r) (c .number .ensures)
-    ∙ ap (λ (x : Ruling). verdictInC (ruled x)) (sym (c .before .before .ruling .given .1))
+    ∙ ap (λ (x : Ruling). verdictInC (rulingOf x)) (sym (c .before .before .ruling .given .1))
 
 returns-2 : tie.Need-returns-2
 returns-2 c =
@@ -56,7 +56,7 @@ returns-2 c =
     let number = value .before in
     same (number .verdict-number .ensures) (value .verdict-value .ensures) (error .verdict-error .ensures)
     (toZ-ofZ {w = w64} {z = c .verdict-shortfall .result} (search needs) ∙ c .verdict-shortfall .ensures)
-    ∙ ap (λ (x : Ruling). verdictInC (ruled x)) (sym (number .before .before .ruling2 .given .1))
+    ∙ ap (λ (x : Ruling). verdictInC (rulingOf x)) (sym (number .before .before .ruling2 .given .1))
 
 pub plain-verdict-spec : {M : Type 1} → statement M
 plain-verdict-spec =

@@ -3,8 +3,8 @@ use mathlib.Core.Path.{_≡_, sym, ap, _∙_}
 use mathlib.Core.Option.{none, some}
 use native.Mathlib.Omega.{arith}
 use Rattle.rules.specs.Words.{firstSlot}
-use Rattle.words.specs.Told.{toldSlot}
-use Rattle.words.specs.First.{slot-most}
+use Rattle.evaluator_words.specs.Meaning.{firstSlotOf}
+use Rattle.evaluator_words.specs.First.{slot-most}
 use Rattle.sepia.specs.Boundary.{slotInC}
 use borrow.Author.Needs.{needs}
 use Rattle.sepia.proofs.sepia_first_slot.Statement.{statement}
@@ -19,17 +19,17 @@ enum-known-t c = search needs
 cast-result : tie.Need-cast-result
 cast-result c =
     let a = c .before .before .before .before .args in
-    let h = slot-most (a .word) _ (sym (ap toldSlot (c .before .t .given .1)) ∙ c .before .before .before .first-slot .ensures) in
+    let h = slot-most (a .word) _ (sym (ap firstSlotOf (c .before .t .given .1)) ∙ c .before .before .before .first-slot .ensures) in
     record { fits = omega (arith, h) }
 
 enum-told : tie.Need-enum-told
 enum-told c = search needs
 
 returns : tie.Need-returns
-returns c = ap slotInC (sym (ap toldSlot (c .before .t .given .1)) ∙ c .before .before .before .first-slot .ensures)
+returns c = ap slotInC (sym (ap firstSlotOf (c .before .t .given .1)) ∙ c .before .before .before .first-slot .ensures)
 
 returns-2 : tie.Need-returns-2
-returns-2 c = ap slotInC (sym (ap toldSlot (c .enum-told .given .1)) ∙ c .before .before .first-slot .ensures)
+returns-2 c = ap slotInC (sym (ap firstSlotOf (c .enum-told .given .1)) ∙ c .before .before .first-slot .ensures)
 
 pub sepia-first-slot-spec : {M : Type 1} → statement M
 sepia-first-slot-spec =

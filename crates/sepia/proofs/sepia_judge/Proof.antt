@@ -5,7 +5,7 @@ use mir.Facts.{toZ-ofZ}
 use Rattle.rules.specs.Judge.{Verdict}
 use Rattle.rules.specs.Demands.{Answer}
 use Rattle.rules.specs.Outcome.{judgeOutcome}
-use Rattle.judge.specs.Ruled.{ruled}
+use Rattle.judge.specs.Meaning.{rulingOf}
 use Rattle.sepia.specs.Boundary.{verdictInC, VerdictFits}
 use Rattle.sepia.proofs.Bounds.{judge-fits}
 use borrow.Author.Needs.{needs}

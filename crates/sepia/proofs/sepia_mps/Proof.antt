@@ -1,6 +1,6 @@
 -- `sepia::sepia_mps` meets its contract, from that of the call.
 use mathlib.Core.Path.{ap, _∙_}
-use Rattle.answers.specs.Told.{told}
+use Rattle.answers.specs.Meaning.{answerOf}
 use Rattle.sepia.specs.Boundary.{inC}
 use Rattle.sepia.proofs.Bounds.{short-fits}
 use borrow.Author.Needs.{needs}
@@ -11,7 +11,7 @@ mps-page-requires : tie.Need-mps-page-requires
 mps-page-requires c κs = search needs
 
 plain-requires : tie.Need-plain-requires
-plain-requires c κs = short-fits (told (c .before .before .mps-page .result)) (c .before .before .mps-page .ensures .1 .1)
+plain-requires c κs = short-fits (answerOf (c .before .before .mps-page .result)) (c .before .before .mps-page .ensures .1 .1)
 
 same-length : tie.Need-same-length
 same-length c = search needs

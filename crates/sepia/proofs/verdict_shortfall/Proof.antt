@@ -3,7 +3,7 @@ use mathlib.Core.Path.{_≡_, sym, ap, _∙_}
 use borrow.Author.Needs.{needs}
 use mir.Syntax.{w64}
 use mir.Facts.{toZ-ofZ}
-use Rattle.judge.specs.Ruled.{verdictOf}
+use Rattle.judge.specs.Meaning.{verdictOf}
 use Rattle.judge.specs.declared.Verdict.{Verdict}
 use Rattle.sepia.specs.Boundary.{verdictShortfall}
 use Rattle.sepia.proofs.verdict_shortfall.Statement.{statement}

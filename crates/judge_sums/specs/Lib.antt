@@ -1,0 +1,4 @@
+pub mod Meaning
+pub mod Sums
+pub mod Laws
+pub mod Windows

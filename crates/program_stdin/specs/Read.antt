@@ -1,0 +1,37 @@
+-- What is known of input that was read: the scan stands for some bytes. Which ones the C library handed over no contract says.
+use mathlib.Core.Path.{_≡_, sym, ap, _∙_}
+use mathlib.Core.List.{List, [], _++_}
+use Prim.Native.Nat.{ℕ}
+use lib.ListN.{length}
+use Rattle.program_input.specs.declared.Scan.{Scan}
+use Rattle.program_input.specs.declared.Stage.the-variants.{Start}
+use Rattle.program_input.specs.Scanning.{State, state, begin, steps}
+use Rattle.program_input.specs.Exact.{steps-append, started}
+use Rattle.program_stdin.specs.declared.Turn.{Turn}
+use Rattle.program_stdin.specs.declared.Turn.the-variants.{More, End}
+
+-- a scan that began with nothing read, and the text that it keeps, stand for an input
+pub record Scanned (room : ℕ) (scan : Scan) (text : List ℕ) : Type 0 where
+  pub bytes : List ℕ
+  pub leads : state scan text ≡ steps room begin bytes
+
+-- a chunk was scanned, or the input was at its end and the text is as it was
+abbrev pub Turned : Scan → (text text′ : List ℕ) → Turn → Type 0
+Turned s text text′ (More r) = (chunk : List ℕ) × (state r text′ ≡ steps (length text) (state s text) chunk)
+Turned s text text′ End = text′ ≡ text
+
+pub scanned-none : (room : ℕ) (s : Scan) (text : List ℕ) → (s .stage ≡ Start) × (s .slots ≡ 0) × (s .atoms ≡ 0) × (s .kept ≡ 0) → Scanned room s text
+unfolding steps
+scanned-none room s text e = record { bytes = []; leads = started s text e }
+
+module _ {room : ℕ} {s : Scan} {text text′ : List ℕ} (d : Scanned room s text) where
+  pub scanned-more : {t : Turn} {r : Scan} → length text ≡ room → t ≡ More r → Turned s text text′ t → Scanned room r text′
+  scanned-more {t} {r} l e h =
+      let c = rw e at h in
+      record {
+        bytes = d .bytes ++ c .0;
+        leads = c .1 ∙ rw l (ap (λ (x : State). steps room x (c .0)) (d .leads) ∙ sym (steps-append room begin (d .bytes) (c .0)));
+      }
+
+  pub scanned-end : {t : Turn} → t ≡ End → Turned s text text′ t → Scanned room s text′
+  scanned-end e h = let f = rw e at h in rw f d

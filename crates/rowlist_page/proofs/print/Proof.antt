@@ -1,0 +1,57 @@
+-- `rowlist_page::print` meets its contract.
+use mathlib.Core.Path.{sym}
+use native.Mathlib.Omega.{arith}
+use lib.Seq.{length-take-le}
+use Rattle.rowlist_page.specs.Outcomes.{shown-listing, shown-bad}
+use borrow.Author.Needs.{needs}
+use Rattle.rowlist_page.proofs.print.Statement.{statement}
+use Rattle.rowlist_page.proofs.print.Tie as tie
+
+is-shaped-requires : tie.Need-is-shaped-requires
+is-shaped-requires c κs = search needs
+
+least-requires : tie.Need-least-requires
+least-requires c κs = search needs
+
+slice-aggregate-list : tie.Need-slice-aggregate-list
+slice-aggregate-list c =
+    sym (length-take-le (c .before .least .result) (c .before .before .before .before .before .args .text .now) (omega (arith, c .before .least .ensures)))
+
+list-requires : tie.Need-list-requires
+list-requires c κs = search needs
+
+returns : tie.Need-returns
+returns c =
+    let a = c .before .before .before .before .before .before .before .args in
+    let q = c .before .before .before .before .before .is-shaped in
+    let n = c .before .before .before .least in
+    let p = c .list .ensures in
+    let e = shown-listing (a .scan) (a .text .now) (q .result) (n .result) (q .ensures) (c .before .before .before .before .if1 .taken) (n .ensures) in
+    rw e ((omega (arith, p .0 .ends), p .1), p .0 .content)
+
+slice-aggregate-put-bytes : tie.Need-slice-aggregate-put-bytes
+slice-aggregate-put-bytes c = search needs
+
+put-bytes-requires : tie.Need-put-bytes-requires
+put-bytes-requires c κs = search needs
+
+returns-2 : tie.Need-returns-2
+returns-2 c =
+    let a = c .before .before .before .before .before .before .args in
+    let q = c .before .before .before .before .is-shaped in
+    let p = c .put-bytes .ensures in
+    let e = shown-bad (a .scan) (a .text .now) (q .result) (q .ensures) (c .before .before .before .if1 .left) in
+    rw e ((omega (arith, p .ends), omega (arith, p .ends)), p .content)
+
+pub print-spec : {M : Type 1} → statement M
+print-spec =
+    tie.close
+    (tie.spec
+    is-shaped-requires
+    least-requires
+    slice-aggregate-list
+    list-requires
+    returns
+    slice-aggregate-put-bytes
+    put-bytes-requires
+    returns-2)

@@ -1,0 +1,53 @@
+-- `rows_family::put_implies` meets its contract. Three rows, one after the other. Assumes nothing.
+use native.Mathlib.Omega.{arith}
+use borrow.Author.Needs.{needs}
+use Rattle.rows_family.specs.Put.{put-none, put-more, record-length}
+use Rattle.rows_family.proofs.put_implies.Statement.{statement}
+use Rattle.rows_family.proofs.put_implies.Tie as tie
+
+either-requires : tie.Need-either-requires
+either-requires c κs = search needs
+
+put-row-requires : tie.Need-put-row-requires
+put-row-requires c κs = omega (arith, record-length (c .either .result) (c .either .ensures))
+
+above-requires : tie.Need-above-requires
+above-requires c κs = search needs
+
+put-row-requires-2 : tie.Need-put-row-requires-2
+put-row-requires-2 c κs = omega (arith, record-length (c .before .before .before .before .before .either .result) (c .before .before .before .before .before .either .ensures), record-length (c .above .result) (c .above .ensures), c .before .before .before .before .put-row .ensures .0)
+
+forced-requires : tie.Need-forced-requires
+forced-requires c κs = search needs
+
+put-row-requires-3 : tie.Need-put-row-requires-3
+put-row-requires-3 c κs = omega (arith, record-length (c .before .before .before .before .before .before .before .before .before .before .either .result) (c .before .before .before .before .before .before .before .before .before .before .either .ensures), record-length (c .before .before .before .before .before .above .result) (c .before .before .before .before .before .above .ensures), record-length (c .forced .result) (c .forced .ensures), c .before .before .before .before .before .before .before .before .before .put-row .ensures .0, c .before .before .before .before .put-row2 .ensures .0)
+
+same-length : tie.Need-same-length
+same-length c = search needs
+
+returns : tie.Need-returns
+returns c =
+    let r1 = c .before .before .before .before .before .before .before .before .before .before .before .before .before .either in
+    let p1 = c .before .before .before .before .before .before .before .before .before .before .before .before .put-row in
+    let l1 = record-length (r1 .result) (r1 .ensures) in
+    let r2 = c .before .before .before .before .before .before .before .before .above in
+    let p2 = c .before .before .before .before .before .before .before .put-row2 in
+    let l2 = record-length (r2 .result) (r2 .ensures) in
+    let r3 = c .before .before .before .forced in
+    let p3 = c .before .before .put-row3 in
+    let l3 = record-length (r3 .result) (r3 .ensures) in
+    put-more (put-more (put-more (put-none _ _) (r1 .result) (r1 .ensures) (omega (arith, c .before .before .before .before .before .before .before .before .before .before .before .before .before .before .before .before .pre)) (p1 .ensures .0) (p1 .ensures .1)) (r2 .result) (r2 .ensures) (omega (arith, l1, p1 .ensures .0, c .before .before .before .before .before .before .before .before .before .before .before .before .before .before .before .before .pre)) (p2 .ensures .0) (p2 .ensures .1)) (r3 .result) (r3 .ensures) (omega (arith, l1, p1 .ensures .0, l2, p2 .ensures .0, c .before .before .before .before .before .before .before .before .before .before .before .before .before .before .before .before .pre)) (p3 .ensures .0) (p3 .ensures .1)
+
+pub put-implies-spec : {M : Type 1} → statement M
+put-implies-spec =
+    tie.close
+    (tie.spec
+    either-requires
+    put-row-requires
+    above-requires
+    put-row-requires-2
+    forced-requires
+    put-row-requires-3
+    same-length
+    returns)

@@ -1,4 +1,0 @@
-pub mod Summed
-pub mod Sums
-pub mod Laws
-pub mod Windows

@@ -1,7 +1,0 @@
-pub mod Bits
-pub mod Ahead
-pub mod Words
-pub mod Rounds
-pub mod Told
-pub mod First
-pub mod Windows
