@@ -36,7 +36,7 @@ fn pack(block: &mut [u64; 16], run: &[u16], t: usize, w: usize)
 {
     let mut place: usize = 0;
     while place < t {
-        lay(block, run, place, evaluator_words::smaller(w, t - place));
+        lay(block, run, place, scalars::smaller(w, t - place));
         place += w;
     }
 }

@@ -2,7 +2,7 @@
 // loop slot l, which comes after it again, count from 1.
 ghost use mathlib.Core.Path.{_≡_};
 ghost use mathlib.Core.Bool.{Bool, not, _&&_, _||_};
-ghost use Prim.Native.Nat.{ℕ, _+_, _-_, _^_, _≤_, _<_, min};
+ghost use Prim.Native.Nat.{ℕ, _+_, _-_, _^_, _≤_, _<_};
 ghost use Rattle.rules.specs.Words.{firstSlot};
 ghost use Rattle.evaluator_words.specs.Bits.{on};
 ghost use Rattle.evaluator_words.specs.Ahead.{some, Doubled};
@@ -31,13 +31,6 @@ fn is_on(w: u64, s: usize) -> bool
     ensures { λ r. ⌜ r ≡ on w s ⌝ }
 {
     (w >> s) % 2 == 1
-}
-
-// The smaller of two numbers.
-pub fn smaller(a: usize, b: usize) -> usize
-    ensures { λ r. ⌜ r ≡ min a b ⌝ }
-{
-    if a < b { a } else { b }
 }
 
 // Not p.
@@ -217,7 +210,7 @@ fn within_next(p: u64, t: usize, l: usize, n: usize) -> u64
     let near = some_ahead(p, n + 1);
     let first = u64::trailing_zeros(p >> (l - 1)) as usize;
     let all = ones(t);
-    near | without(all, all >> (n - smaller(first, n)))
+    near | without(all, all >> (n - scalars::smaller(first, n)))
 }
 
 // F[a,b] p with the loop slot t: "a slot after T counts as T".

@@ -181,7 +181,7 @@ fn work_later(figures: &mut [u32], t: usize, l: usize, n: usize, parts: Parts, e
     let mut sum = end_figure(figures, t, l, parts, e);
     let mut s = t;
     while 0 < s {
-        let follows = table::either(s < t, loops);
+        let follows = scalars::either(s < t, loops);
         s -= 1;
         sum += e as u32 + later_sum(figures, t, s, parts, follows);
         figures[here + s] = stopped(sum);
@@ -246,7 +246,7 @@ fn work_one(table: &[u8], n: usize, t: usize, l: usize, e: u16, figures: &mut [u
     let two = table::is_binary(kind);
     let parts = Parts {
         left: left,
-        right: table::pick(two, node.right, left),
+        right: scalars::pick(two, node.right, left),
         two: two,
     };
     let over = Windowed {

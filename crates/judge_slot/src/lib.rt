@@ -69,14 +69,8 @@ fn go_on(state: Search, rows: u16) -> Search
 {
     match state {
         Search::Broken(first, i) => Search::Broken(first, i),
-        Search::Clear(i) => Search::Clear(i + wide(rows)),
+        Search::Clear(i) => Search::Clear(i + scalars::wide(rows)),
     }
-}
-
-fn wide(n: u16) -> usize
-    ensures { λ r. ⌜ r ≡ n ⌝ }
-{
-    n as usize
 }
 
 // Whether a row of this shortfall is broken.
@@ -234,14 +228,14 @@ fn joined(a: Spread, b: Spread) -> Spread
 fn start(p: u16, looks: Looks) -> usize
     ensures { λ r. ⌜ (r ≡ p + looks .first) × (r < 131072) ⌝ }
 {
-    wide(p) + wide(looks.first)
+    scalars::wide(p) + scalars::wide(looks.first)
 }
 
 // The end of the part's variables at the slots of a window.
 fn past(p: u16, looks: Looks) -> usize
     ensures { λ r. ⌜ r ≡ p + looks .first + looks .count + looks .skip ⌝ }
 {
-    start(p, looks) + wide(looks.count) + wide(looks.skip)
+    start(p, looks) + scalars::wide(looks.count) + scalars::wide(looks.skip)
 }
 
 // Of a part's figures at the slots of a window, which are in one range or in two.
@@ -250,11 +244,11 @@ fn window_spread(figures: &[i32], p: u16, looks: Looks) -> Spread
     ensures { λ r. ⌜ SpreadOf (now (figures .entry)) (variableAt looks p) (looks .count) r ⌝ }
 {
     let from = start(p, looks);
-    let head = wide(looks.head);
-    let rest = wide(looks.rest);
+    let head = scalars::wide(looks.head);
+    let rest = scalars::wide(looks.rest);
     let first = spread_of(figures, from, head);
     if 0 < rest {
-        let second = spread_of(figures, from + head + wide(looks.skip), rest);
+        let second = spread_of(figures, from + head + scalars::wide(looks.skip), rest);
         return joined(first, second);
     }
     first

@@ -2,7 +2,6 @@
 use millionths::Millionths;
 use row::Relation;
 use row::Row;
-use row::Term;
 use row::Terms;
 ghost use mathlib.Core.Path.{_≡_};
 ghost use mathlib.Core.List.{List, [], _∷_, _++_, map};
@@ -77,17 +76,11 @@ pub fn is_not_binary(figure: i32, e: u16) -> bool
     }
 }
 
-fn wide(v: u16) -> usize
-    ensures { λ r. ⌜ r ≡ v ⌝ }
-{
-    v as usize
-}
-
 // The figure of a variable.
 pub fn figure_of(figures: &[i32], variable: u16) -> i32
     ensures { λ r. ⌜ r ≡ valueAt (now (figures .entry)) variable ⌝ }
 {
-    let at = wide(variable);
+    let at = scalars::wide(variable);
     if at < figures.len() { figures[at] } else { 0 }
 }
 

@@ -1,5 +1,5 @@
 -- How long a page is at most: each term of the rows gives at most one line of a column, so a page has as many lines as terms, rows and variables.
-use mathlib.Core.Path.{_≡_, refl, sym, ap, ap₂, _∙_}
+use mathlib.Core.Path.{_≡_, refl, ap}
 use mathlib.Core.Bool.{Bool, true, false, cond}
 use mathlib.Core.List.{List, [], _∷_, _++_, map}
 use Prim.Native.Nat.{ℕ, zero, suc, _+_, _-_, _*_, _≤_, _<_}
@@ -26,10 +26,10 @@ use Rattle.rules.specs.Rows.Relation.{at-least, equal}
 use Rattle.rules.specs.RowRecords.{Small, Recordable, rows-recordable}
 use Rattle.rules.specs.RowCount.{rows-count}
 use Rattle.text.specs.Decimal.{decimal, signedText, below-1000, below-100000, below-1000000}
-use Rattle.mps.specs.Words.{NAME, ROWS, COLUMNS, RHS, BOUNDS, ENDATA, COST, N, G, E, BND, BV, UP, R, X}
+use Rattle.mps.specs.Words.{RHS, COST, N, G, E, BND, BV, UP, R, X}
 use Rattle.mps.specs.Proved.{looping-le, if-le}
 use Rattle.mps.specs.Merged.{coefficient, isZero, stands}
-use Rattle.mps.specs.Page.{field, ended, rowName, variableName, typeText, typeLine, rowLine, numberLine, numberUnlessZero, entryLine, rightLine, eachRow, costLine, columnLines, binaryLine, upperLine, boundLine, rowSection, columnSection, rightSection, boundSection, pageOf, page}
+use Rattle.mps.specs.Page.{field, rowName, variableName, typeText, typeLine, rowLine, numberLine, numberUnlessZero, entryLine, rightLine, eachRow, costLine, columnLines, binaryLine, upperLine, boundLine, rowSection, columnSection, rightSection, boundSection, pageOf, page}
 
 -- ---- sums over 0, 1, .., n − 1
 

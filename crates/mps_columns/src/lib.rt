@@ -87,11 +87,11 @@ fn put_at(
     let more = s + 1 < t;
     let spot = Spot {
         kind: kind,
-        inner: table::either(more, block.loops),
+        inner: scalars::either(more, block.loops),
         own: own,
         left: block.left as usize + s,
         right: block.right as usize + s,
-        next: table::pick(more, own + 1, block.next as usize),
+        next: scalars::pick(more, own + 1, block.next as usize),
     };
     mps_entry::put_entries(out, at, v, i, spot)
 }
@@ -131,11 +131,11 @@ fn put_plain(
     requires { ⌜ Whole t block × AtSlot t s v ⌝ }
     ensures { λ r. ⌜ Emitted at (kindLines v block t start s) (now (out .entry)) (now (out .exit)) r × (r ≤ at + 320) ⌝ }
 {
-    if table::both(block.loops, v == block.next as usize) {
+    if scalars::both(block.loops, v == block.next as usize) {
         return put_at(out, at, v, start, block, t - 1, t);
     }
     let kind = block.kind;
-    if table::both(table::loops(kind), v == block.own as usize + s) {
+    if scalars::both(table::loops(kind), v == block.own as usize + s) {
         return put_around(out, at, v, start, block, s, t);
     }
     put_at(out, at, v, start, block, s, t)
@@ -164,14 +164,14 @@ fn misses(over: Over, v: usize) -> bool
     ensures { λ r. ⌜ Missed over v r ⌝ }
 {
     let looks = over.looks;
-    let first = mps_window::wide(over.left) + mps_window::wide(looks.first);
-    if v == mps_window::wide(over.own) {
+    let first = scalars::wide(over.left) + scalars::wide(looks.first);
+    if v == scalars::wide(over.own) {
         return false;
     }
     if v < first {
         return true;
     }
-    if v < first + mps_window::wide(looks.count) + mps_window::wide(looks.skip) {
+    if v < first + scalars::wide(looks.count) + scalars::wide(looks.skip) {
         return false;
     }
     true
@@ -223,7 +223,7 @@ fn put_windows(
     while s < t {
         let over = over_at(block, within, t, l, s);
         let looks = over.looks;
-        let count = mps_window::wide(looks.count);
+        let count = scalars::wide(looks.count);
         next = put_seen(out, next, v, i, over);
         i += count + 1;
         s += 1;

@@ -1,9 +1,8 @@
 -- The words of digits: one digit, or the two of a number below 100, before the bytes of a word.
-use mathlib.Core.Path.{_≡_, refl, sym, ap, ap₂, _∙_}
-use mathlib.Core.List.{List, [], _∷_, _++_}
+use mathlib.Core.Path.{_≡_, refl, ap, ap₂, _∙_}
+use mathlib.Core.List.{List, _∷_, _++_}
 use Prim.Native.Nat.{ℕ, suc, _+_, _*_, _/_, _%_, _≤_, _<_}
 use native.Mathlib.Omega.{arith}
-use lib.ListN.{length, replicate}
 use Rattle.endian.specs.Words.{littleEndian, next-bytes}
 use Rattle.text.specs.Decimal.{decimal, pairText, decimal-low, decimal-pair, decimal-pairs}
 use Rattle.mps_line.specs.Fields.{padded}

@@ -1,5 +1,5 @@
 -- The fields of a line as they are put: what stands there, and the spaces up to the next field.
-use mathlib.Core.Path.{_≡_, refl, sym, ap, ap₂, _∙_}
+use mathlib.Core.Path.{_≡_, refl, sym, ap, _∙_}
 use mathlib.Core.List.{List, [], _∷_, _++_, append-assoc}
 use Prim.Native.Nat.{ℕ, zero, suc, _+_, _-_, _≤_}
 use native.Mathlib.Omega.{arith}
@@ -8,7 +8,6 @@ use lib.ListN.{length, replicate, length-append, length-replicate}
 use Rattle.lists.specs.Splice.{splice, sets-splice}
 use Rattle.text.specs.Decimal.{decimal, signedText}
 use Rattle.text.specs.Put.{Put}
-use Rattle.mps.specs.Words.{BND, BV, UP}
 use Rattle.mps.specs.Page.{field, ended, variableName, typeLine, numberLine, binaryLine, upperLine}
 
 abbrev space : ℕ

@@ -83,7 +83,7 @@ fn spot_of(block: Block, t: u16, l: u16, s: u16) -> Spot
     let looks = look_from(kind, t, l, s, block.from, block.to);
     Spot {
         kind: kind,
-        inner: table::either(more, block.loops),
+        inner: scalars::either(more, block.loops),
         own: own,
         left: block.left + s,
         right: block.right + s,

@@ -8,7 +8,7 @@ ghost use mathlib.Core.Path.{_≡_};
 ghost use mathlib.Core.Bool.{cond};
 ghost use Prim.Native.Nat.{_+_, _≤_, _<_};
 ghost use lib.Dec.{eqb};
-ghost use lib.IntN.{ℤ, pos, natAbs};
+ghost use lib.IntN.{pos, natAbs};
 ghost use Rattle.mps.specs.Merged.{coefficient};
 ghost use Rattle.mps.specs.Page.{numberUnlessZero};
 ghost use Rattle.row.specs.Meaning.{relationOf, termsOf, rowOf};

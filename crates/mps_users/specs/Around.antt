@@ -8,7 +8,6 @@ use lib.Dec.{eqb, ltb}
 use borrow.Author.Tests.{ltb-true, eqb-false}
 use lib.ListN.{length}
 use Rattle.lists.specs.Every.{Every, every-append}
-use Rattle.lists.specs.Flat.{flat}
 use Rattle.lists.specs.Passing.{every-passing}
 use Rattle.lists.specs.Place.{place-unique}
 use Rattle.rules.specs.Quantities.{LoopAllowed}

@@ -18,16 +18,16 @@ fn is_used(kind: Kind, left: usize, right: usize, m: usize, n: usize, x: usize) 
     let first = x == m + left;
     let second = x == m + right;
     match kind {
-        Kind::Atom => table::either(own, x == left),
-        Kind::Not => table::either(own, first),
-        Kind::And => table::either(own, table::either(first, second)),
-        Kind::Or => table::either(own, table::either(first, second)),
-        Kind::Implies => table::either(own, table::either(first, second)),
-        Kind::Eventually => table::either(own, first),
-        Kind::Always => table::either(own, first),
-        Kind::Until => table::either(own, table::either(first, second)),
-        Kind::Within => table::either(own, first),
-        Kind::Throughout => table::either(own, first),
+        Kind::Atom => scalars::either(own, x == left),
+        Kind::Not => scalars::either(own, first),
+        Kind::And => scalars::either(own, scalars::either(first, second)),
+        Kind::Or => scalars::either(own, scalars::either(first, second)),
+        Kind::Implies => scalars::either(own, scalars::either(first, second)),
+        Kind::Eventually => scalars::either(own, first),
+        Kind::Always => scalars::either(own, first),
+        Kind::Until => scalars::either(own, scalars::either(first, second)),
+        Kind::Within => scalars::either(own, first),
+        Kind::Throughout => scalars::either(own, first),
     }
 }
 

@@ -5,10 +5,9 @@ use mathlib.Core.Bool.{Bool, true, false, cond, not}
 use mathlib.Core.List.{List, [], _∷_, _++_, map, append-nil}
 use Prim.Native.Nat.{ℕ, zero, suc, _+_, _-_, _<_}
 use native.Mathlib.Omega.{arith}
-use lib.Dec.{eqb}
 use borrow.Author.Tests.{ne-eqb, eq-eqb}
 use lib.IntN.{ℤ, pos, negsuc, _+ℤ_, +ℤ-idl}
-use lib.ListN.{length, length-map, length-append}
+use lib.ListN.{length, length-map}
 use Rattle.lists.specs.Every.{Every, every-append}
 use Rattle.lists.specs.Flat.{flat, flat-same}
 use Rattle.lists.specs.Tabulate.{tabulate, length-tabulate, tabulate-same}
@@ -16,7 +15,7 @@ use Rattle.rules.specs.Rule.{Window}
 use Rattle.rules.specs.Rule.Window.{within, throughout}
 use Rattle.rules.specs.Rows.{Term, Row, plus, minus}
 use Rattle.mps.specs.Merged.{coefficient}
-use Rattle.mps.specs.Page.{rowName, variableName, numberLine, numberUnlessZero, entryLine, eachRow}
+use Rattle.mps.specs.Page.{variableName, numberUnlessZero, entryLine, eachRow}
 use Rattle.row.specs.Kinds.{overRows}
 use Rattle.mps_line.specs.Units.{one, unitLine}
 use Rattle.mps_row.specs.Laws.{each-append}

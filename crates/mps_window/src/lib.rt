@@ -84,19 +84,13 @@ enum Place {
     Nowhere,
 }
 
-pub fn wide(n: u16) -> usize
-    ensures { λ r. ⌜ (r ≡ n) × (r < 65536) ⌝ }
-{
-    n as usize
-}
-
 fn place_of(looks: Looks, left: u16, v: usize) -> Place
     requires { ⌜ Few looks ⌝ }
     ensures { λ r. ⌜ Placed looks left v r ⌝ }
 {
-    let first = wide(left) + wide(looks.first);
-    let head = wide(looks.head);
-    let skip = wide(looks.skip);
+    let first = scalars::wide(left) + scalars::wide(looks.first);
+    let head = scalars::wide(looks.head);
+    let skip = scalars::wide(looks.skip);
     if v < first {
         return Place::Nowhere;
     }
@@ -107,7 +101,7 @@ fn place_of(looks: Looks, left: u16, v: usize) -> Place
     if i < head + skip {
         return Place::Nowhere;
     }
-    if i - skip < wide(looks.count) {
+    if i - skip < scalars::wide(looks.count) {
         return Place::At(i - skip);
     }
     Place::Nowhere
@@ -146,8 +140,8 @@ pub fn put_entries(out: &mut [u8], at: usize, v: usize, i: usize, over: Over) ->
 {
     let looks = over.looks;
     let within = over.within;
-    let count = wide(looks.count);
-    if v == wide(over.own) {
+    let count = scalars::wide(looks.count);
+    if v == scalars::wide(over.own) {
         return put_own(out, at, v, i, within, count);
     }
     let place = place_of(looks, over.left, v);
@@ -163,7 +157,7 @@ pub fn put_window(out: &mut [u8], at: usize, text: Text, i: usize, over: Over) -
     ensures { λ r. ⌜ Emitted at (eachRow (lineOf text) i (overRows (windowBy (over .within)) (over .own) (variables (over .looks) (over .left)))) (now (out .entry)) (now (out .exit)) r × (r ≤ at + 2600) ⌝ }
 {
     let looks = over.looks;
-    let count = wide(looks.count);
+    let count = scalars::wide(looks.count);
     match text {
         Text::Typed => put_types(out, at, i, count + 1),
         Text::Right => put_right(out, at, i + count, over.within, count),

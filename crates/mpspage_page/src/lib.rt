@@ -42,7 +42,7 @@ pub fn print(scan: program_input::Scan, text: &[u8], out: &mut [u8]) -> usize
     let m = scan.atoms;
     let kept = scan.kept;
     if program_input::is_shaped(stage) {
-        let end = rowlist_page::least(kept, text.len());
+        let end = scalars::smaller(kept, text.len());
         return page_rule(&text[..end], t, m, out);
     }
     text::put_bytes(out, 0, b"bad input\n")

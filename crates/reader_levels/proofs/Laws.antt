@@ -13,7 +13,6 @@ use Rattle.rules.specs.RuleSize.{size-positive}
 use Rattle.rules.specs.Rule.{Unary, Binary, Window, Rule, size, height}
 use Rattle.rules.specs.Rule.Unary.{not, eventually, always}
 use Rattle.rules.specs.Rule.Binary.{implies}
-use Rattle.rules.specs.Rule.Window.{within, throughout}
 use Rattle.rules.specs.Grammar.{Level, tighter, sign}
 use Rattle.rules.specs.Grammar.Level.{of, single}
 use Rattle.rules.specs.Table.{unaryKind, binaryKind, windowKind}

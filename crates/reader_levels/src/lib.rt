@@ -126,7 +126,7 @@ fn join(
             bad: f,
             high: h,
         } => {
-            let over = table::larger(high, h) + 1;
+            let over = scalars::larger(high, h) + 1;
             put(
                 out,
                 m,
@@ -142,8 +142,8 @@ fn join(
             pack(
                 next,
                 m + 1,
-                table::larger(top, b),
-                table::larger(bad, f),
+                scalars::larger(top, b),
+                scalars::larger(bad, f),
                 over,
             )
         }
@@ -181,7 +181,7 @@ fn cap(out: &mut [u8; 1024], kind: u8, from: usize, to: usize, inner: usize) -> 
                 next,
                 m + 1,
                 top,
-                table::larger(bad, outside(from, to)),
+                scalars::larger(bad, outside(from, to)),
                 over,
             )
         }

@@ -32,12 +32,6 @@ pub struct Bound {
     pub next: usize,
 }
 
-fn wide(x: u8) -> usize
-    ensures { λ r. ⌜ r ≡ x ⌝ }
-{
-    x as usize
-}
-
 // The first position from `at` on that holds no space.
 pub fn skip(text: &[u8], at: usize) -> usize
     ensures { λ r. ⌜ r ≡ start (now (text .entry)) at ⌝ }
@@ -68,7 +62,7 @@ fn digits(text: &[u8], from: usize) -> Run
     let mut i = from;
     let mut v: usize = 0;
     while i < text.len() {
-        let x = wide(text[i]);
+        let x = scalars::wide_byte(text[i]);
         if x < 48 {
             return Run { end: i, value: v };
         }

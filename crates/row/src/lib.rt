@@ -305,7 +305,7 @@ pub fn kept_block(block: Block, v: u16) -> Block
 pub fn has_kept(kind: Kind, t: usize, l: usize) -> bool
     ensures { λ r. ⌜ r ≡ (ltb l t && loopsBy kind) ⌝ }
 {
-    table::both(l < t, table::loops(kind))
+    scalars::both(l < t, table::loops(kind))
 }
 
 // How many rows F, G and U have at the last slot: one where nothing follows it.

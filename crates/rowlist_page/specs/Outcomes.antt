@@ -11,7 +11,7 @@ use lib.ListN.{length, getD, take, drop, length-append, length-drop}
 use lib.Seq.{take-at, drop-at, take-all}
 use Rattle.lists.specs.Every.{Every}
 use Rattle.rules.specs.Rule.{size}
-use Rattle.rules.specs.Table.{Node, tableBytes, nodesOf}
+use Rattle.rules.specs.Table.{tableBytes, nodesOf}
 use Rattle.rules.specs.TableTest.{length-table}
 use Rattle.rules.specs.TableRules.{length-nodesFrom}
 use Rattle.rules.specs.Rows.{Row, rowBytes, rowsBytes, rowsOf, rowIn, rowsIn}

@@ -1,7 +1,7 @@
 // The page of program rowlist.
 ghost use mathlib.Core.Path.{_≡_};
 ghost use mathlib.Core.List.{_++_};
-ghost use Prim.Native.Nat.{_+_, _*_, min, _≤_};
+ghost use Prim.Native.Nat.{_+_, _*_, _≤_};
 ghost use lib.ListN.{length};
 ghost use lib.Seq.{sets};
 ghost use Rattle.rules.specs.Rows.{rowsIn};
@@ -96,13 +96,6 @@ fn list(text: &[u8], t: usize, m: usize, out: &mut [u8; 184000]) -> usize
     }
 }
 
-// The lower of two numbers.
-pub fn least(a: usize, b: usize) -> usize
-    ensures { λ r. ⌜ r ≡ min a b ⌝ }
-{
-    if a < b { a } else { b }
-}
-
 // The page that a scan and its text stand for, from the start of `out`; the result is its length.
 pub fn print(scan: program_input::Scan, text: &[u8], out: &mut [u8; 184000]) -> usize
     ensures { λ r. ⌜ (r ≡ length (shown (state scan (now (text .entry))))) × (r ≤ 184000) ⌝ }
@@ -113,7 +106,7 @@ pub fn print(scan: program_input::Scan, text: &[u8], out: &mut [u8; 184000]) -> 
     let m = scan.atoms;
     let kept = scan.kept;
     if program_input::is_shaped(stage) {
-        let end = least(kept, text.len());
+        let end = scalars::smaller(kept, text.len());
         return list(&text[..end], t, m, out);
     }
     text::put_bytes(out, 0, b"bad input\n")

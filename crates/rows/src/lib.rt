@@ -90,7 +90,7 @@ fn inner_slacks(loops: bool, slots: usize) -> usize
     requires { ⌜ (1 ≤ slots) × (slots ≤ 64) ⌝ }
     ensures { λ r. ⌜ (r ≡ innerSlacks loops slots) × (r ≤ 127) ⌝ }
 {
-    table::pick(loops, 2 * slots, slots) - 1
+    scalars::pick(loops, 2 * slots, slots) - 1
 }
 
 // How many rows a node has at t slots that loop to slot l, its V's with them, and how many bytes. F, G and U have three rows,

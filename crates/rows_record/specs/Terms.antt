@@ -1,6 +1,6 @@
 -- The bytes of the words that a record is written by.
 use mathlib.Core.Path.{_≡_, refl, ap₂}
-use mathlib.Core.List.{List, [], _∷_, _++_}
+use mathlib.Core.List.{[], _∷_, _++_}
 use Prim.Native.Nat.{ℕ, _+_, _*_, _/_, _%_, _<_}
 use native.Mathlib.Omega.{arith}
 use Rattle.endian.specs.Words.{littleEndian, twoBytes, next-bytes, two-bytes}

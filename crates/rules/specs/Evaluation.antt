@@ -8,7 +8,7 @@ use native.Mathlib.Nat.{add-zero, add-suc, suc-add, eq-or-lt-of-le}
 use native.Mathlib.Omega.{arith}
 use lib.Dec.{T as Is, leb, eqb, ltb, ltb→lt, nltb→le, leb→le, le→leb, eqb→eq, eqb-refl}
 use lib.ListN.{length}
-use Rattle.lists.specs.Any.{any, any-iff}
+use Rattle.lists.specs.Any.{any-iff}
 use Rattle.lists.specs.Passing.{someOf, everyOf, someOf-passing, everyOf-passing}
 use Rattle.lists.specs.Tests.{or-cases, or-left, or-right, and-left, and-right, and-both, not-iff, imp-iff}
 use Rattle.rules.specs.Quantities.{bitAt, LoopAllowed}

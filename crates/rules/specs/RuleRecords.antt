@@ -1,11 +1,9 @@
 -- The records of a rule's table, part by part, as the reader writes them: the left part, the right part, then the node.
-use mathlib.Core.Path.{_≡_, refl, sym, ap, ap₂, _∙_}
+use mathlib.Core.Path.{_≡_, sym, ap, ap₂, _∙_}
 use mathlib.Core.List.{List, [], _∷_, _++_, append-assoc, append-nil}
-use Prim.Native.Nat.{ℕ, _+_, _-_, _≤_, _<_, max}
-use native.Mathlib.Nat.{add-zero}
+use Prim.Native.Nat.{ℕ, _+_, _-_, _≤_, max}
 use native.Mathlib.Omega.{arith}
-use lib.ListN.{length, length-append}
-use Rattle.rules.specs.RuleSize.{size-positive}
+use lib.ListN.{length}
 use Rattle.rules.specs.Rule.{Rule, size, height, AtomsBelow, WindowsAllowed}
 use Rattle.rules.specs.Rule.Rule.{atom, unary, binary, windowed}
 use Rattle.rules.specs.Table.{Node, nodesFrom, nodesOf, nodeAt, ruleAt, heightAt, nodeBytes, tableFrom, tableBytes}

@@ -15,7 +15,7 @@ use Rattle.rules.specs.Truth.{slotOf}
 use Rattle.rules.specs.Slots.{slot-le, slot-is, slot-ahead, slot-past, slot-low, slot-high}
 use Rattle.rules.specs.Rows.{Row, rowBytes, rowsBytes, plus, minus, ge, inWindow, windowRows}
 use Rattle.rules.specs.RowParts.{rowsBytes-append}
-use Rattle.rules.specs.RowRecords.{rowLength, length-row}
+use Rattle.rules.specs.RowRecords.{length-row}
 use Rattle.rules.specs.Evaluation.{window-at, at-window}
 
 -- ---- a slot is one of the window where the times up to T have it, or those after T, which go on from slot L

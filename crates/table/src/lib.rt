@@ -1,7 +1,7 @@
 // The node table: reading a node, the table test, and the checks that all calls but read share.
 ghost use mathlib.Core.Path.{_≡_};
-ghost use mathlib.Core.Bool.{_&&_, _||_, cond};
-ghost use Prim.Native.Nat.{_+_, _*_, _/_, _≤_, _<_, max};
+ghost use mathlib.Core.Bool.{_&&_, cond};
+ghost use Prim.Native.Nat.{_+_, _*_, _/_, _≤_, _<_};
 ghost use lib.Dec.{eqb, ltb};
 ghost use lib.ListN.{length, getD};
 ghost use Rattle.rules.specs.Rows as Rows;
@@ -55,26 +55,6 @@ pub enum Checked {
     Refused(answers::Refusal),
 }
 
-// At least one of two tests passes.
-pub fn either(a: bool, b: bool) -> bool
-    ensures { λ r. ⌜ r ≡ (a || b) ⌝ }
-{
-    if a { true } else { b }
-}
-
-// Both tests pass.
-pub fn both(a: bool, b: bool) -> bool
-    ensures { λ r. ⌜ r ≡ (a && b) ⌝ }
-{
-    if a { b } else { false }
-}
-
-fn wide(byte: u8) -> usize
-    ensures { λ r. ⌜ (r ≡ byte) × (r < 256) ⌝ }
-{
-    byte as usize
-}
-
 pub fn kind_of(byte: u8) -> KindRead
     ensures { λ r. ⌜ r ≡ kindIn byte ⌝ }
 {
@@ -106,10 +86,10 @@ pub fn node_at(table: &[u8], n: usize) -> Node
     ensures { λ r. ⌜ NodeRead (now (table .entry)) n r ⌝ }
 {
     let at = 8 * n;
-    let left = wide(table[at + 3]);
-    let right = wide(table[at + 4]);
-    let from = wide(table[at + 5]);
-    let to = wide(table[at + 6]);
+    let left = scalars::wide_byte(table[at + 3]);
+    let right = scalars::wide_byte(table[at + 4]);
+    let from = scalars::wide_byte(table[at + 5]);
+    let to = scalars::wide_byte(table[at + 6]);
     let read = kind_of(table[at + 2]);
     match read {
         KindRead::Known(kind) => Node {
@@ -181,12 +161,6 @@ fn has_window(kind: Kind) -> bool
     }
 }
 
-pub fn pick(first: bool, a: usize, b: usize) -> usize
-    ensures { λ r. ⌜ r ≡ cond first a b ⌝ }
-{
-    if first { a } else { b }
-}
-
 // Whether left, right and window are as node n of this kind may have them: each is below an end, and a right that is
 // not used and a window that is not there are below 1.
 fn parts_good(
@@ -200,22 +174,22 @@ fn parts_good(
 ) -> bool
     ensures { λ r. ⌜ r ≡ nodeGood m n right from to (nodeBy kind left right from to) ⌝ }
 {
-    let left_end = pick(is_atom(kind), m, n);
-    let right_end = pick(is_binary(kind), n, 1);
-    let to_end = pick(has_window(kind), 64, 1);
-    both(
-        both(left < left_end, right < right_end),
-        both(from <= to, to < to_end),
+    let left_end = scalars::pick(is_atom(kind), m, n);
+    let right_end = scalars::pick(is_binary(kind), n, 1);
+    let to_end = scalars::pick(has_window(kind), 64, 1);
+    scalars::both(
+        scalars::both(left < left_end, right < right_end),
+        scalars::both(from <= to, to < to_end),
     )
 }
 
 fn fields_good(kind: u8, left: u8, right: u8, from: u8, to: u8, m: usize, n: usize) -> bool
     ensures { λ r. ⌜ r ≡ someGood m n right from to (nodeIn kind left right from to) ⌝ }
 {
-    let left = wide(left);
-    let right = wide(right);
-    let from = wide(from);
-    let to = wide(to);
+    let left = scalars::wide_byte(left);
+    let right = scalars::wide_byte(right);
+    let from = scalars::wide_byte(from);
+    let to = scalars::wide_byte(to);
     let read = kind_of(kind);
     match read {
         KindRead::Known(k) => parts_good(k, left, right, from, to, m, n),
@@ -227,7 +201,7 @@ fn fields_good(kind: u8, left: u8, right: u8, from: u8, to: u8, m: usize, n: usi
 fn word(low: u8, high: u8) -> usize
     ensures { λ r. ⌜ (r ≡ low + 256 * high) × (low < 256) × (high < 256) ⌝ }
 {
-    wide(low) + 256 * wide(high)
+    scalars::wide_byte(low) + 256 * scalars::wide_byte(high)
 }
 
 // Whether the mark stands at a place.
@@ -244,7 +218,7 @@ fn node_good(table: &[u8], m: usize, n: usize) -> bool
     ensures { λ r. ⌜ r ≡ nodeTest m (now (table .entry)) n ⌝ }
 {
     let at = 8 * n;
-    both(
+    scalars::both(
         marked(table, at),
         fields_good(
             table[at + 2],
@@ -258,19 +232,12 @@ fn node_good(table: &[u8], m: usize, n: usize) -> bool
     )
 }
 
-// The larger of two numbers.
-pub fn larger(a: usize, b: usize) -> usize
-    ensures { λ r. ⌜ r ≡ max a b ⌝ }
-{
-    if a < b { b } else { a }
-}
-
 // The height in node n's record.
 pub fn height_at(table: &[u8], n: usize) -> usize
     requires { ⌜ n < recordCount (now table) ⌝ }
     ensures { λ r. ⌜ (r ≡ byteAt (now (table .entry)) n 7) × (r < 256) ⌝ }
 {
-    wide(table[8 * n + 7])
+    scalars::wide_byte(table[8 * n + 7])
 }
 
 // Whether node n's record has the height that its children's records give. Who has no right child has node 0 there, an
@@ -281,9 +248,9 @@ fn height_good(table: &[u8], n: usize) -> bool
     ensures { λ r. ⌜ r ≡ heightTest (now (table .entry)) n ⌝ }
 {
     let at = 8 * n;
-    let left = wide(table[at + 3]);
-    let right = wide(table[at + 4]);
-    let highest = larger(height_at(table, left), height_at(table, right));
+    let left = scalars::wide_byte(table[at + 3]);
+    let right = scalars::wide_byte(table[at + 4]);
+    let highest = scalars::larger(height_at(table, left), height_at(table, right));
     height_at(table, n) == highest + 1
 }
 
@@ -307,7 +274,10 @@ fn atom_good(table: &[u8], m: usize, n: usize) -> bool
 {
     let at = 8 * n;
     let rest = word(table[at + 4], table[at + 5]) + 65536 * word(table[at + 6], table[at + 7]);
-    both(marked(table, at), both(wide(table[at + 3]) < m, rest == 0))
+    scalars::both(
+        marked(table, at),
+        scalars::both(scalars::wide_byte(table[at + 3]) < m, rest == 0),
+    )
 }
 
 // Whether node n's record is as it must be. Many nodes are atoms, whose test is short.
@@ -328,7 +298,7 @@ fn size_good(len: usize) -> bool
     ensures { λ r. ⌜ r ≡ (eqb (8 * (len / 8)) len && between 1 128 (len / 8)) ⌝ }
 {
     let n = len / 8;
-    both(8 * n == len, both(1 <= n, n <= 128))
+    scalars::both(8 * n == len, scalars::both(1 <= n, n <= 128))
 }
 
 // Whether the bytes are a good table with m atoms.
@@ -353,7 +323,7 @@ pub fn good(table: &[u8], m: usize) -> bool
 fn within(n: usize, high: usize) -> bool
     ensures { λ r. ⌜ r ≡ between 1 high n ⌝ }
 {
-    both(1 <= n, n <= high)
+    scalars::both(1 <= n, n <= high)
 }
 
 // The checks that all calls but read make first: refusals 1, 2, 13 and 7.
@@ -410,7 +380,7 @@ pub fn one_more(count: usize, more: bool) -> usize
     requires { ⌜ count < 128 ⌝ }
     ensures { λ r. ⌜ r ≡ cond more (count + 1) count ⌝ }
 {
-    pick(more, count + 1, count)
+    scalars::pick(more, count + 1, count)
 }
 
 // How many of the nodes are.

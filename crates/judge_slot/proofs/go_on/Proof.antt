@@ -1,6 +1,4 @@
 -- `judge_slot::go_on` meets its contract. By the state of the search. Assumes nothing.
-use mathlib.Core.Path.{_≡_, refl, sym, ap, _∙_}
-use Prim.Native.Nat.{ℕ, _+_}
 use native.Mathlib.Omega.{arith}
 use borrow.Author.Needs.{needs}
 use mir.Syntax.{w64}
@@ -23,7 +21,7 @@ add-t8 : tie.Need-add-t8
 add-t8 c = omega (
   arith,
   reached-clear _ _ (c .before .before .state2 .given .1),
-  c .wide .ensures,
+  c .wide .ensures .0,
   c .before .before .before .before .fits .rows,
   c .before .before .before .before .pre,
 )
@@ -32,7 +30,7 @@ returns : tie.Need-returns
 returns c = passed-broken _ (c .before .state .given .1) (toZ-ofZ {w = w64} {z = c .before .state .given .0 .0} (search needs))
 
 returns-2 : tie.Need-returns-2
-returns-2 c = passed-clear (c .wide .ensures) (c .before .before .state2 .given .1)
+returns-2 c = passed-clear (c .wide .ensures .0) (c .before .before .state2 .given .1)
 
 pub go-on-spec : {M : Type 1} → statement M
 go-on-spec =

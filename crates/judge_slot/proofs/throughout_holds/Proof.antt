@@ -1,7 +1,7 @@
 -- `judge_slot::throughout_holds` meets its contract. The least figure tells of all rows but the last. Assumes nothing.
 use mathlib.Core.Path.{_≡_, sym, ap, ap₂, _∙_, subst⁻¹}
 use mathlib.Core.Bool.{false}
-use mathlib.Core.List.{[], _∷_, map}
+use mathlib.Core.List.{_∷_, map}
 use Prim.Native.Nat.{ℕ, _-_, _≤_}
 use native.Mathlib.Omega.{arith}
 use lib.IntN.{ℤ, pos, negsuc, negℤ, natAbs}

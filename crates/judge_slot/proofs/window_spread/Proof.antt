@@ -38,10 +38,10 @@ returns c =
     let a = c .before .before .before .before .before .before .before .before in
     let x = a .args in
     let from = c .before .before .before .before .before .before .before .start .ensures .0 in
-    let head = c .before .before .before .before .before .before .wide .ensures in
+    let head = c .before .before .before .before .before .before .wide .ensures .0 in
     let first = c .before .before .before .before .spread-of .ensures in
-    let rest = c .before .before .before .before .before .wide2 .ensures in
-    let skip = c .before .before .wide3 .ensures in
+    let rest = c .before .before .before .before .before .wide2 .ensures .0 in
+    let skip = c .before .before .wide3 .ensures .0 in
     spread-two (x .figures .now) (x .looks) (x .p) from head first (omega arith) (omega (arith, a .pre .0 .ranges)) (c .before .spread-of2 .ensures)
     (c .joined .ensures)
 
@@ -50,8 +50,8 @@ returns-2 c =
     let a = c .before .before .before .before .before in
     let x = a .args in
     let from = c .before .before .before .before .start .ensures .0 in
-    let head = c .before .before .before .wide .ensures in
-    let rest = c .before .before .wide2 .ensures in
+    let head = c .before .before .before .wide .ensures .0 in
+    let rest = c .before .before .wide2 .ensures .0 in
     let one : c .before .before .before .wide .result ≡ x .looks .count = omega (arith, c .if1 .left, a .pre .0 .ranges) in
     spread-one (x .figures .now) (x .looks) (x .p) from head (c .before .spread-of .ensures) one
 

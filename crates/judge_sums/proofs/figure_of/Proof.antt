@@ -23,12 +23,12 @@ returns : tie.Need-returns
 returns c =
     let a = c .before .before .before .args in
     told-back w32 (getD (a .figures .now) (c .before .before .wide .result) (pos 0)) (c .result .given)
-    ∙ ap (λ (v : ℕ). getD (a .figures .now) v (pos 0)) (c .before .before .wide .ensures)
+    ∙ ap (λ (v : ℕ). getD (a .figures .now) v (pos 0)) (c .before .before .wide .ensures .0)
 
 returns-2 : tie.Need-returns-2
 returns-2 c =
     let a = c .before .before .args in
-    sym (List·getD-eq-default (a .figures .now) (pos 0) (omega (arith, c .before .wide .ensures)))
+    sym (List·getD-eq-default (a .figures .now) (pos 0) (omega (arith, c .before .wide .ensures .0)))
 
 pub figure-of-spec : {M : Type 1} → statement M
 figure-of-spec =

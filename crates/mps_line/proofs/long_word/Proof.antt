@@ -1,5 +1,4 @@
 -- `mps_line::long_word` meets its contract. By how many digits there are. Assumes nothing.
-use mathlib.Core.Path.{_≡_}
 use native.Mathlib.Omega.{arith}
 use Rattle.mps_line.specs.DigitWords.{word-5, word-6}
 use borrow.Author.Needs.{needs}

@@ -1,5 +1,5 @@
 -- `mps_line::put_binary_line` meets its contract. The type and the bounds' name in one piece, the variable, and the line's end. Assumes nothing.
-use mathlib.Core.Path.{refl, sym}
+use mathlib.Core.Path.{sym}
 use native.Mathlib.Omega.{arith}
 use Rattle.text.specs.Put.{also}
 use Rattle.mps_line.specs.Names.{binary-length}

@@ -1,8 +1,7 @@
 -- `mps_line::put_one` meets its contract. By the sign. Assumes nothing.
-use mathlib.Core.Path.{_≡_, refl, sym, subst⁻¹, ap, _∙_}
+use mathlib.Core.Path.{_≡_, sym, ap, _∙_}
 use mathlib.Core.Bool.{Bool}
-use mathlib.Core.List.{List, [], _∷_, _++_}
-use Prim.Native.Nat.{ℕ}
+use mathlib.Core.List.{[], _∷_, _++_}
 use native.Mathlib.Omega.{arith}
 use Rattle.text.specs.Decimal.{signedText}
 use Rattle.text.specs.Put.{also}

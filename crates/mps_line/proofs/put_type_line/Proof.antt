@@ -1,5 +1,5 @@
 -- `mps_line::put_type_line` meets its contract. Two fields, and the line's end. Assumes nothing.
-use mathlib.Core.Path.{refl, sym}
+use mathlib.Core.Path.{sym}
 use native.Mathlib.Omega.{arith}
 use Rattle.text.specs.Put.{also}
 use Rattle.mps_line.specs.Names.{nameText, type-length}

@@ -11,13 +11,13 @@ use Rattle.mpspage_page.proofs.print.Tie as tie
 is-shaped-requires : tie.Need-is-shaped-requires
 is-shaped-requires c κs = search needs
 
-least-requires : tie.Need-least-requires
-least-requires c κs = search needs
+smaller-requires : tie.Need-smaller-requires
+smaller-requires c κs = search needs
 
 slice-aggregate-page-rule : tie.Need-slice-aggregate-page-rule
 slice-aggregate-page-rule c =
     let n = c .before in
-    sym (length-take-le (n .least .result) (n .before .before .before .before .before .args .text .now) (omega (arith, n .least .ensures)))
+    sym (length-take-le (n .smaller .result) (n .before .before .before .before .before .args .text .now) (omega (arith, n .smaller .ensures)))
 
 page-rule-requires : tie.Need-page-rule-requires
 page-rule-requires c κs = search needs
@@ -32,7 +32,7 @@ returns c =
     let i = n .before in
     let q = i .before in
     let a = q .before .before .before .args in
-    let e = shown-page (length (a .out .now)) (a .scan) (a .text .now) (q .is-shaped .result) (n .least .result) (q .is-shaped .ensures) (i .if1 .taken) (n .least .ensures) in
+    let e = shown-page (length (a .out .now)) (a .scan) (a .text .now) (q .is-shaped .result) (n .smaller .result) (q .is-shaped .ensures) (i .if1 .taken) (n .smaller .ensures) in
     rw e (p .page-rule .ensures)
 
 slice-aggregate-put-bytes : tie.Need-slice-aggregate-put-bytes
@@ -59,7 +59,7 @@ print-spec =
     tie.close
     (tie.spec
     is-shaped-requires
-    least-requires
+    smaller-requires
     slice-aggregate-page-rule
     page-rule-requires
     same-length

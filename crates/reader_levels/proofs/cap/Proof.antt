@@ -1,6 +1,6 @@
 -- `reader_levels::cap` meets its contract.
 use mathlib.Core.Path.{sym, ap, _∙_}
-use Prim.Native.Nat.{ℕ, max}
+use Prim.Native.Nat.{max}
 use native.Mathlib.Omega.{arith}
 use borrow.Author.Needs.{needs}
 use Rattle.reader_levels.proofs.Laws.{room-of, more-fits, cap-none, cap-told}

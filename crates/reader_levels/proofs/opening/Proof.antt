@@ -1,5 +1,4 @@
 -- `reader_levels::opening` meets its contract.
-use mathlib.Core.Path.{_∙_}
 use borrow.Author.Tests.{eq-eqb, ne-eqb}
 use borrow.Author.Needs.{needs}
 use Rattle.reader_levels.proofs.opening.Statement.{statement}

@@ -10,12 +10,12 @@ use Rattle.rowlist_page.proofs.print.Tie as tie
 is-shaped-requires : tie.Need-is-shaped-requires
 is-shaped-requires c κs = search needs
 
-least-requires : tie.Need-least-requires
-least-requires c κs = search needs
+smaller-requires : tie.Need-smaller-requires
+smaller-requires c κs = search needs
 
 slice-aggregate-list : tie.Need-slice-aggregate-list
 slice-aggregate-list c =
-    sym (length-take-le (c .before .least .result) (c .before .before .before .before .before .args .text .now) (omega (arith, c .before .least .ensures)))
+    sym (length-take-le (c .before .smaller .result) (c .before .before .before .before .before .args .text .now) (omega (arith, c .before .smaller .ensures)))
 
 list-requires : tie.Need-list-requires
 list-requires c κs = search needs
@@ -24,7 +24,7 @@ returns : tie.Need-returns
 returns c =
     let a = c .before .before .before .before .before .before .before .args in
     let q = c .before .before .before .before .before .is-shaped in
-    let n = c .before .before .before .least in
+    let n = c .before .before .before .smaller in
     let p = c .list .ensures in
     let e = shown-listing (a .scan) (a .text .now) (q .result) (n .result) (q .ensures) (c .before .before .before .before .if1 .taken) (n .ensures) in
     rw e ((omega (arith, p .0 .ends), p .1), p .0 .content)
@@ -48,7 +48,7 @@ print-spec =
     tie.close
     (tie.spec
     is-shaped-requires
-    least-requires
+    smaller-requires
     slice-aggregate-list
     list-requires
     returns

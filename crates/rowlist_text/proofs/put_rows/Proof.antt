@@ -1,5 +1,4 @@
 -- `rowlist_text::put_rows` meets its contract. The loop's invariant: the lines from row i on, written from `at` on, make the page that is wanted.
-use mathlib.Core.Path.{_≡_}
 use Prim.Native.Nat.{_+_, _-_, _*_, _≤_}
 use native.Mathlib.Omega.{arith}
 use lib.ListN.{length}

@@ -17,9 +17,9 @@ use Rattle.rules.specs.Rule.Binary.{and, or, implies, until}
 use Rattle.rules.specs.Rule.Window.{within, throughout}
 use Rattle.rules.specs.Grammar.{Level, Numeral, Number, Span, Phrase, sign, prefix, letter}
 use Rattle.rules.specs.Grammar.Level.{of, single}
-use Rattle.rules.specs.Reading.Lexer.{Token, spaces, digits, value, isDigit, digit-true, start, tokenFrom, tokenAt, signAt, numberAt, atomAt, Numeric, IsAtom, IsNumber, pastSign, number-is, number-at, sign-other, token-sign, token-atom, token-past, sign-token, sign-is, atom-is, digits-le}
+use Rattle.rules.specs.Reading.Lexer.{Token, spaces, digits, value, isDigit, digit-true, start, tokenFrom, tokenAt, signAt, numberAt, atomAt, Numeric, IsAtom, pastSign, number-is, number-at, token-sign, token-atom, token-past, sign-token, sign-is, atom-is, digits-le}
 use Rattle.rules.specs.Reading.Numerals.{digits-append, value-none, front, numeral-run, run-numeral}
-use Rattle.rules.specs.Reading.Parser.{Start, startOf, starting, unaryOf, Spanned, spanAt, opens, windowOf, opens-sign, IsSpan, span-is, is-span}
+use Rattle.rules.specs.Reading.Parser.{Start, startOf, starting, unaryOf, Spanned, spanAt, opens, windowOf, opens-sign, span-is, is-span}
 use Rattle.rules.specs.Reading.Derivation.{Derives}
 
 -- ---- positions

@@ -1,8 +1,6 @@
 -- `sepia::sepia_first_slot` meets its contract, from that of the call.
-use mathlib.Core.Path.{_≡_, sym, ap, _∙_}
-use mathlib.Core.Option.{none, some}
+use mathlib.Core.Path.{sym, ap, _∙_}
 use native.Mathlib.Omega.{arith}
-use Rattle.rules.specs.Words.{firstSlot}
 use Rattle.evaluator_words.specs.Meaning.{firstSlotOf}
 use Rattle.evaluator_words.specs.First.{slot-most}
 use Rattle.sepia.specs.Boundary.{slotInC}

@@ -1,11 +1,7 @@
 -- `sepia::sepia_judge` meets its contract, from that of the call.
-use mathlib.Core.Path.{_≡_, sym, ap, subst, _∙_}
-use lib.IntN.{ℤ}
+use mathlib.Core.Path.{sym, ap, subst, _∙_}
 use mir.Facts.{toZ-ofZ}
-use Rattle.rules.specs.Judge.{Verdict}
-use Rattle.rules.specs.Demands.{Answer}
 use Rattle.rules.specs.Outcome.{judgeOutcome}
-use Rattle.judge.specs.Meaning.{rulingOf}
 use Rattle.sepia.specs.Boundary.{verdictInC, VerdictFits}
 use Rattle.sepia.proofs.Bounds.{judge-fits}
 use borrow.Author.Needs.{needs}

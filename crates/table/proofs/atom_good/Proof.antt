@@ -52,14 +52,14 @@ add-rest c = search needs
 marked-requires : tie.Need-marked-requires
 marked-requires c κs = search needs
 
-add-wide : tie.Need-add-wide
-add-wide c = search needs
+add-wide-byte : tie.Need-add-wide-byte
+add-wide-byte c = search needs
 
-shared-slice-read-wide : tie.Need-shared-slice-read-wide
-shared-slice-read-wide c = search needs
+shared-slice-read-wide-byte : tie.Need-shared-slice-read-wide-byte
+shared-slice-read-wide-byte c = search needs
 
-wide-requires : tie.Need-wide-requires
-wide-requires c κs = search needs
+wide-byte-requires : tie.Need-wide-byte-requires
+wide-byte-requires c κs = search needs
 
 both-requires : tie.Need-both-requires
 both-requires c κs = search needs
@@ -77,7 +77,7 @@ returns c =
     ∙ ap (λ (i : ℕ). eqb (getD (s .args .table .now) i 0) 0x4E && eqb (getD (s .args .table .now) (8 * s .args .n + 1) 0) 0x44)
     (sym (add-zero (8 * s .args .n))))
     (c .before .both .ensures
-    ∙ ap₂ (λ (l r : ℕ). ltb l m && eqb r 0) (c .before .before .wide .ensures .0)
+    ∙ ap₂ (λ (l r : ℕ). ltb l m && eqb r 0) (c .before .before .wide-byte .ensures .0)
     (ap₂ (λ (a b : ℕ). a + 65536 * b) (c .before .before .before .before .before .before .before .before .word .ensures .0)
     (c .before .before .before .before .before .word2 .ensures .0)))
     ∙ sym (atom-record m (s .args .table .now) (s .args .n) (s .pre .1))
@@ -100,9 +100,9 @@ atom-good-spec =
     mul-rest
     add-rest
     marked-requires
-    add-wide
-    shared-slice-read-wide
-    wide-requires
+    add-wide-byte
+    shared-slice-read-wide-byte
+    wide-byte-requires
     both-requires
     both-requires-2
     returns)

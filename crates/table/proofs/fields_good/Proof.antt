@@ -7,17 +7,17 @@ use borrow.Author.Needs.{needs}
 use Rattle.table.proofs.fields_good.Statement.{statement}
 use Rattle.table.proofs.fields_good.Tie as tie
 
-wide-requires : tie.Need-wide-requires
-wide-requires c κs = search needs
+wide-byte-requires : tie.Need-wide-byte-requires
+wide-byte-requires c κs = search needs
 
-wide-requires-2 : tie.Need-wide-requires-2
-wide-requires-2 c κs = search needs
+wide-byte-requires-2 : tie.Need-wide-byte-requires-2
+wide-byte-requires-2 c κs = search needs
 
-wide-requires-3 : tie.Need-wide-requires-3
-wide-requires-3 c κs = search needs
+wide-byte-requires-3 : tie.Need-wide-byte-requires-3
+wide-byte-requires-3 c κs = search needs
 
-wide-requires-4 : tie.Need-wide-requires-4
-wide-requires-4 c κs = search needs
+wide-byte-requires-4 : tie.Need-wide-byte-requires-4
+wide-byte-requires-4 c κs = search needs
 
 kind-of-requires : tie.Need-kind-of-requires
 kind-of-requires c κs = search needs
@@ -35,10 +35,10 @@ returns : tie.Need-returns
 returns c =
     let a = c .before .before .before .before .before .before .before .before .before .args in
     let e : kindIn (a .kind) ≡ Known (c .before .before .read .given .0 .0) = sym (c .before .before .before .before .kind-of .ensures) ∙ c .before .before .read .given .1 in
-    let l = c .before .before .before .before .before .before .before .before .wide .ensures .0 in
-    let r = c .before .before .before .before .before .before .before .wide2 .ensures .0 in
-    let i = c .before .before .before .before .before .before .wide3 .ensures .0 in
-    let j = c .before .before .before .before .before .wide4 .ensures .0 in
+    let l = c .before .before .before .before .before .before .before .before .wide-byte .ensures .0 in
+    let r = c .before .before .before .before .before .before .before .wide-byte2 .ensures .0 in
+    let i = c .before .before .before .before .before .before .wide-byte3 .ensures .0 in
+    let j = c .before .before .before .before .before .wide-byte4 .ensures .0 in
     c .parts-good .ensures ∙ rw (nodeIn-kind (a .left) (a .right) (a .from) (a .to) (a .kind), e, l, r, i, j) refl
 
 returns-2 : tie.Need-returns-2
@@ -51,10 +51,10 @@ pub fields-good-spec : {M : Type 1} → statement M
 fields-good-spec =
     tie.close
     (tie.spec
-    wide-requires
-    wide-requires-2
-    wide-requires-3
-    wide-requires-4
+    wide-byte-requires
+    wide-byte-requires-2
+    wide-byte-requires-3
+    wide-byte-requires-4
     kind-of-requires
     enum-known-read
     parts-good-requires

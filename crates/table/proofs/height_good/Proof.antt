@@ -10,23 +10,23 @@ use Rattle.table.proofs.height_good.Tie as tie
 mul-at : tie.Need-mul-at
 mul-at c = search needs
 
-add-wide : tie.Need-add-wide
-add-wide c = search needs
+add-wide-byte : tie.Need-add-wide-byte
+add-wide-byte c = search needs
 
-shared-slice-read-wide : tie.Need-shared-slice-read-wide
-shared-slice-read-wide c = search needs
+shared-slice-read-wide-byte : tie.Need-shared-slice-read-wide-byte
+shared-slice-read-wide-byte c = search needs
 
-wide-requires : tie.Need-wide-requires
-wide-requires c κs = search needs
+wide-byte-requires : tie.Need-wide-byte-requires
+wide-byte-requires c κs = search needs
 
-add-wide-2 : tie.Need-add-wide-2
-add-wide-2 c = search needs
+add-wide-byte-2 : tie.Need-add-wide-byte-2
+add-wide-byte-2 c = search needs
 
-shared-slice-read-wide-2 : tie.Need-shared-slice-read-wide-2
-shared-slice-read-wide-2 c = search needs
+shared-slice-read-wide-byte-2 : tie.Need-shared-slice-read-wide-byte-2
+shared-slice-read-wide-byte-2 c = search needs
 
-wide-requires-2 : tie.Need-wide-requires-2
-wide-requires-2 c κs = search needs
+wide-byte-requires-2 : tie.Need-wide-byte-requires-2
+wide-byte-requires-2 c κs = search needs
 
 height-at-requires : tie.Need-height-at-requires
 height-at-requires c κs = search needs
@@ -47,8 +47,8 @@ returns : tie.Need-returns
 returns c =
     let s = c .before .before .before .before .before .before .before .before .before in
     let highest = c .before .larger .ensures ∙ ap₂ max (c .before .before .before .height-at .ensures .0) (c .before .before .height-at2 .ensures .0) in
-    let left = c .before .before .before .before .before .before .wide .ensures .0 in
-    let right = c .before .before .before .before .wide2 .ensures .0 in
+    let left = c .before .before .before .before .before .before .wide-byte .ensures .0 in
+    let right = c .before .before .before .before .wide-byte2 .ensures .0 in
     ap₂ eqb (c .height-at3 .ensures .0)
     (ap (λ (k : ℕ). k + 1) (highest ∙ ap₂ (λ (l r : ℕ). max (byteAt (s .args .table .now) l 7) (byteAt (s .args .table .now) r 7)) left right)
     ∙ s .pre .1 .height-is)
@@ -58,12 +58,12 @@ height-good-spec =
     tie.close
     (tie.spec
     mul-at
-    add-wide
-    shared-slice-read-wide
-    wide-requires
-    add-wide-2
-    shared-slice-read-wide-2
-    wide-requires-2
+    add-wide-byte
+    shared-slice-read-wide-byte
+    wide-byte-requires
+    add-wide-byte-2
+    shared-slice-read-wide-byte-2
+    wide-byte-requires-2
     height-at-requires
     height-at-requires-2
     larger-requires

@@ -11,41 +11,41 @@ use Rattle.table.proofs.node_at.Tie as tie
 mul-at : tie.Need-mul-at
 mul-at c = search needs
 
-add-wide : tie.Need-add-wide
-add-wide c = search needs
+add-wide-byte : tie.Need-add-wide-byte
+add-wide-byte c = search needs
 
-shared-slice-read-wide : tie.Need-shared-slice-read-wide
-shared-slice-read-wide c = search needs
+shared-slice-read-wide-byte : tie.Need-shared-slice-read-wide-byte
+shared-slice-read-wide-byte c = search needs
 
-wide-requires : tie.Need-wide-requires
-wide-requires c κs = search needs
+wide-byte-requires : tie.Need-wide-byte-requires
+wide-byte-requires c κs = search needs
 
-add-wide-2 : tie.Need-add-wide-2
-add-wide-2 c = search needs
+add-wide-byte-2 : tie.Need-add-wide-byte-2
+add-wide-byte-2 c = search needs
 
-shared-slice-read-wide-2 : tie.Need-shared-slice-read-wide-2
-shared-slice-read-wide-2 c = search needs
+shared-slice-read-wide-byte-2 : tie.Need-shared-slice-read-wide-byte-2
+shared-slice-read-wide-byte-2 c = search needs
 
-wide-requires-2 : tie.Need-wide-requires-2
-wide-requires-2 c κs = search needs
+wide-byte-requires-2 : tie.Need-wide-byte-requires-2
+wide-byte-requires-2 c κs = search needs
 
-add-wide-3 : tie.Need-add-wide-3
-add-wide-3 c = search needs
+add-wide-byte-3 : tie.Need-add-wide-byte-3
+add-wide-byte-3 c = search needs
 
-shared-slice-read-wide-3 : tie.Need-shared-slice-read-wide-3
-shared-slice-read-wide-3 c = search needs
+shared-slice-read-wide-byte-3 : tie.Need-shared-slice-read-wide-byte-3
+shared-slice-read-wide-byte-3 c = search needs
 
-wide-requires-3 : tie.Need-wide-requires-3
-wide-requires-3 c κs = search needs
+wide-byte-requires-3 : tie.Need-wide-byte-requires-3
+wide-byte-requires-3 c κs = search needs
 
-add-wide-4 : tie.Need-add-wide-4
-add-wide-4 c = search needs
+add-wide-byte-4 : tie.Need-add-wide-byte-4
+add-wide-byte-4 c = search needs
 
-shared-slice-read-wide-4 : tie.Need-shared-slice-read-wide-4
-shared-slice-read-wide-4 c = search needs
+shared-slice-read-wide-byte-4 : tie.Need-shared-slice-read-wide-byte-4
+shared-slice-read-wide-byte-4 c = search needs
 
-wide-requires-4 : tie.Need-wide-requires-4
-wide-requires-4 c κs = search needs
+wide-byte-requires-4 : tie.Need-wide-byte-requires-4
+wide-byte-requires-4 c κs = search needs
 
 add-kind-of : tie.Need-add-kind-of
 add-kind-of c = search needs
@@ -66,10 +66,10 @@ returns : tie.Need-returns
 returns c =
     let a = c .before .before .before .before .before .before .before .before .before .before .before .before .before .before .args in
     let e : kindIn (byteAt (a .table .now) (a .n) 2) ≡ Known (c .before .read .given .0 .0) = sym (c .before .before .before .kind-of .ensures) ∙ c .before .read .given .1 in
-    let l = c .before .before .before .before .before .before .before .before .before .before .before .wide .ensures in
-    let r = c .before .before .before .before .before .before .before .before .before .wide2 .ensures in
-    let i = c .before .before .before .before .before .before .before .wide3 .ensures in
-    let j = c .before .before .before .before .before .wide4 .ensures in
+    let l = c .before .before .before .before .before .before .before .before .before .before .before .wide-byte .ensures in
+    let r = c .before .before .before .before .before .before .before .before .before .wide-byte2 .ensures in
+    let i = c .before .before .before .before .before .before .before .wide-byte3 .ensures in
+    let j = c .before .before .before .before .before .wide-byte4 .ensures in
     let h = c .before .before .before .before .before .before .before .before .before .before .before .before .before .before .pre in
     record { is = rw (l .0, r .0, i .0, j .0) (known-is (a .table .now) (a .n) _ h e); left-byte = l .1; right-byte = r .1; from-byte = i .1; to-byte = j .1 }
 
@@ -84,18 +84,18 @@ node-at-spec =
     tie.close
     (tie.spec
     mul-at
-    add-wide
-    shared-slice-read-wide
-    wide-requires
-    add-wide-2
-    shared-slice-read-wide-2
-    wide-requires-2
-    add-wide-3
-    shared-slice-read-wide-3
-    wide-requires-3
-    add-wide-4
-    shared-slice-read-wide-4
-    wide-requires-4
+    add-wide-byte
+    shared-slice-read-wide-byte
+    wide-byte-requires
+    add-wide-byte-2
+    shared-slice-read-wide-byte-2
+    wide-byte-requires-2
+    add-wide-byte-3
+    shared-slice-read-wide-byte-3
+    wide-byte-requires-3
+    add-wide-byte-4
+    shared-slice-read-wide-byte-4
+    wide-byte-requires-4
     add-kind-of
     shared-slice-read-kind-of
     kind-of-requires
