@@ -1,5 +1,5 @@
 #!/usr/bin/env python3
-"""Makes crates/known/stdin, a case a line, and crates/known/stdout, what the program `known` must print for them.
+"""Makes crates/test_known/stdin, a case a line, and crates/test_known/stdout, what the program `test_known` must print for them.
 
     python3 tests/known_lines.py            writes the files
     python3 tests/known_lines.py --check    says whether the files are what this script makes, and writes nothing
@@ -2132,7 +2132,7 @@ def main():
     largest_loops()
     summing()
     for name, lines in ("stdin", CASES), ("stdout", PRINTED):
-        write_or_check(f"crates/known/{name}", "".join(line + "\n" for line in lines))
+        write_or_check(f"crates/test_known/{name}", "".join(line + "\n" for line in lines))
     cases = [line for line in CASES if not line.startswith("#")]
     print(f"{len(cases)} cases, {len(''.join(CASES)) + len(CASES)} bytes, longest line {max(map(len, CASES))}")
 

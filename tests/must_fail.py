@@ -21,7 +21,7 @@ Made by tests/must_fail.py. Each edit changes an operand and keeps the shape; th
 longer holds. The gate tries them all (`rt must-fail NAME` tries those of one crate and of what it depends on). There are
 edits for the promises of the calls and programs offered to others, for the definitions that must be believed, and for
 what the scope paper's "The wording of each promise" (c) and the requests name. Other crates need none: their callers'
-proofs would break. `known` compares nothing inside a proof, so it has none either: the gate compares what it prints.
+proofs would break. `test_known` compares nothing inside a proof, so it has none either: the gate compares what it prints.
 
 What (c) and the requests name: two edits or more each, in the code or its contracts and in what these cite:
 """
