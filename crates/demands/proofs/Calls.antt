@@ -1,210 +1,222 @@
--- From the contracts of read, write_rows and evaluate, called one after the other, to demand 3.
-use mathlib.Core.Path.{_≡_, refl, sym, ap, ap₂, _∙_}
-use mathlib.Core.List.{List, [], _∷_}
-use mathlib.Core.Option.{some}
-use Prim.Native.Nat.{ℕ, _+_, _*_, _≤_}
+-- From the contracts of read, write_rows and evaluate, called one after the other, to what is answered and written, and to demand 3.
+use mathlib.Core.Path.{_≡_, refl, sym, ap, ap₂, subst, subst⁻¹, _∙_}
+use mathlib.Core.List.{List}
+use Prim.Native.Nat.{ℕ, _*_, _≤_}
 use native.Mathlib.Omega.{arith}
 use lib.ListN.{length, take, drop, length-append, length-drop}
 use lib.Seq.{take-at}
-use Rattle.rules.specs.Quantities.{SlotsAllowed, LoopAllowed}
 use Rattle.rules.specs.Rule.{Rule, size}
 use Rattle.rules.specs.Grammar.{Says}
-use Rattle.rules.specs.Table.{Node, Good, kindOf, leftOf, rightOf, fromOf, toOf, tableFrom, tableBytes, nodesOf}
-use Rattle.rules.specs.TableRules.{length-nodesFrom}
-use Rattle.rules.specs.TableTest.{nodeIn, node-back, length-table}
+use Rattle.rules.specs.Reading.{one-reading}
+use Rattle.rules.specs.Table.{Node, Good, tableBytes, nodesOf, ruleAt, root}
+use Rattle.rules.specs.TableRules.{length-nodesFrom, rule-good, root-is}
+use Rattle.rules.specs.TableTest.{length-table, good-nodes}
+use Rattle.rules.specs.Truth.{Holds, endless, TruthBit, TruthWords}
 use Rattle.rules.specs.Rows.{rowsOf, rowsBytes}
 use Rattle.rules.specs.Judge.{None}
-use Rattle.rules.specs.Refusals.{RunGood, TextRefused, ReadRefused}
+use Rattle.rules.specs.Refusals.{TextRefused, ReadRefused, EvaluateRefused}
 use Rattle.rules.specs.Demands.{Answer, Written, Demand3At}
 use Rattle.rules.specs.Demands.Answer.{refused, answered}
 use Rattle.rules.specs.Demands.Written.{wrote}
 use Rattle.rules.specs.Outcome.{result, buffer, readOutcome, rowsOutcome, evaluateOutcome}
 use Rattle.rules.specs.Exactness.Tests.{at-least}
-use Rattle.rules.specs.Theorems.{reader-exact, rows-exact, evaluator-exact, demand3}
-use Rattle.answers.specs.Meaning.{answerOf}
+use Rattle.rules.specs.Exactness.Read.{read-exact}
+use Rattle.rules.specs.Exactness.Rows.{rows-exact}
+use Rattle.rules.specs.Exactness.Evaluate.{evaluate-exact}
+use Rattle.rules.specs.Solution.Bytes.{plain, demand3}
+use Rattle.answers.specs.Meaning.{numberOf, answerOf}
 use Rattle.answers.specs.declared.Answer.the-variants.{Value, Refused as Refusing}
 use Rattle.answers.specs.declared.Refusal.{Refusal}
-use Rattle.demands.specs.declared.Planned.{Planned}
-use Rattle.demands.specs.declared.Planned.the-variants.{Done}
-use Rattle.demands.specs.Demand3.{Demanded}
+use Rattle.demands.specs.Demand2.{Holding}
+use Rattle.demands.specs.Demand3.{Plan, TableRead, RowsWritten, Planning, Demanded}
+use Rattle.demands.specs.Demand3.Planning.{unread, unwritten, unevaluated, done}
+use Rattle.demands.specs.Refusing.{reader-refuses, row-writer-refuses, evaluator-refuses}
+use Rattle.demands.specs.Answering.{reader-answers, row-writer-answers, evaluator-answers}
 
--- what an answered outcome leaves at the start of its buffer
-left-at : (a : Answer Written) (n k : ℕ) (bytes out out′ : List ℕ) → out′ ≡ buffer a out → a ≡ answered (wrote n bytes) → length bytes ≡ k →
-    take k out′ ≡ bytes
-left-at a n k bytes out out′ left is e =
-    ap (take k) (left ∙ ap (λ (x : Answer Written). buffer x out) is) ∙ take-at bytes (drop (length bytes) out) k e
+-- the table of a text's rule is good, with no other nodes, and its root is the rule
+module _ (m : ℕ) (text : List ℕ) (ok : None (TextRefused m text)) (p : Rule) (says : Says text p) where
+  good-table : Good m (tableBytes (nodesOf p)) (nodesOf p)
+  good-table =
+      let q = plain m text ok in
+      subst (λ (r : Rule). Good m (tableBytes (nodesOf r)) (nodesOf r)) (one-reading text (q .rule) p (q .says) says)
+      (rule-good m (q .rule) (q .atoms) (q .windows) (q .nodes))
 
--- records tell their nodes
-node-same : (a b : Node) → kindOf a ≡ kindOf b → leftOf a ≡ leftOf b → rightOf a ≡ rightOf b → fromOf a ≡ fromOf b → toOf a ≡ toOf b → a ≡ b
-node-same a b k l r f t =
-    let x : some a ≡ nodeIn (kindOf b) (leftOf b) (rightOf b) (fromOf b) (toOf b) = sym (node-back a) ∙ rw (k, l, r, f, t) refl in
-    let y : some a ≡ some b = x ∙ node-back b in
-    cc y
+  root-rule : ruleAt (nodesOf p) (root (nodesOf p)) ≡ p
+  root-rule =
+      let q = plain m text ok in
+      subst (λ (r : Rule). ruleAt (nodesOf r) (root (nodesOf r)) ≡ r) (one-reading text (q .rule) p (q .says) says)
+      (root-is m (q .rule) (q .atoms) (q .windows))
 
-records-same : (x y : List Node) (n : ℕ) (a b : List Node) → tableFrom x n a ≡ tableFrom y n b → a ≡ b
-records-same x y n [] [] e = refl
-records-same x y n [] (v ∷ b) e = let z : _≡_ {A = ℕ} 0 1 = cc in absurd (omega arith)
-records-same x y n (u ∷ a) [] e = let z : _≡_ {A = ℕ} 0 1 = cc in absurd (omega arith)
-records-same x y n (u ∷ a) (v ∷ b) e =
-    let k : kindOf u ≡ kindOf v = cc e in
-    let l : leftOf u ≡ leftOf v = cc e in
-    let r : rightOf u ≡ rightOf v = cc e in
-    let f : fromOf u ≡ fromOf v = cc e in
-    let t : toOf u ≡ toOf v = cc e in
-    let rest : tableFrom x (n + 1) a ≡ tableFrom y (n + 1) b = cc e in
-    ap₂ _∷_ (node-same u v k l r f t) (records-same x y (n + 1) a b rest)
+  nodes-alone : (ns : List Node) → Good m (tableBytes (nodesOf p)) ns → ns ≡ nodesOf p
+  nodes-alone ns g = good-nodes m (tableBytes (nodesOf p)) ns g ∙ sym (good-nodes m (tableBytes (nodesOf p)) (nodesOf p) good-table)
 
-table-same : (a b : List Node) → tableBytes a ≡ tableBytes b → a ≡ b
-table-same a b e = records-same a b 0 a b e
+table-long : (p : Rule) → length (tableBytes (nodesOf p)) ≡ 8 * size p
+table-long p = length-table (nodesOf p) ∙ omega (arith, length-nodesFrom 0 p)
 
--- the length of what is written
-rows-long : (t m l : ℕ) (table : List ℕ) (room n : ℕ) (bytes : List ℕ) (p : Rule) → table ≡ tableBytes (nodesOf p) →
-    rowsOutcome t m l table room ≡ answered (wrote n bytes) → length bytes ≡ length (rowsBytes (rowsOf t m l (nodesOf p)))
-rows-long t m l table room n bytes p same e =
-    let i = rows-exact t m l table room .answers (wrote n bytes) .0 e .1 in
-    let g : bytes ≡ rowsBytes (rowsOf t m l (i .0)) = cc (i .2) in
-    ap length g ∙ ap (λ (ns : List Node). length (rowsBytes (rowsOf t m l ns))) (table-same (i .0) (nodesOf p) (sym (i .1 .records) ∙ same))
+-- what stands at the start of a buffer
+held : (k : ℕ) (bytes out out′ : List ℕ) → Holding bytes out out′ → length bytes ≡ k → take k out′ ≡ bytes
+held k bytes out out′ h e = ap (take k) h ∙ take-at bytes (drop (length bytes) out) k e
 
-evaluated-long : (t m l : ℕ) (table run : List ℕ) (room v : ℕ) (bytes : List ℕ) → evaluateOutcome t m l table run room ≡ answered (wrote v bytes) →
-    (ns : List Node) × Good m table ns × (length bytes ≡ length ns)
-evaluated-long t m l table run room v bytes e =
-    let i = evaluator-exact t m l table run room .answers (wrote v bytes) .0 e .1 in
-    let g : bytes ≡ i .2 = cc (i .6) in
-    (i .0, i .3, ap length g ∙ i .4 .count)
-
--- an answer with a value comes from an outcome that wrote
-wrote-value : (a : Answer Written) (n : ℕ) → answerOf (Value n) ≡ result a → (bytes : List ℕ) × (a ≡ answered (wrote n bytes))
-wrote-value (refused k) n e = let z : _≡_ {A = ℕ} 0 1 = cc in absurd (omega arith)
-wrote-value (answered (wrote j bytes)) n e = let z : j ≡ n = cc in (bytes, ap (λ (i : ℕ). answered (wrote i bytes)) z)
-
--- a table that was read has room
-pub read-room : (m : ℕ) (text out out′ : List ℕ) (n : ℕ) → answerOf (Value n) ≡ result (readOutcome m text (length out)) →
-    out′ ≡ buffer (readOutcome m text (length out)) out →
-    (8 * n ≤ length out) × (length out′ ≡ length out)
-read-room m text out out′ n e left =
-    let w = wrote-value (readOutcome m text (length out)) n e in
-    let x = reader-exact m text (length out) .answers (wrote n (w .0)) .0 (w .1) in
-    let p = x .1 .0 in
-    let f : n ≡ size p = cc (x .1 .2) in
-    let g : w .0 ≡ tableBytes (nodesOf p) = cc (x .1 .2) in
-    let long : length (w .0) ≡ 8 * n = ap length g ∙ length-table (nodesOf p) ∙ omega (arith, length-nodesFrom 0 p) in
-    let fits : 8 * n ≤ length out = at-least (length out) (8 * n) (λ h. x .0 11 (ReadRefused.short (x .1 .1) (omega arith))) in
-    let same = ap length (left ∙ ap (λ (a : Answer Written). buffer a out) (w .1)) ∙ length-append (w .0) (drop (length (w .0)) out) in
-    (fits, same ∙ omega (arith, length-drop (length (w .0)) out))
+-- ---- the four ends of the function
 
 module _ (t m l : ℕ) (text run table rows truth table′ : List ℕ) (left : table′ ≡ buffer (readOutcome m text (length table)) table) where
-  -- what the three outcomes are
-  record Facts (D : ℕ) (p : Rule) : Type 0 where
-    first : List ℕ
-    second : List ℕ
-    third : List ℕ
-    count : ℕ
-    v : ℕ
-    read-is : readOutcome m text (length table) ≡ answered (wrote (size p) first)
-    handed : take (8 * size p) table′ ≡ first
-    rows-are : rowsOutcome t m l (take (8 * size p) table′) (length rows) ≡ answered (wrote count second)
-    evaluate-is : evaluateOutcome t m l (take (8 * size p) table′) run (length truth) ≡ answered (wrote v third)
-    second-long : length second ≡ length (rowsBytes (rowsOf t m l (nodesOf p)))
-    third-long : length third ≡ size p
-    at : Demand3At t m l D run p first count second v third
+  pub read-refused : (k : Refusal) → answerOf (Refusing k) ≡ result (readOutcome m text (length table)) →
+      Planning t m l text run table rows truth table′ rows truth (refused (numberOf k))
+  read-refused k e =
+      let r = reader-refuses m text (answerOf (Refusing k)) table table′ e left in
+      unread (r .first (numberOf k) .0 refl) refl (r .untouched (numberOf k) refl) refl refl
 
-  abbrev Rooms : Rule → Type 0
-  Rooms p = (8 * size p ≤ length table) × (length (rowsBytes (rowsOf t m l (nodesOf p))) ≤ length rows) × (size p ≤ length truth)
+  -- after the reader's value n
+  module _ (n : ℕ) (e : answerOf (Value n) ≡ result (readOutcome m text (length table))) where
+    record Table : Type 0 where
+      rule : Rule
+      nodes : n ≡ size rule
+      read : TableRead m text table table′ rule
+      handed : take (8 * n) table′ ≡ tableBytes (nodesOf rule)
 
-  facts : None (TextRefused m text) → SlotsAllowed t → LoopAllowed t l → RunGood t m run → (D : ℕ) → 1 ≤ D →
-      (p : Rule) × Says text p × (Rooms p → Facts D p)
-  facts none slots loop runs D 0<D =
-      let d = demand3 m text none t l D run slots loop runs 0<D in
-      let p = d .0 in
-      (p, d .1, λ rooms. given p (d .2 (length table) (length rows) (length truth) (rooms .0) (rooms .1) (rooms .2)))
-    where
-      given : (p : Rule) →
-          (first second third : List ℕ) × (count v : ℕ) ×
-          (readOutcome m text (length table) ≡ answered (wrote (size p) first)) ×
-          (rowsOutcome t m l first (length rows) ≡ answered (wrote count second)) ×
-          (evaluateOutcome t m l first run (length truth) ≡ answered (wrote v third)) ×
-          Demand3At t m l D run p first count second v third → Facts D p
-      given p (first, second, third, count, v, e, f, g, at) =
-          let long : length first ≡ 8 * size p = ap length (at .table-is) ∙ length-table (nodesOf p) ∙ omega (arith, length-nodesFrom 0 p) in
-          let handed = left-at (readOutcome m text (length table)) (size p) (8 * size p) first table table′ left e long in
-          let x = evaluated-long t m l first run (length truth) v third g in
-          let same : length (x .0) ≡ size p = omega (arith, long, ap length (x .1 .records), length-table (x .0)) in
-          record {
-            first = first;
-            second = second;
-            third = third;
-            count = count;
-            v = v;
-            read-is = e;
-            handed = handed;
-            rows-are = rw handed f;
-            evaluate-is = rw handed g;
-            second-long = rows-long t m l first (length rows) count second p (at .table-is) f;
-            third-long = x .2 ∙ same;
-            at = at;
-          }
+    written : Table
+    written =
+        let (none, (p, says, nodes, holds)) = reader-answers m text (answerOf (Value n)) table table′ e left n .0 refl in
+        record {
+          rule = p;
+          nodes = nodes;
+          read = (none, says, holds);
+          handed = held (8 * n) (tableBytes (nodesOf p)) table table′ holds (table-long p ∙ ap (λ (i : ℕ). 8 * i) (sym nodes));
+        }
 
-  -- the reader's value is the rule's node count
-  nodes-are : (D : ℕ) (p : Rule) → Facts D p → (n : ℕ) → answerOf (Value n) ≡ result (readOutcome m text (length table)) → n ≡ size p
-  nodes-are D p x n e = let f = e ∙ ap result (x .read-is) in cc f
+    abbrev p : Rule
+    p = written .rule
 
-  -- ---- the four ends of the function
+    abbrev ns : List Node
+    ns = nodesOf p
 
-  module _ (r : Planned) (rows′ truth′ : List ℕ) where
-    abbrev End : Type 0
-    End = Demanded t m l text run table rows truth table′ rows′ truth′ r
+    ok : None (TextRefused m text)
+    ok k x = written .read .0 k (ReadRefused.text-refused x)
 
-    pub read-refused : (k : Refusal) → answerOf (Refusing k) ≡ result (readOutcome m text (length table)) → End
-    read-refused k e none slots loop runs D 0<D =
-        let f = facts none slots loop runs D 0<D in
-        (f .0, f .1, λ a b c. let x = f .2 (a, b, c) in let g = e ∙ ap result (x .read-is) in let z : _≡_ {A = ℕ} 0 1 = cc g in absurd (omega arith))
+    -- the table handed on has p's nodes
+    same-nodes : (ms : List Node) → Good m (take (8 * n) table′) ms → ms ≡ ns
+    same-nodes ms good = nodes-alone m text ok p (written .read .1) ms (rw (written .handed) at good)
 
-    module _ (n : ℕ) (e : answerOf (Value n) ≡ result (readOutcome m text (length table))) where
-      pub rows-refused : (k : Refusal) → answerOf (Refusing k) ≡ result (rowsOutcome t m l (take (8 * n) table′) (length rows)) → End
-      rows-refused k h none slots loop runs D 0<D =
-          let f = facts none slots loop runs D 0<D in (
-            f .0,
-            f .1,
-            λ a b c.
-                let x = f .2 (a, b, c) in
-                let same = nodes-are D (f .0) x n e in
-                let g = h ∙ ap (λ (i : ℕ). result (rowsOutcome t m l (take (8 * i) table′) (length rows))) same ∙ ap result (x .rows-are) in
-                let z : _≡_ {A = ℕ} 0 1 = cc g in absurd (omega arith),
-          )
+    -- a table that was read has room
+    pub read-room : (8 * n ≤ length table) × (length table′ ≡ length table)
+    read-room =
+        let long = table-long p in
+        let fits : 8 * n ≤ length table =
+        at-least (length table) (8 * n) (λ h. written .read .0 11 (ReadRefused.short (written .read .1) (omega (arith, written .nodes)))) in
+        let same = ap length (written .read .2) ∙ length-append (tableBytes ns) (drop (length (tableBytes ns)) table) in
+        (fits, same ∙ omega (arith, written .nodes, length-drop (length (tableBytes ns)) table))
 
-      pub evaluate-refused : (k : Refusal) → answerOf (Refusing k) ≡ result (evaluateOutcome t m l (take (8 * n) table′) run (length truth)) → End
-      evaluate-refused k h none slots loop runs D 0<D =
-          let f = facts none slots loop runs D 0<D in (
-            f .0,
-            f .1,
-            λ a b c.
-                let x = f .2 (a, b, c) in
-                let same = nodes-are D (f .0) x n e in
-                let g = h ∙ ap (λ (i : ℕ). result (evaluateOutcome t m l (take (8 * i) table′) run (length truth))) same ∙ ap result (x .evaluate-is) in
-                let z : _≡_ {A = ℕ} 0 1 = cc g in absurd (omega arith),
-          )
+    -- the rows that the row writer leaves
+    module _ (rows′ : List ℕ) (put : rows′ ≡ buffer (rowsOutcome t m l (take (8 * n) table′) (length rows)) rows) where
+      pub rows-refused : (k : Refusal) → answerOf (Refusing k) ≡ result (rowsOutcome t m l (take (8 * n) table′) (length rows)) →
+          Planning t m l text run table rows truth table′ rows′ truth (refused (numberOf k))
+      rows-refused k h =
+          let r = row-writer-refuses t m l (take (8 * n) table′) (answerOf (Refusing k)) rows rows′ h put in
+          unwritten (written .read) (rw (written .handed) at (r .first (numberOf k) .0 refl)) refl (r .untouched (numberOf k) refl) refl
 
-  module _ (n count v : ℕ) (rows′ truth′ : List ℕ) (e : answerOf (Value n) ≡ result (readOutcome m text (length table)))
-      (h : answerOf (Value count) ≡ result (rowsOutcome t m l (take (8 * n) table′) (length rows)))
-      (h′ : rows′ ≡ buffer (rowsOutcome t m l (take (8 * n) table′) (length rows)) rows)
-      (i : answerOf (Value v) ≡ result (evaluateOutcome t m l (take (8 * n) table′) run (length truth)))
-      (i′ : truth′ ≡ buffer (evaluateOutcome t m l (take (8 * n) table′) run (length truth)) truth) where
-    pub done : Demanded t m l text run table rows truth table′ rows′ truth′ (Done n count v)
-    done none slots loop runs D 0<D =
-        let f = facts none slots loop runs D 0<D in
-        (f .0, f .1, λ a b c. ended (f .0) (f .2 (a, b, c)))
-      where
-        ended : (p : Rule) → Facts D p → (c w : ℕ) × (Done n count v ≡ Done (size p) c w) ×
-            Demand3At t m l D run p (take (8 * size p) table′) c (take (length (rowsBytes (rowsOf t m l (nodesOf p)))) rows′) w (take (size p) truth′)
-        ended p x =
-            let k = nodes-are D p x n e in
-            let a : rowsOutcome t m l (take (8 * n) table′) (length rows) ≡ answered (wrote (x .count) (x .second)) =
-            ap (λ (j : ℕ). rowsOutcome t m l (take (8 * j) table′) (length rows)) k ∙ x .rows-are in
-            let b : evaluateOutcome t m l (take (8 * n) table′) run (length truth) ≡ answered (wrote (x .v) (x .third)) =
-            ap (λ (j : ℕ). evaluateOutcome t m l (take (8 * j) table′) run (length truth)) k ∙ x .evaluate-is in
-            let c : count ≡ x .count = cc (h ∙ ap result a) in
-            let w : v ≡ x .v = cc (i ∙ ap result b) in
-            let r₂ = left-at (rowsOutcome t m l (take (8 * n) table′) (length rows)) (x .count) (length (rowsBytes (rowsOf t m l (nodesOf p))))
-            (x .second) rows rows′ h′ a (x .second-long) in
-            let r₃ = left-at (evaluateOutcome t m l (take (8 * n) table′) run (length truth)) (x .v) (size p) (x .third) truth truth′ i′ b (x .third-long) in
-            (x .count, x .v, cc, rw (x .handed, r₂, r₃) (x .at))
+      module _ (count : ℕ) (h : answerOf (Value count) ≡ result (rowsOutcome t m l (take (8 * n) table′) (length rows))) where
+        rows-written : (count ≡ length (rowsOf t m l ns)) × RowsWritten t m l rows rows′ p
+        rows-written =
+            let (none, (ms, good, counted, holds)) = row-writer-answers t m l (take (8 * n) table′) (answerOf (Value count)) rows rows′ h put count .0 refl in
+            let same = same-nodes ms good in (
+              counted ∙ ap (λ (x : List Node). length (rowsOf t m l x)) same,
+              (rw (written .handed) at none, subst (λ (x : List Node). Holding (rowsBytes (rowsOf t m l x)) rows rows′) same holds),
+            )
+
+        -- the words that the evaluator leaves
+        module _ (truth′ : List ℕ) (set : truth′ ≡ buffer (evaluateOutcome t m l (take (8 * n) table′) run (length truth)) truth) where
+          pub evaluate-refused : (k : Refusal) → answerOf (Refusing k) ≡ result (evaluateOutcome t m l (take (8 * n) table′) run (length truth)) →
+              Planning t m l text run table rows truth table′ rows′ truth′ (refused (numberOf k))
+          evaluate-refused k i =
+              let r = evaluator-refuses t m l (take (8 * n) table′) run (answerOf (Refusing k)) truth truth′ i set in
+              unevaluated (written .read) (rows-written .1) (rw (written .handed) at (r .first (numberOf k) .0 refl)) refl (r .untouched (numberOf k) refl)
+
+          pub all-done : (v : ℕ) → answerOf (Value v) ≡ result (evaluateOutcome t m l (take (8 * n) table′) run (length truth)) →
+              Planning t m l text run table rows truth table′ rows′ truth′ (answered (Plan.planned n count v))
+          all-done v i =
+              let (none, (ms, words, good, truths, bit, holds)) =
+              evaluator-answers t m l (take (8 * n) table′) run (answerOf (Value v)) truth truth′ i set v .0 refl in
+              let same = same-nodes ms good in
+              let root-truth = subst (λ (x : List Node). TruthBit (Holds (endless t l run) (ruleAt x (root x)) 1) v) same bit in
+              let rule-truth = subst (λ (r : Rule). TruthBit (Holds (endless t l run) r 1) v) (root-rule m text ok p (written .read .1)) root-truth in
+              done (written .read) (rows-written .1) (rw (written .handed) at none)
+              (subst (λ (x : List Node). TruthWords t l run x words) same truths) rule-truth
+              (ap₂ (λ (i j : ℕ). answered (Plan.planned i j v)) (written .nodes) (rows-written .0)) holds
+
+-- ---- demand 3
+
+module _ (t m l : ℕ) (text run table rows truth table′ rows′ truth′ : List ℕ) (answer : Answer Plan) (D : ℕ) (ok : None (TextRefused m text)) where
+  -- what the three outcomes are of a rule's text, and what demand 3 says of the function's answer
+  abbrev Outcomes : Rule → Type 0
+  Outcomes p =
+      (first second third : List ℕ) × (count v : ℕ) ×
+      (readOutcome m text (length table) ≡ answered (wrote (size p) first)) ×
+      (rowsOutcome t m l first (length rows) ≡ answered (wrote count second)) ×
+      (evaluateOutcome t m l first run (length truth) ≡ answered (wrote v third)) ×
+      Demand3At t m l D run p first count second v third
+
+  abbrev Due : Rule → Type 0
+  Due p =
+      (count v : ℕ) × (answer ≡ answered (Plan.planned (size p) count v)) ×
+      Demand3At t m l D run p (take (8 * size p) table′) count (take (length (rowsBytes (rowsOf t m l (nodesOf p)))) rows′) v (take (size p) truth′)
+
+  module _ (p : Rule) (words : List ℕ) (v : ℕ) where
+    abbrev parts : List Node
+    parts = nodesOf p
+
+    due : Outcomes p → TableRead m text table table′ p → RowsWritten t m l rows rows′ p →
+        None (EvaluateRefused t m l (tableBytes parts) run (length truth)) → TruthWords t l run parts words → TruthBit (Holds (endless t l run) p 1) v →
+        answer ≡ answered (Plan.planned (size p) (length (rowsOf t m l parts)) v) → Holding words truth truth′ → Due p
+    due (first, second, third, count, u, e, f, g, at) (none₁, says, held₁) (none₂, held₂) none₃ truths bit is held₃ =
+        let good = good-table m text ok p says in
+        let root-bit = subst⁻¹ (λ (r : Rule). TruthBit (Holds (endless t l run) r 1) v) (root-rule m text ok p says) bit in
+        let wrote₂ = wrote (length (rowsOf t m l parts)) (rowsBytes (rowsOf t m l parts)) in
+        let f′ = rows-exact t m l (tableBytes parts) (length rows) .answers wrote₂ .1 (none₂, (parts, good, refl)) in
+        let g′ =
+        evaluate-exact t m l (tableBytes parts) run (length truth) .answers (wrote v words) .1 (none₃, (parts, v, words, good, truths, root-bit, refl)) in
+        let same₂ : _≡_ {A = Answer Written} (answered (wrote count second)) (answered wrote₂) = sym f ∙ rw (at .table-is) f′ in
+        let same₃ : _≡_ {A = Answer Written} (answered (wrote u third)) (answered (wrote v words)) = sym g ∙ rw (at .table-is) g′ in
+        let counted : count ≡ length (rowsOf t m l parts) = cc same₂ in
+        let second-is : second ≡ rowsBytes (rowsOf t m l parts) = cc same₂ in
+        let truth-is : u ≡ v = cc same₃ in
+        let third-is : third ≡ words = cc same₃ in
+        let r₁ : take (8 * size p) table′ ≡ first = held (8 * size p) (tableBytes parts) table table′ held₁ (table-long p) ∙ sym (at .table-is) in
+        let r₂ : take (length (rowsBytes (rowsOf t m l parts))) rows′ ≡ second =
+        held (length (rowsBytes (rowsOf t m l parts))) (rowsBytes (rowsOf t m l parts)) rows rows′ held₂ refl ∙ sym second-is in
+        let r₃ : take (size p) truth′ ≡ third = held (size p) words truth truth′ held₃ (truths .count ∙ length-nodesFrom 0 p) ∙ sym third-is in
+        (count, u, is ∙ rw (counted, truth-is) refl, rw (r₁, r₂, r₃) at)
+
+  -- a refusal is none of the three outcomes
+  given : (p : Rule) → Says text p → Outcomes p → Planning t m l text run table rows truth table′ rows′ truth′ answer → Due p
+  given p says (first, second, third, count, v, e, f, g, at) (unread {k} wins x y z w) =
+      let r = read-exact m text (length table) .refuses k .1 wins in
+      let n : _≡_ {A = ℕ} 0 1 = cc in absurd (omega arith)
+  given p says (first, second, third, count, v, e, f, g, at) (unwritten {k} {p = q} read wins x y z) =
+      let r = rows-exact t m l (tableBytes (nodesOf q)) (length rows) .refuses k .1 wins in
+      let same = ap (λ (x : Rule). tableBytes (nodesOf x)) (one-reading text q p (read .1) says) ∙ sym (at .table-is) in
+      let h = sym (rw same at r) ∙ f in
+      let n : _≡_ {A = ℕ} 0 1 = cc in absurd (omega arith)
+  given p says (first, second, third, count, v, e, f, g, at) (unevaluated {k} {p = q} read rows-are wins x y) =
+      let r = evaluate-exact t m l (tableBytes (nodesOf q)) run (length truth) .refuses k .1 wins in
+      let same = ap (λ (x : Rule). tableBytes (nodesOf x)) (one-reading text q p (read .1) says) ∙ sym (at .table-is) in
+      let h = sym (rw same at r) ∙ g in
+      let n : _≡_ {A = ℕ} 0 1 = cc in absurd (omega arith)
+  given p says outcomes (done {p = q} {words} {v} read rows-are none truths bit is holds) =
+      let same = one-reading text q p (read .1) says in
+      subst Due same (due q words v (subst⁻¹ Outcomes same outcomes) read rows-are none truths bit is holds)
+
+demanded : (t m l : ℕ) (text run table rows truth table′ rows′ truth′ : List ℕ) (answer : Answer Plan) →
+    Planning t m l text run table rows truth table′ rows′ truth′ answer → Demanded t m l text run table rows truth table′ rows′ truth′ answer
+demanded t m l text run table rows truth table′ rows′ truth′ answer ends ok slots loop runs D 0<D =
+    let (p, says, outcomes) = demand3 m text ok t l D run slots loop runs 0<D in (
+      p,
+      says,
+      λ a b c. given t m l text run table rows truth table′ rows′ truth′ answer D ok p says (outcomes (length table) (length rows) (length truth) a b c) ends,
+    )
+
+-- the function's two promises
+pub both : (t m l : ℕ) (text run table rows truth table′ rows′ truth′ : List ℕ) (answer : Answer Plan) →
+    Planning t m l text run table rows truth table′ rows′ truth′ answer →
+    Planning t m l text run table rows truth table′ rows′ truth′ answer × Demanded t m l text run table rows truth table′ rows′ truth′ answer
+both t m l text run table rows truth table′ rows′ truth′ answer ends =
+    (ends, demanded t m l text run table rows truth table′ rows′ truth′ answer ends)

@@ -19,7 +19,10 @@ use Rattle.rules.specs.Demands.Written.{wrote}
 use Rattle.rules.specs.Outcome.{result, buffer, readOutcome, evaluateOutcome, rowsOutcome, judgeOutcome}
 use Rattle.rules.specs.Truth.{slotBit}
 use Rattle.rules.specs.Unaltered.{bytesOf, words-give-bytes, words-say-same}
-use Rattle.rules.specs.Theorems.{reader-exact, evaluator-exact, rows-exact, judge-exact}
+use Rattle.rules.specs.Exactness.Read.{read-exact}
+use Rattle.rules.specs.Exactness.Evaluate.{evaluate-exact}
+use Rattle.rules.specs.Exactness.Rows.{rows-exact}
+use Rattle.rules.specs.Exactness.Judge.{judge-exact}
 use Rattle.demands.specs.Heights.{ReaderHeights}
 use Rattle.demands.specs.Words.{SaysBytes}
 use Rattle.demands.specs.Demand2.{Holding, ReaderAnswers, EvaluatorAnswers, RowWriterAnswers, JudgeAnswers}
@@ -51,7 +54,7 @@ answers Refused Is a exact answer out out′ told left n Out to from = (
 pub reader-answers : (m : ℕ) (text : List ℕ) (answer : Answer ℕ) (out out′ : List ℕ) →
     answer ≡ result (readOutcome m text (length out)) → out′ ≡ buffer (readOutcome m text (length out)) out → ReaderAnswers m text answer out out′
 reader-answers m text answer out out′ told left n =
-    answers (ReadRefused m text (length out)) _ (readOutcome m text (length out)) (reader-exact m text (length out)) answer out out′ told left n _
+    answers (ReadRefused m text (length out)) _ (readOutcome m text (length out)) (read-exact m text (length out)) answer out out′ told left n _
     (λ bytes i h. let e : n ≡ size (i .0) = cc (i .2) in let f : bytes ≡ tableBytes (nodesOf (i .0)) = cc (i .2) in (i .0, i .1, e, rw f at h))
     (λ i. (tableBytes (nodesOf (i .0)), (i .0, i .1, ap (λ (k : ℕ). wrote k (tableBytes (nodesOf (i .0)))) (i .2))))
 
@@ -73,7 +76,7 @@ pub evaluator-answers : (t m l : ℕ) (table run : List ℕ) (answer : Answer �
     EvaluatorAnswers t m l table run answer out out′
 evaluator-answers t m l table run answer out out′ told left v =
     answers (EvaluateRefused t m l table run (length out)) _ (evaluateOutcome t m l table run (length out))
-    (evaluator-exact t m l table run (length out)) answer out out′ told left v _
+    (evaluate-exact t m l table run (length out)) answer out out′ told left v _
     (λ bytes i h.
     let e : i .1 ≡ v = cc (i .6) in
     let f : bytes ≡ i .2 = cc (i .6) in

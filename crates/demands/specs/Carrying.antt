@@ -10,7 +10,8 @@ use lib.Signed.{_<ℤ_}
 use Rattle.rules.specs.Table.{Node, Good}
 use Rattle.rules.specs.Rows.{rowsOf}
 use Rattle.rules.specs.Judge.{shortfall, None, Verdict, rowAt, Judged}
-use Rattle.rules.specs.Judge.Judged.{is-outside, is-not-binary, is-broken, is-passed}
+use Rattle.rules.specs.Judge.VerdictWith.{broken}
+use Rattle.rules.specs.Judge.JudgedBy.{is-outside, is-not-binary, is-broken, is-passed}
 use Rattle.rules.specs.Refusals.{JudgeRefused}
 use Rattle.rules.specs.Demands.{Answer}
 use Rattle.rules.specs.Demands.Answer.{refused, answered}
@@ -34,17 +35,17 @@ broken-is-short e xs r = (broken-short e xs r, λ h. positive e (shortfall xs r)
 
 module _ {T M L e : ℕ} {ns : List Node} {xs : List ℤ} where
   -- the row that broken names, and its shortfall
-  named : {v : Verdict} {i : ℕ} {d : ℤ} → v ≡ Verdict.broken i d → Judged T M L e ns xs v →
-      (i < length (rowsOf T M L ns)) × (d ≡ shortfall xs (rowAt T M L ns i)) × (pos e <ℤ d)
+  named : {v : Verdict} {i : ℕ} {d : ℤ} → v ≡ broken i d → Judged T M L e ns xs v →
+      (i < length (rowsOf T M L ns)) × (d ≡ shortfall xs (rowAt (rowsOf T M L ns) i)) × (pos e <ℤ d)
   named f (is-outside h) = let z : _≡_ {A = ℕ} 0 1 = cc in absurd (omega arith)
   named f (is-not-binary p h) = let z : _≡_ {A = ℕ} 0 1 = cc in absurd (omega arith)
   named f (is-passed p q r x) = let z : _≡_ {A = ℕ} 0 1 = cc in absurd (omega arith)
   named {i = i} {d} f (is-broken {i = j} p q h) =
-      let r = rowAt T M L ns j in
+      let r = rowAt (rowsOf T M L ns) j in
       let g : j ≡ i = cc in
       let k : shortfall xs r ≡ d = cc in
       let above = broken-short e xs r .0 (h .holds .1) in
-      (rw g at (h .holds .0), sym k ∙ ap (λ (n : ℕ). shortfall xs (rowAt T M L ns n)) g, rw k at above)
+      (rw g at (h .holds .0), sym k ∙ ap (λ (n : ℕ). shortfall xs (rowAt (rowsOf T M L ns) n)) g, rw k at above)
 
 module _ (t m l : ℕ) (table : List ℕ) (figures : List ℤ) (tolerance : ℤ) (ruling : Answer Verdict)
     (told : ruling ≡ judgeOutcome t m l table figures tolerance) where
@@ -69,6 +70,6 @@ module _ (t m l : ℕ) (table : List ℕ) (figures : List ℤ) (tolerance : ℤ)
 
   pub carries-shortfall : CarriesShortfall t m l table figures tolerance ruling
   carries-shortfall i d f =
-      let (none, (ns, e, good, tol, j)) = judge-answers t m l table figures tolerance ruling told (Verdict.broken i d) .0 f in
+      let (none, (ns, e, good, tol, j)) = judge-answers t m l table figures tolerance ruling told (broken i d) .0 f in
       let (low, is, above) = named refl j in
       (ns, e, good, tol, low, is, above, positive e d above)

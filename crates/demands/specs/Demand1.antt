@@ -1,6 +1,6 @@
--- Demand 1: "Every call copes with all input, of any length and content; bad input brings the lowest refusal number that applies; no refusal writes
--- a byte into a lent buffer." Request N4: "from here on the first in this order wins and no longer the lowest number". Request N8: "13 when L is not
--- 1 to T, after 2 and before 3." Stated of any answer and final buffer that meet a call's contract; src/lib.rt has it as the contracts of functions.
+-- Demand 1: "Every call copes with all input, of any length and content; bad input brings the refusal that comes first (the lowest number; from N4 on,
+-- the first in the order); no refusal writes a byte into a lent buffer." Stated of any answer and final buffer that meet a call's contract; src/lib.rt
+-- has it as the contracts of functions.
 use mathlib.Core.Path.{_≡_}
 use mathlib.Core.Logic.{_↔_}
 use mathlib.Core.List.{List}

@@ -1,18 +1,17 @@
--- Demand 2: "Reader, evaluator, rows and judge are exactly what 01 says, as proved equations." Stated of any answer and final buffer that meet a call's
--- contract; src/lib.rt has it as the contracts of functions. "On success, bytes past the output keep their content."
+-- Demand 2: "Each call is exactly what the papers say, as proved equations." Stated of any answer and final buffer that meet a call's contract;
+-- src/lib.rt has it as the contracts of functions. "On success, bytes past the output keep their content."
 use mathlib.Core.Path.{_≡_}
 use mathlib.Core.Logic.{_↔_}
 use mathlib.Core.List.{List, _++_}
-use mathlib.Core.Option.{Option, none, some}
 use Prim.Native.Nat.{ℕ}
 use lib.ListN.{length, drop}
 use lib.IntN.{ℤ, pos}
 use Rattle.rules.specs.Rule.{Rule, size}
 use Rattle.rules.specs.Grammar.{Says}
 use Rattle.rules.specs.Table.{Node, Good, tableBytes, nodesOf, ruleAt, root}
-use Rattle.rules.specs.Truth.{Holds, endless, TruthBit, TruthWords, SlotSet}
+use Rattle.rules.specs.Truth.{Holds, endless, TruthBit, TruthWords}
 use Rattle.rules.specs.Rows.{rowsOf, rowsBytes}
-use Rattle.rules.specs.Judge.{Lowest, None, Verdict, Judged}
+use Rattle.rules.specs.Judge.{None, Verdict, Judged}
 use Rattle.rules.specs.Refusals.{ReadRefused, EvaluateRefused, RowsRefused, JudgeRefused}
 use Rattle.rules.specs.Demands.{Answer}
 use Rattle.rules.specs.Demands.Answer.{answered}
@@ -34,10 +33,6 @@ EvaluatorAnswers t m l table run answer out out′ =
     (None (EvaluateRefused t m l table run (length out)) ×
     ((ns : List Node) × (words : List ℕ) × Good m table ns × TruthWords t l run ns words ×
     TruthBit (Holds (endless t l run) (ruleAt ns (root ns)) 1) v × Holding words out out′))
-
--- the first slot with a set bit, or that there is none
-abbrev pub FirstAnswers : (word : ℕ) (answer : Option ℕ) → Type 0
-FirstAnswers word answer = ((t : ℕ) → (answer ≡ some t) ↔ Lowest (SlotSet word) t) × ((answer ≡ none) ↔ None (SlotSet word))
 
 -- the row writer answers the row count, and the records of the table's rows are then written
 abbrev pub RowWriterAnswers : (t m l : ℕ) (table : List ℕ) (answer : Answer ℕ) (out out′ : List ℕ) → Type 0

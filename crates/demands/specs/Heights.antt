@@ -1,6 +1,6 @@
 -- Request N6, of the bytes that the reader leaves in the buffer: "Write the height into every node record, as one last byte: 0 for an atom,
--- otherwise 1 more than the highest child. The reader fills it in. Callers may then rely on it." That every good table has such bytes is `heights-right`
--- of crates/rules/specs/Theorems.antt.
+-- otherwise 1 more than the highest child. The reader fills it in. Callers may then rely on it." That every good table has such bytes is HeightsRight
+-- of crate rules.
 use mathlib.Core.Path.{_≡_}
 use mathlib.Core.List.{List}
 use Prim.Native.Nat.{ℕ, _+_, _*_, _<_}

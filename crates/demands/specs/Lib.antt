@@ -14,3 +14,4 @@ pub mod Passing
 pub mod Carrying
 pub mod Summing
 pub mod Paging
+pub mod Headlines

@@ -15,8 +15,8 @@ use Rattle.rules.specs.Demands.Answer.{answered}
 use Rattle.mps.specs.Merged.{merged}
 use Rattle.mps.specs.Page.{page}
 use Rattle.mps.specs.Refused.{PageRefused}
-use Rattle.mps.specs.Reading.{reading}
-use Rattle.mps.specs.Says.{saidOf}
+use Rattle.mps.specs.Parsing.{parsePage}
+use Rattle.mps.specs.Says.{modelOf}
 use Rattle.demands.specs.Demand1.{Refuses}
 use Rattle.demands.specs.Demand2.{Holding}
 
@@ -37,5 +37,5 @@ abbrev pub PageMeans : (t m l : ℕ) (table : List ℕ) (answer : Answer ℕ) (o
 PageMeans t m l table answer out′ =
     (n : ℕ) → answer ≡ answered n →
     (ns : List Node) × Good m table ns ×
-    (reading (take n out′) ≡ some (saidOf (m * t) (variableCount t m l ns) (rowsOf t m l ns))) ×
+    (parsePage (take n out′) ≡ some (modelOf (m * t) (variableCount t m l ns) (rowsOf t m l ns))) ×
     ((D : ℕ) (xs : List ℤ) → Every (λ (r : Row). Meets D xs (merged (variableCount t m l ns) r) ↔ Meets D xs r) (rowsOf t m l ns))

@@ -13,7 +13,7 @@ use Rattle.mps.specs.Page.{page}
 use Rattle.mps.specs.Outcome.{pageOutcome}
 use Rattle.mps.specs.Refused.{PageRefused}
 use Rattle.mps.specs.Exact.{page-exact}
-use Rattle.mps.specs.Reading.{reading}
+use Rattle.mps.specs.Parsing.{parsePage}
 use Rattle.mps.specs.Proved.{page-says}
 use Rattle.mps.specs.Meaning.{same-meaning}
 use Rattle.demands.specs.Refusing.{refuses, slots-allowed, atoms-allowed, loop-allowed}
@@ -41,4 +41,4 @@ module _ (t m l : ℕ) (table : List ℕ) (answer : Answer ℕ) (out out′ : Li
       let slots = slots-allowed t m l table passed in
       let atoms = atoms-allowed t m l table passed in
       let loop = loop-allowed t m l table passed in
-      (ns, good, ap reading bytes ∙ page-says t m l table ns slots atoms loop good, same-meaning t m l table ns slots atoms loop good)
+      (ns, good, ap parsePage bytes ∙ page-says t m l table ns slots atoms loop good, same-meaning t m l table ns slots atoms loop good)

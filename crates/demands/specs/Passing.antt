@@ -1,6 +1,6 @@
 -- Proofs of what a passed verdict means.
 use mathlib.Core.Path.{_≡_, refl, sym, ap, subst, _∙_}
-use mathlib.Core.Bool.{Bool, false}
+use mathlib.Core.Bool.{Bool, true, false}
 use mathlib.Core.Logic.{_↔_, _⊎_, inl, inr, ⊎-elim}
 use mathlib.Core.List.{List, [], _∷_, _++_}
 use Prim.Native.Nat.{ℕ, zero, suc, _+_, _-_, _*_, _/_, _%_, _≤_, _<_}
@@ -13,8 +13,9 @@ use lib.Seq.{ext-getD, getD-take, getD-drop, length-take-le}
 use lib.IntN.{ℤ, pos, negsuc, negℤ, _+ℤ_, _-ℤ_, _*ℤ_, natAbs, -ℤ-+ℤ-cancel, +ℤ-idl, +ℤ-idr}
 use lib.Signed.{_≤ℤ_, clashℤ}
 use Rattle.lists.specs.Every.{Every, every-append, at-every}
-use Rattle.rules.specs.Quantities.{bitAt, one, LoopAllowed}
+use Rattle.rules.specs.Quantities.{bitAt, one, ofTruth, LoopAllowed}
 use Rattle.rules.specs.Table.{Node, Good, root}
+use Rattle.rules.specs.Truth.{TruthOf}
 use Rattle.rules.specs.ErrorFigure.{ErrorFigures}
 use Rattle.rules.specs.Errors.Naturals.{not-below}
 use Rattle.rules.specs.Errors.Passed.{passed-is-near, rounded-run}
@@ -23,13 +24,14 @@ use Rattle.rules.specs.RunOfBits.{runOf, run-good, run-bit}
 use Rattle.rules.specs.Rows.{Relation, Row, Meets, MeetsBy, valueAt, sumOf, atomVariable, slack, looping, slackCount, variableCount, rowsOf}
 use Rattle.rules.specs.Rows.{slackRows, goalRow}
 use Rattle.rules.specs.Rows.Relation.{at-least, equal}
-use Rattle.rules.specs.Judge.{Apart, BrokenBy, None, Verdict, OutsideAt, NotBinaryAt, BrokenAt, Judged}
-use Rattle.rules.specs.Judge.Judged.{is-outside, is-not-binary, is-broken, is-passed}
+use Rattle.rules.specs.Judge.{Apart, BrokenBy, Broken, None, Verdict, noRow, rowAt, OutsideAt, NotBinaryAt, BrokenAt, RootFigure, Judged}
+use Rattle.rules.specs.Judge.VerdictWith.{passed}
+use Rattle.rules.specs.Judge.JudgedBy.{is-outside, is-not-binary, is-broken, is-passed}
 use Rattle.rules.specs.Refusals.{JudgeRefused}
 use Rattle.rules.specs.Demands.{Fits, OnlyTheTruth}
 use Rattle.rules.specs.Solution.Truths.{place-lt}
 use Rattle.rules.specs.Exactness.Tests.{at-least as bounded}
-use Rattle.rules.specs.Theorems.{only-the-truth}
+use Rattle.rules.specs.Solution.Truths.{only-the-truth}
 use Rattle.rules.specs.Outcome.{judgeOutcome}
 use Rattle.rules.specs.Demands.{Answer}
 use Rattle.demands.specs.Refusing.{judge-loop-allowed}
@@ -57,46 +59,46 @@ every-at P d (a ∷ l) h (suc i) u = every-at P d l (h .1) i (omega arith)
 
 module _ (T M L e : ℕ) (ns : List Node) (xs : List ℤ) where
   abbrev row : ℕ → Row
-  row i = getD (rowsOf T M L ns) i (goalRow T M ns)
+  row i = rowAt (rowsOf T M L ns) i
 
-  inside : None (OutsideAt T M L e ns xs) → (v : ℕ) → v < length xs → (negℤ (pos e) ≤ℤ valueAt xs v) × (valueAt xs v ≤ℤ pos (one + e))
+  inside : None (OutsideAt e xs) → (v : ℕ) → v < length xs → (negℤ (pos e) ≤ℤ valueAt xs v) × (valueAt xs v ≤ℤ pos (one + e))
   inside h v u =
       (not-below (valueAt xs v) (negℤ (pos e)) (λ k. h v (u, inl k)), not-below (pos (one + e)) (valueAt xs v) (λ k. h v (u, inr k)))
 
-  binary : None (NotBinaryAt T M L e ns xs) → (v : ℕ) → v < M * T → (natAbs (valueAt xs v -ℤ pos 0) ≤ e) ⊎ (natAbs (valueAt xs v -ℤ pos one) ≤ e)
+  binary : None (NotBinaryAt (M * T) e xs) → (v : ℕ) → v < M * T → (natAbs (valueAt xs v -ℤ pos 0) ≤ e) ⊎ (natAbs (valueAt xs v -ℤ pos one) ≤ e)
   binary h v u = go (decLt e (natAbs (valueAt xs v -ℤ pos 0)))
     where
       go : Dec (e < natAbs (valueAt xs v -ℤ pos 0)) → (natAbs (valueAt xs v -ℤ pos 0) ≤ e) ⊎ (natAbs (valueAt xs v -ℤ pos one) ≤ e)
       go (yes k) = inr (not-apart e (pos one) (valueAt xs v) (λ l. h v (u, (k, l))))
       go (no k) = inl (omega arith)
 
-  hold : None (BrokenAt T M L e ns xs) → Every (RowHolds e xs) (rowsOf T M L ns)
+  hold : None (BrokenAt (Broken e xs) (rowsOf T M L ns)) → Every (RowHolds e xs) (rowsOf T M L ns)
   hold h =
-      at-every (RowHolds e xs) (goalRow T M ns) (rowsOf T M L ns)
+      at-every (RowHolds e xs) noRow (rowsOf T M L ns)
       (λ i u. holds-iff (row i .relation) e (row i .right *ℤ pos one) (sumOf xs (row i .terms)) .0 (λ k. h i (u, k)))
 
-  passes : {v : Verdict} (n f : ℕ) → v ≡ Verdict.passed n f → Judged T M L e ns xs v → Passes T M L e ns xs
+  passes : {v : Verdict} (n f : ℕ) → v ≡ passed n f → Judged T M L e ns xs v → Passes T M L e ns xs
   passes n k f (is-outside h) = let z : _≡_ {A = ℕ} 0 1 = cc in absurd (omega arith)
   passes n k f (is-not-binary p h) = let z : _≡_ {A = ℕ} 0 1 = cc in absurd (omega arith)
   passes n k f (is-broken p q h) = let z : _≡_ {A = ℕ} 0 1 = cc in absurd (omega arith)
   passes n k f (is-passed p q r x) = record { limits = inside p; binary = binary q; rows = hold r }
 
-  not-outside : Passes T M L e ns xs → None (OutsideAt T M L e ns xs)
+  not-outside : Passes T M L e ns xs → None (OutsideAt e xs)
   not-outside p v (u, inl k) = clashℤ k (p .limits v u .0)
   not-outside p v (u, inr k) = clashℤ k (p .limits v u .1)
 
-  all-binary : Passes T M L e ns xs → None (NotBinaryAt T M L e ns xs)
+  all-binary : Passes T M L e ns xs → None (NotBinaryAt (M * T) e xs)
   all-binary p v (u, (a, b)) = ⊎-elim (λ h. omega arith) (λ h. omega arith) (p .binary v u)
 
-  none-broken : Passes T M L e ns xs → None (BrokenAt T M L e ns xs)
+  none-broken : Passes T M L e ns xs → None (BrokenAt (Broken e xs) (rowsOf T M L ns))
   none-broken p i (u, k) =
       holds-iff (row i .relation) e (row i .right *ℤ pos one) (sumOf xs (row i .terms)) .1
-      (every-at (RowHolds e xs) (goalRow T M ns) (rowsOf T M L ns) (p .rows) i u) k
+      (every-at (RowHolds e xs) noRow (rowsOf T M L ns) (p .rows) i u) k
 
 pub passed-iff : PassedIff
 passed-iff T M L e ns xs figure figures = (
   passes T M L e ns xs (length (rowsOf T M L ns)) (figure (slack T M (root ns) 1)) refl,
-  λ p. is-passed (not-outside T M L e ns xs p) (all-binary T M L e ns xs p) (none-broken T M L e ns xs p) figures,
+  λ p. is-passed (not-outside T M L e ns xs p) (all-binary T M L e ns xs p) (none-broken T M L e ns xs p) (figure, figures, refl),
 )
 
 -- ---- the run that the atoms make
@@ -119,6 +121,14 @@ same-at z b h = sym (-ℤ-+ℤ-cancel z b) ∙ ap (λ (x : ℤ). x +ℤ b) (zero
 atom-is : (z : ℤ) → (natAbs (z -ℤ pos 0) ≤ 0) ⊎ (natAbs (z -ℤ pos one) ≤ 0) → z ≡ pos (bitOf (isOne z) * one)
 atom-is z (inl h) = let e = same-at z (pos 0) h in rw e refl
 atom-is z (inr h) = let e = same-at z (pos one) h in rw e refl
+
+as-truth : (k : ℕ) (b : Bool) → k ≡ bitOf b → pos (k * one) ≡ pos (ofTruth (eqb k 1))
+as-truth k true e = rw e refl
+as-truth k false e = rw e refl
+
+by-truth : {P : Type 0} {z : ℤ} (b : Bool) → (P → z ≡ pos one) → ((P → ⊥) → z ≡ pos 0) → TruthOf P b → z ≡ pos (ofTruth b)
+by-truth true f g x = f x
+by-truth false f g x = g x
 
 -- a row that holds within 0 is met
 met-by : (o : Relation) (b s : ℤ) → HoldsBy o 0 b s → MeetsBy o b s
@@ -143,7 +153,7 @@ module _ (T M L : ℕ) (table : List ℕ) (ns : List Node) (xs : List ℤ) (loop
   run = runOf T M (atomsOn T xs)
 
   abbrev only : OnlyTheTruth T M L one run ns (slackRows T M L ns) (goalRow T M ns)
-  only = only-the-truth T M L one run table ns good loop (omega arith)
+  only = only-the-truth T M L one loop run ns (good .nodes) (omega arith) (good .some)
 
   atoms : (a t : ℕ) → a < M → 1 ≤ t → t ≤ T → valueAt xs (atomVariable T a t) ≡ pos (bitAt run t a * one)
   atoms a t h l u =
@@ -203,11 +213,9 @@ module _ (T M L : ℕ) (table : List ℕ) (ns : List Node) (xs : List ℤ) (loop
   truly-met = record {
     run = run;
     run-good = run-good T M (atomsOn T xs);
-    atoms = atoms;
-    ones = λ n t h l u x. slack-is n t ∙ only .one n t h l u x;
-    zeros = λ n t h l u x. slack-is n t ∙ only .zero n t h l u x;
-    kept-ones = λ n t h k w l u x. slack-is (block n) t ∙ only .kept-one n t h k w l u x;
-    kept-zeros = λ n t h k w l u x. slack-is (block n) t ∙ only .kept-zero n t h k w l u x;
+    atoms = λ a t h l u. atoms a t h l u ∙ as-truth _ (atomsOn T xs t a) (run-bit T M (atomsOn T xs) a t h l u);
+    nodes = λ n t b h l u x. slack-is n t ∙ by-truth b (only .one n t h l u) (only .zero n t h l u) x;
+    kept = λ n t b h k w l u x. slack-is (block n) t ∙ by-truth b (only .kept-one n t h k w l u) (only .kept-zero n t h k w l u) x;
     rule-holds = only .goal-met .0 (rw (← slacks-are, whole) (both-rows .1 .0));
   }
 
@@ -217,30 +225,24 @@ passed-is-true T M L table ns xs n f loop good count j = truly-met T M L table n
 -- ---- of a ruling
 
 -- what passed carries
-record Carried (T M L e : ℕ) (ns : List Node) (n f : ℕ) : Type 0 where
-  figure : ℕ → ℕ
-  figures : ErrorFigures T M L e ns figure
-  count : n ≡ length (rowsOf T M L ns)
-  root-is : f ≡ figure (slack T M (root ns) 1)
-
-carried : {T M L e n k : ℕ} {ns : List Node} {xs : List ℤ} {v : Verdict} → v ≡ Verdict.passed n k → Judged T M L e ns xs v →
-    Carried T M L e ns n k
+carried : {T M L e n k : ℕ} {ns : List Node} {xs : List ℤ} {v : Verdict} → v ≡ passed n k → Judged T M L e ns xs v →
+    (n ≡ length (rowsOf T M L ns)) × RootFigure T M ns (ErrorFigures T M L e ns) k
 carried f (is-outside h) = let z : _≡_ {A = ℕ} 0 1 = cc in absurd (omega arith)
 carried f (is-not-binary p h) = let z : _≡_ {A = ℕ} 0 1 = cc in absurd (omega arith)
 carried f (is-broken p q h) = let z : _≡_ {A = ℕ} 0 1 = cc in absurd (omega arith)
-carried f (is-passed {error} p q r x) = record { figure = error; figures = x; count = cc; root-is = cc }
+carried f (is-passed p q r (error, figures, is)) = (cc, (error, figures, cc))
 
 module _ (t m l : ℕ) (table : List ℕ) (figures : List ℤ) (tolerance : ℤ) (ruling : Answer Verdict)
     (told : ruling ≡ judgeOutcome t m l table figures tolerance) where
   pub passed-means : PassedMeans t m l table figures tolerance ruling
   passed-means n k = (
     λ f.
-        let (none, (ns, e, good, tol, j)) = judge-answers t m l table figures tolerance ruling told (Verdict.passed n k) .0 f in
-        let c = carried refl j in
-        (none, (ns, e, c .figure, good, tol, c .figures, c .count, c .root-is, passes t m l e ns figures n k refl j)),
+        let (none, (ns, e, good, tol, j)) = judge-answers t m l table figures tolerance ruling told (passed n k) .0 f in
+        let (count, (error, counted, root-is)) = carried refl j in
+        (none, (ns, e, error, good, tol, counted, count, root-is, passes t m l e ns figures n k refl j)),
     λ x.
         let (ns, e, figure, good, tol, counted, count, root-is, p) = x .1 in
-        judge-answers t m l table figures tolerance ruling told (Verdict.passed n k) .1
+        judge-answers t m l table figures tolerance ruling told (passed n k) .1
         (x .0, (ns, e, good, tol, rw (count, root-is) (passed-iff t m l e ns figures figure counted .1 p))),
   )
 
@@ -251,31 +253,31 @@ module _ (t m l : ℕ) (table : List ℕ) (figures : List ℤ) (tolerance : ℤ)
 
   pub passed-at-zero : PassedAtZero t m l table figures tolerance ruling
   passed-at-zero n k zero-is f =
-      let x = judge-answers t m l table figures tolerance ruling told (Verdict.passed n k) .0 f in
+      let x = judge-answers t m l table figures tolerance ruling told (passed n k) .0 f in
       let ns = x .1 .0 in
       let z : x .1 .1 ≡ 0 = ap natAbs (sym (x .1 .3) ∙ zero-is) in (
         ns,
         x .1 .2,
         passed-is-true t m l table ns figures n k (judge-loop-allowed t m l table figures tolerance (x .0)) (x .1 .2)
             (counted ns (x .0) (x .1 .2) (ℕ-discrete (length figures) (variableCount t m l ns)))
-            (subst (λ (e : ℕ). Judged t m l e ns figures (Verdict.passed n k)) z (x .1 .4)),
+            (subst (λ (e : ℕ). Judged t m l e ns figures (passed n k)) z (x .1 .4)),
       )
 
   pub passed-near : PassedNear t m l table figures tolerance ruling
   passed-near n k f =
-      let (none, (ns, e, good, tol, j)) = judge-answers t m l table figures tolerance ruling told (Verdict.passed n k) .0 f in
-      let c = carried refl j in
+      let (none, (ns, e, good, tol, j)) = judge-answers t m l table figures tolerance ruling told (passed n k) .0 f in
+      let (count, (error, counts, root-is)) = carried refl j in
       let r = rounded-run t m figures in
       let loop = judge-loop-allowed t m l table figures tolerance none in
       let long = counted ns none good (ℕ-discrete (length figures) (variableCount t m l ns)) in (
         ns,
         e,
-        c .figure,
+        error,
         r .0,
         good,
         tol,
-        c .figures,
-        c .root-is,
+        counts,
+        root-is,
         r .1,
-        passed-is-near t m l e n k table ns figures (c .figure) (r .0) loop good long (c .figures) (r .1) j,
+        passed-is-near t m l e n k table ns figures error (r .0) loop good long counts (r .1) j,
       )

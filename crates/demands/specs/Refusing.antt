@@ -14,7 +14,10 @@ use Rattle.rules.specs.Demands.Answer.{refused, answered}
 use Rattle.rules.specs.Demands.Written.{wrote}
 use Rattle.rules.specs.Outcome.{result, buffer, readOutcome, evaluateOutcome, rowsOutcome, judgeOutcome}
 use Rattle.rules.specs.Exactness.Tests.{at-least}
-use Rattle.rules.specs.Theorems.{reader-exact, evaluator-exact, rows-exact, judge-exact}
+use Rattle.rules.specs.Exactness.Read.{read-exact}
+use Rattle.rules.specs.Exactness.Evaluate.{evaluate-exact}
+use Rattle.rules.specs.Exactness.Rows.{rows-exact}
+use Rattle.rules.specs.Exactness.Judge.{judge-exact}
 use Rattle.demands.specs.Demand1.{Refuses, ReaderRefuses, EvaluatorRefuses, RowWriterRefuses, JudgeRefuses}
 
 result-refused : (a : Answer Written) (k : ℕ) → (result a ≡ refused k) ↔ (a ≡ refused k)
@@ -33,14 +36,14 @@ module _ (Refused : ℕ → Type 0) (Is : Written → Type 0) (a : Answer Writte
 pub reader-refuses : (m : ℕ) (text : List ℕ) (answer : Answer ℕ) (out out′ : List ℕ) →
     answer ≡ result (readOutcome m text (length out)) → out′ ≡ buffer (readOutcome m text (length out)) out → ReaderRefuses m text answer out out′
 reader-refuses m text answer out out′ told left =
-    refuses (ReadRefused m text (length out)) _ (readOutcome m text (length out)) (reader-exact m text (length out)) answer out out′ told left
+    refuses (ReadRefused m text (length out)) _ (readOutcome m text (length out)) (read-exact m text (length out)) answer out out′ told left
 
 pub evaluator-refuses : (t m l : ℕ) (table run : List ℕ) (answer : Answer ℕ) (out out′ : List ℕ) →
     answer ≡ result (evaluateOutcome t m l table run (length out)) → out′ ≡ buffer (evaluateOutcome t m l table run (length out)) out →
     EvaluatorRefuses t m l table run answer out out′
 evaluator-refuses t m l table run answer out out′ told left =
     refuses (EvaluateRefused t m l table run (length out)) _ (evaluateOutcome t m l table run (length out))
-    (evaluator-exact t m l table run (length out)) answer out out′ told left
+    (evaluate-exact t m l table run (length out)) answer out out′ told left
 
 pub row-writer-refuses : (t m l : ℕ) (table : List ℕ) (answer : Answer ℕ) (out out′ : List ℕ) →
     answer ≡ result (rowsOutcome t m l table (length out)) → out′ ≡ buffer (rowsOutcome t m l table (length out)) out →

@@ -9,6 +9,7 @@ use lib.Signed.{_<ℤ_}
 use Rattle.rules.specs.Table.{Node, Good}
 use Rattle.rules.specs.Rows.{Row, rowsOf}
 use Rattle.rules.specs.Judge.{Broken, shortfall, None, Verdict, rowAt}
+use Rattle.rules.specs.Judge.VerdictWith.{broken}
 use Rattle.rules.specs.Refusals.{JudgeRefused}
 use Rattle.rules.specs.Demands.{Answer}
 use Rattle.rules.specs.Demands.Answer.{answered}
@@ -34,6 +35,6 @@ SameVerdict t m l table figures tolerance ruling =
 -- "The verdict broken then carries the shortfall in millionths", that of the row it names: above the tolerance, and so above 0
 abbrev pub CarriesShortfall : (t m l : ℕ) (table : List ℕ) (figures : List ℤ) (tolerance : ℤ) (ruling : Answer Verdict) → Type 0
 CarriesShortfall t m l table figures tolerance ruling =
-    (i : ℕ) (d : ℤ) → ruling ≡ answered (Verdict.broken i d) →
+    (i : ℕ) (d : ℤ) → ruling ≡ answered (broken i d) →
     (ns : List Node) × (e : ℕ) × Good m table ns × (tolerance ≡ pos e) × (i < length (rowsOf t m l ns)) ×
-    (d ≡ shortfall figures (rowAt t m l ns i)) × (pos e <ℤ d) × (pos 0 <ℤ d)
+    (d ≡ shortfall figures (rowAt (rowsOf t m l ns) i)) × (pos e <ℤ d) × (pos 0 <ℤ d)

@@ -1,14 +1,15 @@
 // The demands, as the contracts of functions that only make the calls.
+ghost use Rattle.rules.specs.Demands.{FirstAnswers};
 ghost use Rattle.answers.specs.Meaning.{answerOf};
 ghost use Rattle.row.specs.Meaning.{termsOf};
 ghost use Rattle.judge_sums.specs.Meaning.{rowSumOf};
-ghost use Rattle.evaluator_words.specs.Meaning.{firstSlotOf};
+ghost use Rattle.evaluator.specs.Meaning.{firstSlotOf};
 ghost use Rattle.judge.specs.Meaning.{rulingOf};
 ghost use Rattle.demands.specs.Demand1.{ReaderRefuses, EvaluatorRefuses, RowWriterRefuses, JudgeRefuses};
-ghost use Rattle.demands.specs.Demand2.{ReaderAnswers, EvaluatorAnswers, FirstAnswers, RowWriterAnswers, JudgeAnswers};
+ghost use Rattle.demands.specs.Demand2.{ReaderAnswers, EvaluatorAnswers, RowWriterAnswers, JudgeAnswers};
 ghost use Rattle.demands.specs.Heights.{ReaderHeights};
 ghost use Rattle.demands.specs.Words.{SaysBytes};
-ghost use Rattle.demands.specs.Demand3.{Demanded};
+ghost use Rattle.demands.specs.Demand3.{plannedOf, Planning, Demanded};
 ghost use Rattle.demands.specs.Passed.{PassedMeans, PassedAtZero};
 ghost use Rattle.demands.specs.Trust.{PassedNear};
 ghost use Rattle.demands.specs.Shortfall.{SameVerdict, CarriesShortfall};
@@ -16,7 +17,7 @@ ghost use Rattle.demands.specs.RowSum.{PositiveFirst, SummedVerdict};
 ghost use Rattle.demands.specs.Page.{PageRefuses, PageAnswers, PageMeans};
 use answers::Answer;
 use answers::Refusal;
-use evaluator_words::FirstSlot;
+use evaluator::FirstSlot;
 use judge::Ruling;
 use judge_sums::RowSum;
 use row::Terms;
@@ -43,7 +44,7 @@ pub fn evaluate(table: &[u8], t: usize, m: usize, l: usize, run: &[u16], out: &m
 pub fn first_slot(word: u64) -> FirstSlot
     ensures { λ r. ⌜ FirstAnswers word (firstSlotOf r) ⌝ }
 {
-    evaluator_words::first_slot(word)
+    evaluator::first_slot(word)
 }
 
 // Demands 1 and 2 of the row writer.
@@ -85,6 +86,13 @@ pub fn mps_page(table: &[u8], t: usize, m: usize, l: usize, out: &mut [u8]) -> A
     mps_page::mps_page(table, t, m, l, out)
 }
 
+// The horizon: slots 1 to t with m atoms each, and after slot t comes slot l again.
+pub struct Horizon {
+    pub t: usize,
+    pub m: usize,
+    pub l: usize,
+}
+
 // The node count, the row count and the root's truth at slot 1, or the first refusal.
 pub enum Planned {
     Done {
@@ -95,20 +103,23 @@ pub enum Planned {
     Refused(Refusal),
 }
 
-// Demand 3: a text is read, and the rows and the truth of the table that was read are written.
+// A text is read, and the rows and the truth of the table that was read are written: what is answered and written for every input, and demand 3.
 pub fn plan(
     text: &[u8],
-    t: usize,
-    m: usize,
-    l: usize,
+    horizon: Horizon,
     run: &[u16],
     table: &mut [u8],
     rows: &mut [u8],
     truth: &mut [u64],
 ) -> Planned
-    ensures { λ r. ⌜ Demanded t m l (now (text .entry)) (now (run .entry)) (now (table .entry)) (now (rows .entry)) (now (truth .entry))
-        (now (table .exit)) (now (rows .exit)) (now (truth .exit)) r ⌝ }
+    ensures { λ r. ⌜ Planning (horizon .t) (horizon .m) (horizon .l) (now (text .entry)) (now (run .entry)) (now (table .entry)) (now (rows .entry))
+        (now (truth .entry)) (now (table .exit)) (now (rows .exit)) (now (truth .exit)) (plannedOf r) ⌝ }
+    ensures { λ r. ⌜ Demanded (horizon .t) (horizon .m) (horizon .l) (now (text .entry)) (now (run .entry)) (now (table .entry)) (now (rows .entry))
+        (now (truth .entry)) (now (table .exit)) (now (rows .exit)) (now (truth .exit)) (plannedOf r) ⌝ }
 {
+    let t = horizon.t;
+    let m = horizon.m;
+    let l = horizon.l;
     match reader::read(text, m, table) {
         Answer::Refused(r) => Planned::Refused(r),
         Answer::Value(n) => {

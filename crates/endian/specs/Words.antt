@@ -4,6 +4,10 @@ use mathlib.Core.List.{List, [], _∷_}
 use Prim.Native.Nat.{ℕ, zero, suc, _+_, _*_, _/_, _%_, _<_}
 use native.Mathlib.Omega.{arith}
 
+-- the words below it have at most seven bytes: 2 to the power 56
+abbrev pub sevenBytes : ℕ
+sevenBytes = 72057594037927936
+
 -- the n lowest bytes
 abbrev pub littleEndian : (n w : ℕ) → List ℕ
 littleEndian zero w = []

@@ -3,11 +3,11 @@ ghost use mathlib.Core.Path.{_≡_};
 ghost use Prim.Native.Nat.{_+_, _*_, _≤_, _<_};
 ghost use lib.ListN.{length};
 ghost use Rattle.lists.specs.Splice.{splice};
-ghost use Rattle.endian.specs.Words.{littleEndian, twoBytes};
+ghost use Rattle.endian.specs.Words.{sevenBytes, littleEndian, twoBytes};
 
 // A word with one more byte, which comes before its others.
 pub fn grown(rest: u64, byte: u8) -> u64
-    requires { ⌜ rest < 72057594037927936 ⌝ }
+    requires { ⌜ rest < sevenBytes ⌝ }
     ensures { λ r. ⌜ r ≡ rest * 256 + byte ⌝ }
 {
     rest * 256 + (byte as u64)

@@ -4,3 +4,5 @@ pub mod Low
 pub mod Filled
 pub mod Truths
 pub mod Checks
+pub mod Meaning
+pub mod First

@@ -9,8 +9,7 @@ use Rattle.rules.specs.Rule.{Rule, height}
 use Rattle.rules.specs.Table.{Node, NodeGood, leftOf, ruleAt, grow, nodeAt}
 use Rattle.rules.specs.Table.Node.{atom, unary, binary, windowed}
 use Rattle.rules.specs.TableRules.{NodesGood, ruleAt-is}
-use Rattle.rules.specs.TableTest.{byteAt, good, nodesIn, good-sound}
-use Rattle.rules.specs.Theorems.{heights-right}
+use Rattle.rules.specs.TableTest.{byteAt, good, nodesIn, good-sound, height-byte}
 use Rattle.evaluator_words.specs.Words.{Word}
 use Rattle.evaluator_atoms.specs.Columns.{Columns}
 use Rattle.table.specs.Nodes.{nodeBy, nodeOf}
@@ -38,7 +37,7 @@ Low table n = byteAt table n 7 ≡ 0 → IsAtom (nodeAt (nodesIn table) n)
 pub low-atom : (M : ℕ) (table : List ℕ) → good M table ≡ true → NodesGood M (nodesIn table) → (n : ℕ) → n < length (nodesIn table) → Low table n
 low-atom M table e nodes n h low =
     let ns = nodesIn table in
-    only-atoms (ruleAt ns) (nodeAt ns n) (ap height (sym (ruleAt-is M ns nodes n h)) ∙ sym (heights-right M table ns (good-sound M table (rw e tt)) n h) ∙ low)
+    only-atoms (ruleAt ns) (nodeAt ns n) (ap height (sym (ruleAt-is M ns nodes n h)) ∙ sym (height-byte M table ns (good-sound M table (rw e tt)) n h) ∙ low)
 
 -- an atom that was read has its number on the left
 left-is : (k : Kind) (l r a b : ℕ) → leftOf (nodeBy k l r a b) ≡ l

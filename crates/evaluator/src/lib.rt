@@ -1,9 +1,10 @@
-// The evaluator: the truth word of every node of a table over a run.
+// The evaluator: the truth word of every node of a table over a run, and a word's first slot.
 ghost use mathlib.Core.Path.{_≡_};
 ghost use mathlib.Core.List.{List};
 ghost use Prim.Native.Nat.{ℕ, _%_, _^_, _≤_, _<_};
 ghost use lib.ListN.{length, getD};
 ghost use Rattle.rules.specs.Outcome.{runGood, evaluateOutcome, result, buffer};
+ghost use Rattle.rules.specs.Words.{firstSlot};
 ghost use Rattle.rules.specs.Table as Table;
 ghost use Rattle.rules.specs.Table.{NodeGood};
 ghost use Rattle.rules.specs.TableTest.{nodesIn, recordCount};
@@ -11,6 +12,7 @@ ghost use Rattle.answers.specs.Meaning.{answerOf};
 ghost use Rattle.table.specs.Nodes.{nodeOf};
 ghost use Rattle.evaluator_words.specs.Words.{Word};
 ghost use Rattle.evaluator_atoms.specs.Columns.{Columns};
+ghost use Rattle.evaluator.specs.Meaning.{firstSlotOf};
 ghost use Rattle.evaluator.specs.Low.{Low};
 ghost use Rattle.evaluator.specs.Nodes.{nodeAt, Children};
 ghost use Rattle.evaluator.specs.Filled.{Filled};
@@ -172,4 +174,21 @@ pub fn evaluate(table: &[u8], t: usize, m: usize, l: usize, run: &[u16], out: &m
             Answer::Value(at_first(out[root]))
         }
     }
+}
+
+// A slot, or that there is none.
+pub enum FirstSlot {
+    Slot(usize),
+    None,
+}
+
+// "gives the first slot with a set bit, or says that there is none"
+pub fn first_slot(word: u64) -> FirstSlot
+    ensures { λ r. ⌜ firstSlotOf r ≡ firstSlot word ⌝ }
+{
+    let zeros = u64::trailing_zeros(word) as usize;
+    if zeros < 64 {
+        return FirstSlot::Slot(zeros + 1);
+    }
+    FirstSlot::None
 }

@@ -14,7 +14,7 @@ use Rattle.evaluator_words.specs.Words.{Word}
 use Rattle.evaluator_atoms.specs.Turning.{Turned, slotAt, atomAt, need}
 use Rattle.evaluator_atoms.specs.Packing.{taken, Width, Packed}
 
--- "atom a is true at slot t when bit a of the run's t-th number is 1": bit a of the number at each slot, for the first m atoms
+-- "bit a (value 2 to the power a) is the truth of atom a": bit a of the number at each slot, for the first m atoms
 abbrev pub Columns : (T : ℕ) (run : List ℕ) (m : ℕ) → List ℕ → Type 0
 Columns T run m cols = (a : ℕ) → a < m → Word T (λ j. on (getD run j 0) a) (getD cols a 0)
 

@@ -11,7 +11,8 @@ use lib.Dec.{T as Is, ltb}
 use lib.ListN.{length, getD, set, length-set}
 use lib.Seq.{getD-set-same, getD-set-other}
 use Rattle.lists.specs.Tests.{is-true}
-use Rattle.evaluator_atoms.specs.Turning.{Turned, firstHalf, pairOf, pairsFor, need, lowOf, highOf, Stage, PairAt, low-is, high-is, first-row, second-row, pair-needed, own-needed, high-needed, low-needed}
+use Rattle.evaluator_atoms.specs.Turning.{Turned, firstHalf, pairOf, pairsFor, need, lowOf, highOf, Stage, PairAt, low-is, high-is, first-row}
+use Rattle.evaluator_atoms.specs.Turning.{second-row, pair-needed, own-needed, high-needed, low-needed}
 
 -- word i of the block c after its pair is exchanged
 abbrev exchanged : (h mask : ℕ) (c : List ℕ) (i : ℕ) → ℕ

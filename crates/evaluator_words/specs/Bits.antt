@@ -10,6 +10,8 @@ use lib.Arith.{digits-div, digits-mod}
 use lib.Bits.{bitAnd, bitOr, and-step, or-step}
 use lib.Pow.{shr-shr, shl-shr, field, mod-mod-pow, shr-le, ones-lt, pow-mono}
 use native.Mathlib.Decide.{decLt}
+use Rattle.rules.specs.Truth.{slotBit}
+use Rattle.rules.specs.Words.{same-slots}
 
 -- bit j of w
 unfoldable pub on : ℕ → ℕ → Bool
@@ -128,13 +130,8 @@ digit-same zero (suc (suc y)) h g e = absurd (omega arith)
 digit-same (suc zero) (suc (suc y)) h g e = absurd (omega arith)
 
 pub on-ext : (n a b : ℕ) → a < 2 ^ n → b < 2 ^ n → ((j : ℕ) → j < n → on a j ≡ on b j) → a ≡ b
-unfolding on
-on-ext zero a b h g e = omega arith
-on-ext (suc n) a b h g e =
-    let s = pow-suc 2 n in
-    let low : a % 2 ≡ b % 2 = digit-same (a % 2) (b % 2) (omega arith) (omega arith) (e 0 (omega arith)) in
-    let high : a / 2 ≡ b / 2 = on-ext n (a / 2) (b / 2) (omega arith) (omega arith) (λ j l. e (suc j) (omega arith)) in
-    omega arith
+on-ext n a b h g e = same-slots n a b h g λ t u v. digit-same (slotBit a t) (slotBit b t) (mod-lt _ (omega arith)) (mod-lt _ (omega arith))
+    (sym (on-is a (t - 1)) ∙ e (t - 1) (omega arith) ∙ on-is b (t - 1))
 
 -- a word of k bits with no bit from n on is below 2 ^ n
 on-within : (k n w : ℕ) → w < 2 ^ k → ((j : ℕ) → n ≤ j → on w j ≡ false) → w < 2 ^ n

@@ -2,6 +2,5 @@ pub mod Bits
 pub mod Ahead
 pub mod Words
 pub mod Rounds
-pub mod Meaning
-pub mod First
+pub mod Trailing
 pub mod Windows

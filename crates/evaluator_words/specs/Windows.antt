@@ -17,7 +17,7 @@ use Rattle.rules.specs.Slots.{slot-le, slot-pos, slot-is, slot-ahead, slot-past
 use Rattle.evaluator_words.specs.Bits.{on, on-above, on-below, on-or, on-ones, on-shr}
 use Rattle.evaluator_words.specs.Ahead.{some, some-at, at-some, some-later}
 use Rattle.evaluator_words.specs.Words.{Word, slotFrom, laterAt, withinAt, word-same}
-use Rattle.evaluator_words.specs.First.{trailing-below, trailing-at}
+use Rattle.evaluator_words.specs.Trailing.{trailing-below, trailing-at}
 
 no-clash : (b : Bool) → b ≡ false → Is b → ⊥
 no-clash b e t = subst Is e t

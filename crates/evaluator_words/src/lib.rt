@@ -3,12 +3,11 @@
 ghost use mathlib.Core.Path.{_≡_};
 ghost use mathlib.Core.Bool.{Bool, not, _&&_, _||_};
 ghost use Prim.Native.Nat.{ℕ, _+_, _-_, _^_, _≤_, _<_};
-ghost use Rattle.rules.specs.Words.{firstSlot};
 ghost use Rattle.evaluator_words.specs.Bits.{on};
 ghost use Rattle.evaluator_words.specs.Ahead.{some, Doubled};
-ghost use Rattle.evaluator_words.specs.Words.{Word, eventuallyKept, alwaysKept, untilKept, eventuallyAt, alwaysAt, untilAt, laterAt, withinAt, throughoutAt};
+ghost use Rattle.evaluator_words.specs.Words.{Word, eventuallyKept, alwaysKept, untilKept};
+ghost use Rattle.evaluator_words.specs.Words.{eventuallyAt, alwaysAt, untilAt, laterAt, withinAt, throughoutAt};
 ghost use Rattle.evaluator_words.specs.Rounds.{Round};
-ghost use Rattle.evaluator_words.specs.Meaning.{firstSlotOf};
 
 // The bits of a that b has not.
 fn without(a: u64, b: u64) -> u64
@@ -243,21 +242,4 @@ pub fn always_within(p: u64, t: usize, l: usize, a: usize, b: usize) -> u64
     ensures { λ r. ⌜ Word t (throughoutAt t l a b (on p)) r ⌝ }
 {
     not(eventually_within(not(p, t), t, l, a, b), t)
-}
-
-// A slot, or that there is none.
-pub enum FirstSlot {
-    Slot(usize),
-    None,
-}
-
-// "The first slot with a set bit, or says that there is none."
-pub fn first_slot(word: u64) -> FirstSlot
-    ensures { λ r. ⌜ firstSlotOf r ≡ firstSlot word ⌝ }
-{
-    let zeros = u64::trailing_zeros(word) as usize;
-    if zeros < 64 {
-        return FirstSlot::Slot(zeros + 1);
-    }
-    FirstSlot::None
 }

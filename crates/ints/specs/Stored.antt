@@ -35,20 +35,24 @@ cast-fits {w′ = w′} t f = subst⁻¹ (SFits w′) (toZ-ofZ f) (sfits-widen t
 pub cast-back : {w : Width} (w′ : Width) {z : ℤ} → T (leb (hbits w) (hbits w′)) → SFits w z → toZ w′ (ofZ w′ (toZ w (ofZ w z))) ≡ z
 cast-back w′ t f = toZ-ofZ (cast-fits t f) ∙ toZ-ofZ f
 
--- numbers well inside 64 bits: read back, and so their sum
-pub back : (z : ℤ) → natAbs z ≤ 1099511627776 → toZ w64 (ofZ w64 z) ≡ z
+-- a bound that is well inside 64 bits
+abbrev pub inside : ℕ
+inside = 2 ^ 40
+
+-- numbers within it: read back, and so their sum
+pub back : (z : ℤ) → natAbs z ≤ inside → toZ w64 (ofZ w64 z) ≡ z
 back z h = toZ-ofZ (sfits-abs z (omega arith))
 
-pub small-back : (z : ℤ) → natAbs z ≤ 1099511627776 → natAbs (toZ w64 (ofZ w64 z)) ≤ 1099511627776
-small-back z h = subst⁻¹ (λ (x : ℤ). natAbs x ≤ 1099511627776) (back z h) h
+pub small-back : (z : ℤ) → natAbs z ≤ inside → natAbs (toZ w64 (ofZ w64 z)) ≤ inside
+small-back z h = subst⁻¹ (λ (x : ℤ). natAbs x ≤ inside) (back z h) h
 
 -- a result that is known by an equation and a bound
-pub kept : {z t : ℤ} → (z ≡ t) × (natAbs z ≤ 1099511627776) → toZ w64 (ofZ w64 z) ≡ t
+pub kept : {z t : ℤ} → (z ≡ t) × (natAbs z ≤ inside) → toZ w64 (ofZ w64 z) ≡ t
 kept {z} p = back z (p .1) ∙ p .0
 
-pub sum-back : (a b : ℤ) → natAbs a ≤ 1099511627776 → natAbs b ≤ 1099511627776 → toZ w64 (ofZ w64 a) +ℤ toZ w64 (ofZ w64 b) ≡ a +ℤ b
+pub sum-back : (a b : ℤ) → natAbs a ≤ inside → natAbs b ≤ inside → toZ w64 (ofZ w64 a) +ℤ toZ w64 (ofZ w64 b) ≡ a +ℤ b
 sum-back a b h g = ap₂ _+ℤ_ (back a h) (back b g)
 
 -- a cast of a number that is not below 0 to an unsigned type
-pub cast-whole : {z : ℤ} {n : ℕ} → z ≡ pos n → n ≤ 1099511627776 → T (nonNeg z) × Fits w64 (natAbs z)
+pub cast-whole : {z : ℤ} {n : ℕ} → z ≡ pos n → n ≤ inside → T (nonNeg z) × Fits w64 (natAbs z)
 cast-whole {n = n} e h = subst⁻¹ (λ (x : ℤ). T (nonNeg x) × Fits w64 (natAbs x)) e (tt, record { fits = omega arith })

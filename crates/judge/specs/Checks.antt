@@ -10,6 +10,7 @@ use lib.Dec.{T as Is, eqb, ltb}
 use lib.ListN.{length}
 use lib.IntN.{ℤ, pos, negsuc}
 use lib.Signed.{ltZ, nonNeg}
+use Rattle.rules.specs.Quantities.{toleranceLimit}
 use Rattle.rules.specs.Demands.{Answer}
 use Rattle.rules.specs.Demands.Answer.{refused, answered}
 use Rattle.rules.specs.Judge.{Verdict}
@@ -52,13 +53,13 @@ module _ (T M L : ℕ) (table : List ℕ) (figures : List ℤ) where
   tolerance-below (pos n) e = absurd (let h = ltb-true n 0 e in omega arith)
   tolerance-below (negsuc n) e = refl
 
-  pub tolerance-above : (z : ℤ) (n : ℕ) → z ≡ pos n → 1000 < n → refused 10 ≡ answer z
+  pub tolerance-above : (z : ℤ) (n : ℕ) → z ≡ pos n → toleranceLimit < n → refused 10 ≡ answer z
   unfolding tolerated
-  tolerance-above z n e h = rw (e, lt-leb n 1000 h)
+  tolerance-above z n e h = rw (e, lt-leb n toleranceLimit h)
 
-  pub tolerance-within : (z : ℤ) (n : ℕ) → z ≡ pos n → n ≤ 1000 → answered (verdict T M L n (nodesIn table) figures) ≡ answer z
+  pub tolerance-within : (z : ℤ) (n : ℕ) → z ≡ pos n → n ≤ toleranceLimit → answered (verdict T M L n (nodesIn table) figures) ≡ answer z
   unfolding tolerated
-  tolerance-within z n e h = rw (e, le-leb n 1000 h)
+  tolerance-within z n e h = rw (e, le-leb n toleranceLimit h)
 
   -- ---- the count of the figures
 

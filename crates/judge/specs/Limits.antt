@@ -14,6 +14,7 @@ use Rattle.lists.specs.First.{first, first-found, Found}
 use Rattle.rules.specs.Quantities.{one}
 use Rattle.rules.specs.Rows.{valueAt}
 use Rattle.rules.specs.Verdicts.{isOutside}
+use Rattle.millionths.specs.Bounds as Bounds
 use Rattle.judge_limits.specs.Tests.{outsideAt}
 use Rattle.judge_slot.specs.Spreads.{Limited}
 
@@ -36,6 +37,6 @@ limited e xs h p v = go (decLt v (length xs))
     found : Found (outsideAt e xs) (length xs) 0 none
     found = rw p at (first-found (outsideAt e xs) (length xs) 0)
 
-    go : Dec (v < length xs) → natAbs (valueAt xs v) ≤ 1100000
+    go : Dec (v < length xs) → natAbs (valueAt xs v) ≤ Bounds.near
     go (yes z) = let n = near e (valueAt xs v) (found v (omega arith) (omega arith)) in omega arith
     go (no z) = rw (List·getD-eq-default xs (pos 0) {n = v} (omega arith)) (omega arith)

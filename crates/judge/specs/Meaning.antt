@@ -2,7 +2,7 @@
 use Rattle.rules.specs.Demands.{Answer}
 use Rattle.rules.specs.Demands.Answer.{refused, answered}
 use Rattle.rules.specs.Judge as Judge
-use Rattle.rules.specs.Judge.Verdict.{outside, not-binary, broken, passed}
+use Rattle.rules.specs.Judge.VerdictWith.{outside, not-binary, broken, passed}
 use Rattle.answers.specs.Meaning.{numberOf}
 use Rattle.judge.specs.declared.Verdict.{Verdict}
 use Rattle.judge.specs.declared.Verdict.the-variants.{Outside, NotBinary, Broken, Passed}
@@ -12,7 +12,7 @@ use Rattle.judge.specs.declared.Ruling.the-variants.{Refused, Judged}
 abbrev pub verdictOf : Verdict → Judge.Verdict
 verdictOf (Outside v) = outside v
 verdictOf (NotBinary v) = not-binary v
-verdictOf (Broken i d) = broken i d
+verdictOf (Broken d i) = broken i d
 verdictOf (Passed n error) = passed n error
 
 abbrev pub rulingOf : Ruling → Answer Judge.Verdict

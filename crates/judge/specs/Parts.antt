@@ -8,10 +8,10 @@ use lib.IntN.{ℤ}
 use lib.ListN.{length}
 use Rattle.lists.specs.First.{first}
 use Rattle.rules.specs.Table.{Node}
-use Rattle.rules.specs.Rows.{goalRow, rowsOf}
+use Rattle.rules.specs.Rows.{rowsOf}
 use Rattle.rules.specs.Judge as Judge
-use Rattle.rules.specs.Judge.Verdict.{outside, not-binary, broken, passed}
-use Rattle.rules.specs.Judge.{shortfall}
+use Rattle.rules.specs.Judge.VerdictWith.{outside, not-binary, broken, passed}
+use Rattle.rules.specs.Judge.{shortfall, noRow}
 use Rattle.rules.specs.Errors.Figures.{rootError}
 use Rattle.rules.specs.Verdicts.{orElse, firstOutside, firstNotBinary, firstBroken, brokenAt, verdict}
 use Rattle.judge_slot.specs.declared.Search.{Search}
@@ -32,11 +32,11 @@ module _ (T M L e : ℕ) (ns : List Node) (xs : List ℤ) where
   verdict-is = refl
 
   pub broken-is : (s : Search) → s ≡ tested e (shortfall xs) (Clear 0) (rowsOf T M L ns) → firstBroken T M L e ns xs ≡ Searches.broken s
-  broken-is s p = sym (first-broken e (shortfall xs) (goalRow T M ns) (rowsOf T M L ns)) ∙ ap Searches.broken (sym p)
+  broken-is s p = sym (first-broken e (shortfall xs) noRow (rowsOf T M L ns)) ∙ ap Searches.broken (sym p)
 
   pub broken-verdict : (i : ℕ) (d : ℤ) → Broken d i ≡ tested e (shortfall xs) (Clear 0) (rowsOf T M L ns) → broken i d ≡ rowsVerdict
   unfolding rowsVerdict
-  broken-verdict i d p = rw (broken-is (Broken d i) p) (ap (broken i) (shortfall-of e (shortfall xs) (goalRow T M ns) (rowsOf T M L ns) i d (sym p)))
+  broken-verdict i d p = rw (broken-is (Broken d i) p) (ap (broken i) (shortfall-of e (shortfall xs) noRow (rowsOf T M L ns) i d (sym p)))
 
   pub clear-verdict : (n f : ℕ) → Clear n ≡ tested e (shortfall xs) (Clear 0) (rowsOf T M L ns) → f ≡ rootError T L e ns → passed n f ≡ rowsVerdict
   unfolding rowsVerdict

@@ -16,15 +16,18 @@ ghost use Rattle.judge.specs.Meaning.{verdictOf, rulingOf};
 ghost use Rattle.judge.specs.Checks.{tolerated, counted};
 ghost use Rattle.judge.specs.Parts.{rowsVerdict, atomsVerdict};
 
+// The largest tolerance, in millionths.
+const TOLERANCE: u32 = 1_000;
+
 pub enum Verdict {
     // the lowest variable outside the limits
     Outside(usize),
     // the lowest atom variable that is neither zero nor one
     NotBinary(usize),
     // the lowest broken row, and its shortfall in millionths
-    Broken(usize, i64),
+    Broken { shortfall: i64, row: usize },
     // the row count, and the root's error figure at slot 1
-    Passed(usize, u32),
+    Passed { rows: usize, error: u32 },
 }
 
 pub enum Ruling {
@@ -47,8 +50,11 @@ fn rows_verdict(
 {
     let rows = judge_search::test_all(table, n, t, m, l, figures, e);
     match rows {
-        Search::Broken(shortfall, i) => Verdict::Broken(i, shortfall),
-        Search::Clear(i) => Verdict::Passed(i, judge_errors::root_figure(table, n, t, m, l, e)),
+        Search::Broken { shortfall, row } => Verdict::Broken { shortfall, row },
+        Search::Clear(count) => Verdict::Passed {
+            rows: count,
+            error: judge_errors::root_figure(table, n, t, m, l, e),
+        },
     }
 }
 
@@ -111,7 +117,7 @@ fn judge_counted(
         return Ruling::Refused(Refusal::Tolerance);
     }
     let tolerance = e as u32;
-    if 1000 < tolerance {
+    if TOLERANCE < tolerance {
         return Ruling::Refused(Refusal::Tolerance);
     }
     Ruling::Judged(verdict_of(table, n, t, m, l, figures, tolerance as u16))

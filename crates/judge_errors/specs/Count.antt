@@ -22,7 +22,8 @@ use Rattle.table.specs.declared.Kind.the-variants as Kinds
 use Rattle.judge_errors.specs.declared.Parts.{Parts}
 use Rattle.judge_errors.specs.declared.Counting.{Counting}
 use Rattle.judge_errors.specs.declared.Counting.the-variants.{Atom, Here, Later, Window}
-use Rattle.judge_errors.specs.Worked.{Room, figureAt, ahead, Worked, worked-below, down, down-none, down-more, down-same, endOf, nextAt, Summed, summed-more}
+use Rattle.judge_errors.specs.Worked.{Room, figureAt, ahead, Worked, worked-below, endOf, nextAt, Summed, summed-more}
+use Rattle.judge_errors.specs.Worked.{down, down-none, down-more, down-same}
 
 abbrev pub countingOf : Kind → Counting
 countingOf Kinds.Atom = Atom

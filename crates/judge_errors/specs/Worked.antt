@@ -2,7 +2,7 @@
 use mathlib.Core.Path.{_≡_, refl, sym, ap, _∙_}
 use mathlib.Core.Bool.{Bool, true, false, cond}
 use mathlib.Core.List.{List}
-use Prim.Native.Nat.{ℕ, zero, suc, _+_, _-_, _*_, _≤_, _<_, min}
+use Prim.Native.Nat.{ℕ, zero, suc, _+_, _-_, _*_, _^_, _≤_, _<_, min}
 use native.Mathlib.Decide.{ℕ-discrete, decLt}
 use native.Mathlib.Omega.{arith}
 use borrow.Author.Tests.{lt-ltb, le-ltb}
@@ -10,13 +10,21 @@ use lib.Dec.{ltb}
 use lib.ListN.{length, getD, set, replicate, length-set, length-replicate, getD-replicate, List·getD-eq-default}
 use lib.Seq.{getD-set-same, getD-set-other}
 use Rattle.lists.specs.Place.{place-lt}
-use Rattle.rules.specs.Quantities.{one}
+use Rattle.rules.specs.Quantities.{nodeLimit, one}
 
 -- node n has its places, all of them, among those of at most 128 nodes at at most 64 slots
 pub record Room (T n : ℕ) (l : List ℕ) : Type 0 where
   pub inside : n * T + T ≤ length l
   pub nodes : n < 128
   pub slots : T ≤ 64
+
+-- the places of the error figures of all nodes at 64 slots
+abbrev pub places : ℕ
+places = nodeLimit * 64
+
+-- what a slot adds to a sum at most: a tolerance of 16 bits, and the error figures of two parts
+abbrev pub perSlot : ℕ
+perSlot = 2 ^ 16 + 2 * one
 
 -- no error figure is above one
 abbrev pub Small : List ℕ → Type 0
@@ -110,7 +118,7 @@ endOf T L f = cond (ltb L T) (down T f (T + 1 - L)) 0
 -- the sum that was reached at slot k, whose figure is x
 pub record Summed (T k x sum : ℕ) : Type 0 where
   pub stopped : min one sum ≡ x
-  pub few : sum ≤ one + (T - k) * 2100000
+  pub few : sum ≤ one + (T - k) * perSlot
 
 pub summed-none : (T x : ℕ) → x ≤ one → Summed T T x x
 summed-none T x h = record { stopped = omega arith; few = omega arith }
@@ -129,7 +137,7 @@ pub next-last : (T n end : ℕ) (m : List ℕ) → end ≡ nextAt T n end m T
 next-last T n end m = rw (le-ltb T T (omega arith)) refl
 
 -- it was written at slot k
-pub summed-at : (T n k end : ℕ) (m : List ℕ) (i v sum : ℕ) → k < T → n * T + T ≤ length m → sum ≤ one + (T - k) * 2100000 → i ≡ n * T + k → v ≡ min one sum →
+pub summed-at : (T n k end : ℕ) (m : List ℕ) (i v sum : ℕ) → k < T → n * T + T ≤ length m → sum ≤ one + (T - k) * perSlot → i ≡ n * T + k → v ≡ min one sum →
     Summed T k (nextAt T n end (set m i v) k) sum
 summed-at T n k end m i v sum in-run inside few place is =
     rw place (record { stopped = rw (lt-ltb k T in-run) (sym (getD-set-same m (n * T + k) v 0 (omega arith) ∙ is)); few = few })

@@ -14,11 +14,14 @@ ghost use Rattle.rules.specs.TableTest.{recordCount, nodesIn};
 ghost use Rattle.rules.specs.Errors.Figures.{rootError};
 ghost use Rattle.table.specs.Checks.{Ready};
 ghost use Rattle.window.specs.Slots.{Few, variableAt};
-ghost use Rattle.judge_errors.specs.Worked.{Room, Small, figureAt, Done, down};
+ghost use Rattle.judge_errors.specs.Worked.{places, Room, Small, figureAt, Done, down};
 ghost use Rattle.judge_errors.specs.Window.{sumTo};
 ghost use Rattle.judge_errors.specs.Count.{countingOf, PartsIn, PartsBelow, partsAt, laterAt};
 ghost use Rattle.judge_errors.specs.Count.{figureNow, figureAtom, figureHere, keptLater, laterEnd, figureLater};
 ghost use Rattle.judge_errors.specs.Known.{Known, Countable};
+
+// The places of the error figures of 128 nodes at 64 slots.
+const PLACES: usize = 8192;
 
 // What a node counts beside e.
 enum Counting {
@@ -75,7 +78,7 @@ fn stopped(sum: u32) -> u32
 // Where the error figures of node c start.
 fn place(c: usize, t: usize) -> usize
     requires { ⌜ (c ≤ 128) × (t ≤ 64) ⌝ }
-    ensures { λ r. ⌜ (r ≡ c * t) × (r ≤ 8192) ⌝ }
+    ensures { λ r. ⌜ (r ≡ c * t) × (r ≤ places) ⌝ }
 {
     c * t
 }
@@ -83,7 +86,7 @@ fn place(c: usize, t: usize) -> usize
 // The error figure of node c at slot s.
 fn figure_at(figures: &[u32], t: usize, c: usize, s: usize) -> u32
     requires { ⌜ (c * t + t ≤ length (now figures)) × (c < 128) × (t ≤ 64) × (s < t) × Small (now figures) ⌝ }
-    ensures { λ r. ⌜ (r ≡ figureAt t (now (figures .entry)) c s) × (r ≤ 1000000) ⌝ }
+    ensures { λ r. ⌜ (r ≡ figureAt t (now (figures .entry)) c s) × (r ≤ one) ⌝ }
 {
     figures[place(c, t) + s]
 }
@@ -91,7 +94,7 @@ fn figure_at(figures: &[u32], t: usize, c: usize, s: usize) -> u32
 // The error figures of a node's parts at slot s, together.
 fn parts_sum(figures: &[u32], t: usize, s: usize, parts: Parts) -> u32
     requires { ⌜ PartsIn t parts (now figures) × (s < t) × Small (now figures) ⌝ }
-    ensures { λ r. ⌜ (r ≡ partsAt t (now (figures .entry)) parts s) × (r ≤ 2000000) ⌝ }
+    ensures { λ r. ⌜ (r ≡ partsAt t (now (figures .entry)) parts s) × (r ≤ 2 * one) ⌝ }
 {
     let p = parts.left;
     let q = parts.right;
@@ -107,7 +110,7 @@ fn parts_sum(figures: &[u32], t: usize, s: usize, parts: Parts) -> u32
 // What F, G and U count at slot s beside what follows: their parts and, where nothing follows, the right one alone.
 fn later_sum(figures: &[u32], t: usize, s: usize, parts: Parts, follows: bool) -> u32
     requires { ⌜ PartsIn t parts (now figures) × (s < t) × Small (now figures) ⌝ }
-    ensures { λ r. ⌜ (r ≡ laterAt t (now (figures .entry)) parts follows s) × (r ≤ 2000000) ⌝ }
+    ensures { λ r. ⌜ (r ≡ laterAt t (now (figures .entry)) parts follows s) × (r ≤ 2 * one) ⌝ }
 {
     if follows {
         parts_sum(figures, t, s, parts)
@@ -120,7 +123,7 @@ fn later_sum(figures: &[u32], t: usize, s: usize, parts: Parts, follows: bool) -
 // stopping in the end gives the same.
 fn kept_figure(figures: &[u32], t: usize, l: usize, parts: Parts, e: u16) -> u32
     requires { ⌜ PartsIn t parts (now figures) × LoopAllowed t l × Small (now figures) ⌝ }
-    ensures { λ r. ⌜ (r ≡ down t (keptLater t e (now (figures .entry)) parts) (t + 1 - l)) × (r ≤ 1000000) ⌝ }
+    ensures { λ r. ⌜ (r ≡ down t (keptLater t e (now (figures .entry)) parts) (t + 1 - l)) × (r ≤ one) ⌝ }
 {
     let mut sum: u32 = 0;
     let mut s = t;
@@ -135,7 +138,7 @@ fn kept_figure(figures: &[u32], t: usize, l: usize, parts: Parts, e: u16) -> u32
 // What F, G and U have behind the last slot: their V at slot l or, where the last slot is repeated, nothing.
 fn end_figure(figures: &[u32], t: usize, l: usize, parts: Parts, e: u16) -> u32
     requires { ⌜ PartsIn t parts (now figures) × LoopAllowed t l × Small (now figures) ⌝ }
-    ensures { λ r. ⌜ (r ≡ laterEnd t l e (now (figures .entry)) parts) × (r ≤ 1000000) ⌝ }
+    ensures { λ r. ⌜ (r ≡ laterEnd t l e (now (figures .entry)) parts) × (r ≤ one) ⌝ }
 {
     if l < t {
         kept_figure(figures, t, l, parts, e)
@@ -191,7 +194,7 @@ fn work_later(figures: &mut [u32], t: usize, l: usize, n: usize, parts: Parts, e
 // The k error figures from a place on, together.
 fn range_sum(figures: &[u32], from: usize, k: usize) -> u32
     requires { ⌜ (from + k ≤ length (now figures)) × (k ≤ 64) × Small (now figures) ⌝ }
-    ensures { λ r. ⌜ (r ≡ sumTo (now (figures .entry)) (λ i. from + i) k) × (r ≤ 1000000 * k) ⌝ }
+    ensures { λ r. ⌜ (r ≡ sumTo (now (figures .entry)) (λ i. from + i) k) × (r ≤ one * k) ⌝ }
 {
     let mut sum: u32 = 0;
     let mut i: usize = 0;
@@ -205,8 +208,8 @@ fn range_sum(figures: &[u32], from: usize, k: usize) -> u32
 // The error figures of a part at a window's slots, which are in one range or in two, together. p is the place of its figure at the first
 // slot of all.
 fn window_sum(figures: &[u32], p: usize, looks: Looks) -> u32
-    requires { ⌜ Few looks × (p + looks .first + looks .count + looks .skip ≤ length (now figures)) × (p ≤ 8192) × Small (now figures) ⌝ }
-    ensures { λ r. ⌜ (r ≡ sumTo (now (figures .entry)) (variableAt looks p) (looks .count)) × (r ≤ 64000000) ⌝ }
+    requires { ⌜ Few looks × (p + looks .first + looks .count + looks .skip ≤ length (now figures)) × (p ≤ places) × Small (now figures) ⌝ }
+    ensures { λ r. ⌜ (r ≡ sumTo (now (figures .entry)) (variableAt looks p) (looks .count)) × (r ≤ 64 * one) ⌝ }
 {
     let from = p + looks.first as usize;
     let head = looks.head as usize;
@@ -290,7 +293,7 @@ fn root_with(table: &[u8], n: usize, t: usize, l: usize, e: u16, figures: &mut [
     ensures { λ r. ⌜ r ≡ rootError t l e (nodesIn (now (table .entry))) ⌝ }
 {
     if figures.len() < place(n, t) {
-        let mut own = [0u32; 8192];
+        let mut own = [0u32; PLACES];
         return root_with(table, n, t, l, e, &mut own);
     }
     root_in(table, n, t, l, e, figures)

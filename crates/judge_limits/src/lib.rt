@@ -1,4 +1,5 @@
 // The first variable whose figure fails a test.
+use millionths::Millionths;
 ghost use mathlib.Core.Path.{_≡_};
 ghost use Prim.Native.Nat.{_≤_};
 ghost use lib.ListN.{length};
@@ -18,7 +19,8 @@ pub fn first_outside(figures: &[i32], n: usize, e: u16) -> Found
 {
     let mut v: usize = 0;
     while v < n {
-        if judge_sums::is_outside(figures[v], e) {
+        let figure = Millionths { value: figures[v] };
+        if figure.is_outside(e) {
             return Found::At(v);
         }
         v += 1;
@@ -33,7 +35,8 @@ pub fn first_not_binary(figures: &[i32], n: usize, e: u16) -> Found
 {
     let mut v: usize = 0;
     while v < n {
-        if judge_sums::is_not_binary(figures[v], e) {
+        let figure = Millionths { value: figures[v] };
+        if figure.is_not_binary(e) {
             return Found::At(v);
         }
         v += 1;

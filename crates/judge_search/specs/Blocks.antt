@@ -21,6 +21,7 @@ use Rattle.row.specs.Kinds.{Allowed, allowed}
 use Rattle.row.specs.Placed.{Placed}
 use Rattle.row.specs.NodeRows.{Own, Kept, blockOn, blockRows, both-rows, partRows}
 use Rattle.judge_slot.specs.declared.Search.{Search}
+use Rattle.judge_slot.specs.Counts as Counts
 use Rattle.judge_slot.specs.Searches.{tested, reached, over, tested-none, tested-start, tested-more, over-rest}
 
 -- a block can be tested; a node's can, with its V, whose first variable is v
@@ -72,7 +73,7 @@ module _ (T L : ℕ) (b : Block) (v : ℕ) (e : ℕ) (f : Row → ℤ) (s : Sear
   -- those of the first i blocks are tested
   pub record Testing (i : ℕ) (x : Search) : Type 0 where
     pub is : (c : Block) → Kept v b c → x ≡ tested e f s (flat (blockAt T L b c) i)
-    pub few : reached x ≤ reached s + 4160 * i
+    pub few : reached x ≤ reached s + Counts.block * i
     pub from : cond has 0 1 ≤ i
     pub to : i ≤ 2
 
@@ -94,7 +95,7 @@ module _ (T L : ℕ) (b : Block) (v : ℕ) (e : ℕ) (f : Row → ℤ) (s : Sear
       go false z k = rw k (record { is = λ c j. second c z; few = omega arith; from = rw z (omega arith); to = omega arith })
 
   pub testing-more : (i : ℕ) {y x : Search} {d : Block} → i < 2 → Testing i y → NthBlock v b i d → x ≡ tested e f y (blockRows d T L) →
-      reached x ≤ reached y + 4160 → Testing (i + 1) x
+      reached x ≤ reached y + Counts.block → Testing (i + 1) x
   testing-more i {y} {x} {d} h t n p m = record {
     is = λ c j. p ∙ ap (tested e f y) (rows c j i refl h) ∙ ap (λ (z : Search). tested e f z (blockAt T L b c i)) (t .is c j) ∙ sym
         (tested-more e f s (blockAt T L b c) i);

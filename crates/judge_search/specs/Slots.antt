@@ -15,7 +15,12 @@ use Rattle.row.specs.Kinds.{overRows, windowAt, followed, following, followed-i
 use Rattle.row.specs.NodeRows.{blockOn, blockRows}
 use Rattle.judge_slot.specs.declared.Search.{Search}
 use Rattle.judge_slot.specs.declared.Search.the-variants.{Clear}
+use Rattle.judge_slot.specs.Counts as Counts
 use Rattle.judge_slot.specs.Searches.{tested, reached, over, Tested, reached-clear, tested-start, tested-more, over-rest}
+
+-- k slots, after `count` rows
+abbrev pub Room : (count k : ℕ) → Type 0
+Room count k = (k ≤ 64) × (count ≤ Counts.beforeBlock)
 
 -- ---- a loop over the slots, in which each slot's rows are tested
 
@@ -23,7 +28,7 @@ module _ (e : ℕ) (f : Row → ℤ) (s : Search) (g : ℕ → List Row) where
   -- those of the first k are
   pub record Passing (k : ℕ) (x : Search) : Type 0 where
     pub is : x ≡ tested e f s (flat g k)
-    pub few : reached x ≤ reached s + 65 * k
+    pub few : reached x ≤ reached s + Counts.atSlot * k
 
   pub passing-none : Passing 0 s
   passing-none = record { is = sym (tested-start e f s g); few = omega arith }
@@ -39,12 +44,13 @@ module _ (e : ℕ) (f : Row → ℤ) (s : Search) (g : ℕ → List Row) where
   passing-over k n p h o = record { is = over-rest e f s g (k + 1) n (omega arith) (p .is) o; few = omega (arith, p .few) }
 
   passing-same : (h : ℕ → List Row) (k : ℕ) {x : Search} → ((i : ℕ) → i < k → g i ≡ h i) → Passing k x →
-      (x ≡ tested e f s (flat h k)) × (reached x ≤ reached s + 65 * k)
+      (x ≡ tested e f s (flat h k)) × (reached x ≤ reached s + Counts.atSlot * k)
   passing-same h k t p = (p .is ∙ ap (tested e f s) (flat-same g h k t), p .few)
 
 -- few enough to go on
-pub passing-low : {e : ℕ} {f : Row → ℤ} {count k : ℕ} {g : ℕ → List Row} {x : Search} → Passing e f (Clear count) g k x → k ≤ 64 → count ≤ 1100000 →
-    reached x ≤ 1200000
+pub passing-low : {e : ℕ} {f : Row → ℤ} {count k : ℕ} {g : ℕ → List Row} {x : Search} → Passing e f (Clear count) g k x → k ≤ 64 →
+    count ≤ Counts.beforeBlock →
+    reached x ≤ Counts.beforeSlot
 passing-low {count = count} p h b = omega (arith, p .few, reached-clear (Clear count) count refl)
 
 -- ---- the rows of a block
@@ -52,7 +58,7 @@ passing-low {count = count} p h b = omega (arith, p .few, reached-clear (Clear c
 -- after `count` rows that hold
 pub record BlockTested (e : ℕ) (f : Row → ℤ) (count T L : ℕ) (b : Block) (x : Search) : Type 0 where
   pub is : x ≡ tested e f (Clear count) (blockRows b T L)
-  pub few : reached x ≤ count + 4160
+  pub few : reached x ≤ count + Counts.block
 
 module _ (b : Block) (T L : ℕ) (high : T ≤ 64) where
   -- a loop over all slots

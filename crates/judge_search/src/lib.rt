@@ -15,9 +15,11 @@ ghost use Rattle.table.specs.Checks.{Ready};
 ghost use Rattle.table.specs.Looping.{loopsBy};
 ghost use Rattle.row.specs.Placed.{Placed};
 ghost use Rattle.row.specs.NodeRows.{partRows, rowsTo};
+ghost use Rattle.judge_slot.specs.Counts as Counts;
+ghost use Rattle.judge_slot.specs.Counts.{Fit};
 ghost use Rattle.judge_slot.specs.Searches.{tested, reached};
 ghost use Rattle.judge_slot.specs.Spreads.{Limited};
-ghost use Rattle.judge_search.specs.Slots.{Passing, BlockTested};
+ghost use Rattle.judge_search.specs.Slots.{Room, Passing, BlockTested};
 ghost use Rattle.judge_search.specs.Blocks.{BlockReady, NodeReady, NthBlock, OwnIn};
 
 // A loop over k slots for the rows of each kind, without a look at the kind at each slot. `count` rows were tested
@@ -25,7 +27,7 @@ ghost use Rattle.judge_search.specs.Blocks.{BlockReady, NodeReady, NthBl
 
 // P − p = 0
 fn all_same(count: usize, own: u16, left: u16, k: u16, figures: &[i32], e: u16) -> Search
-    requires { ⌜ (own ≤ 25664) × (left ≤ 25664) × (k ≤ 64) × (count ≤ 1100000) ⌝ }
+    requires { ⌜ Fit own k × Fit left k × Room count k ⌝ }
     ensures { λ r. ⌜ Passing e (shortfall (now (figures .entry))) (Search.Clear count) (λ s. sameRows (own + s) (left + s)) k r ⌝ }
 {
     let mut done = Search::Clear(count);
@@ -42,7 +44,7 @@ fn all_same(count: usize, own: u16, left: u16, k: u16, figures: &[i32], e: u16) 
 
 // P + p = 1
 fn all_not(count: usize, own: u16, left: u16, k: u16, figures: &[i32], e: u16) -> Search
-    requires { ⌜ (own ≤ 25664) × (left ≤ 25664) × (k ≤ 64) × (count ≤ 1100000) ⌝ }
+    requires { ⌜ Fit own k × Fit left k × Room count k ⌝ }
     ensures { λ r. ⌜ Passing e (shortfall (now (figures .entry))) (Search.Clear count) (λ s. notRows (own + s) (left + s)) k r ⌝ }
 {
     let mut done = Search::Clear(count);
@@ -59,7 +61,7 @@ fn all_not(count: usize, own: u16, left: u16, k: u16, figures: &[i32], e: u16) -
 
 // p − P ≥ 0; q − P ≥ 0; P − p − q ≥ −1
 fn all_and(count: usize, own: u16, left: u16, right: u16, k: u16, figures: &[i32], e: u16) -> Search
-    requires { ⌜ (own ≤ 25664) × (left ≤ 25664) × (right ≤ 25664) × (k ≤ 64) × (count ≤ 1100000) ⌝ }
+    requires { ⌜ Fit own k × Fit left k × Fit right k × Room count k ⌝ }
     ensures { λ r. ⌜ Passing e (shortfall (now (figures .entry))) (Search.Clear count) (λ s. andRows (own + s) (left + s) (right + s)) k r ⌝ }
 {
     let mut done = Search::Clear(count);
@@ -76,7 +78,7 @@ fn all_and(count: usize, own: u16, left: u16, right: u16, k: u16, figures: &[i32
 
 // P − p ≥ 0; P − q ≥ 0; p + q − P ≥ 0
 fn all_or(count: usize, own: u16, left: u16, right: u16, k: u16, figures: &[i32], e: u16) -> Search
-    requires { ⌜ (own ≤ 25664) × (left ≤ 25664) × (right ≤ 25664) × (k ≤ 64) × (count ≤ 1100000) ⌝ }
+    requires { ⌜ Fit own k × Fit left k × Fit right k × Room count k ⌝ }
     ensures { λ r. ⌜ Passing e (shortfall (now (figures .entry))) (Search.Clear count) (λ s. orRows (own + s) (left + s) (right + s)) k r ⌝ }
 {
     let mut done = Search::Clear(count);
@@ -101,7 +103,7 @@ fn all_implies(
     figures: &[i32],
     e: u16,
 ) -> Search
-    requires { ⌜ (own ≤ 25664) × (left ≤ 25664) × (right ≤ 25664) × (k ≤ 64) × (count ≤ 1100000) ⌝ }
+    requires { ⌜ Fit own k × Fit left k × Fit right k × Room count k ⌝ }
     ensures { λ r. ⌜ Passing e (shortfall (now (figures .entry))) (Search.Clear count) (λ s. impliesRows (own + s) (left + s) (right + s)) k r ⌝ }
 {
     let mut done = Search::Clear(count);
@@ -126,7 +128,7 @@ fn all_until(
     figures: &[i32],
     e: u16,
 ) -> Search
-    requires { ⌜ (own ≤ 25664) × (left ≤ 25664) × (right ≤ 25664) × (k ≤ 64) × (count ≤ 1100000) ⌝ }
+    requires { ⌜ Fit own k × Fit left k × Fit right k × Room count k ⌝ }
     ensures { λ r. ⌜ Passing e (shortfall (now (figures .entry))) (Search.Clear count) (λ s. untilRows (own + s) (left + s) (right + s) (own + s + 1)) k r ⌝ }
 {
     let mut done = Search::Clear(count);
@@ -143,7 +145,7 @@ fn all_until(
 
 // Tests the rows of F at t slots: of those that another follows, and of the last, by whether something follows it.
 fn eventually(count: usize, t: u16, block: Block, figures: &[i32], e: u16) -> Search
-    requires { ⌜ (block .kind ≡ Kind.Eventually) × Placed block × (1 ≤ t) × (t ≤ 64) × (count ≤ 1100000) ⌝ }
+    requires { ⌜ (block .kind ≡ Kind.Eventually) × Placed block × (1 ≤ t) × Room count t ⌝ }
     ensures { λ r. ⌜ ((l : ℕ) → BlockTested e (shortfall (now (figures .entry))) count t l block r) ⌝ }
 {
     let last = t - 1;
@@ -166,7 +168,7 @@ fn eventually(count: usize, t: u16, block: Block, figures: &[i32], e: u16) -> Se
 
 // Tests the rows of G at t slots: of those that another follows, and of the last, by whether something follows it.
 fn always(count: usize, t: u16, block: Block, figures: &[i32], e: u16) -> Search
-    requires { ⌜ (block .kind ≡ Kind.Always) × Placed block × (1 ≤ t) × (t ≤ 64) × (count ≤ 1100000) ⌝ }
+    requires { ⌜ (block .kind ≡ Kind.Always) × Placed block × (1 ≤ t) × Room count t ⌝ }
     ensures { λ r. ⌜ ((l : ℕ) → BlockTested e (shortfall (now (figures .entry))) count t l block r) ⌝ }
 {
     let last = t - 1;
@@ -189,7 +191,7 @@ fn always(count: usize, t: u16, block: Block, figures: &[i32], e: u16) -> Search
 
 // Tests the rows of U at t slots: of those that another follows, and of the last, by whether something follows it.
 fn until(count: usize, t: u16, block: Block, figures: &[i32], e: u16) -> Search
-    requires { ⌜ (block .kind ≡ Kind.Until) × Placed block × (1 ≤ t) × (t ≤ 64) × (count ≤ 1100000) ⌝ }
+    requires { ⌜ (block .kind ≡ Kind.Until) × Placed block × (1 ≤ t) × Room count t ⌝ }
     ensures { λ r. ⌜ ((l : ℕ) → BlockTested e (shortfall (now (figures .entry))) count t l block r) ⌝ }
 {
     let last = t - 1;
@@ -212,7 +214,7 @@ fn until(count: usize, t: u16, block: Block, figures: &[i32], e: u16) -> Search
 
 // Tests the rows of F[a,b] at t slots that loop to slot l.
 fn within(count: usize, t: u16, l: u16, block: Block, figures: &[i32], e: u16) -> Search
-    requires { ⌜ (block .kind ≡ Kind.Within) × BlockReady t l block × (count ≤ 1100000) × Limited (now figures) ⌝ }
+    requires { ⌜ (block .kind ≡ Kind.Within) × BlockReady t l block × (count ≤ Counts.beforeBlock) × Limited (now figures) ⌝ }
     ensures { λ r. ⌜ BlockTested e (shortfall (now (figures .entry))) count t l block r ⌝ }
 {
     let mut done = Search::Clear(count);
@@ -230,7 +232,7 @@ fn within(count: usize, t: u16, l: u16, block: Block, figures: &[i32], e: u16) -
 
 // Tests the rows of G[a,b] at t slots that loop to slot l.
 fn throughout(count: usize, t: u16, l: u16, block: Block, figures: &[i32], e: u16) -> Search
-    requires { ⌜ (block .kind ≡ Kind.Throughout) × BlockReady t l block × (count ≤ 1100000) × Limited (now figures) ⌝ }
+    requires { ⌜ (block .kind ≡ Kind.Throughout) × BlockReady t l block × (count ≤ Counts.beforeBlock) × Limited (now figures) ⌝ }
     ensures { λ r. ⌜ BlockTested e (shortfall (now (figures .entry))) count t l block r ⌝ }
 {
     let mut done = Search::Clear(count);
@@ -248,7 +250,7 @@ fn throughout(count: usize, t: u16, l: u16, block: Block, figures: &[i32], e: u1
 
 // Tests the rows of a block at t slots that loop to slot l.
 fn test_block(count: usize, t: u16, l: u16, block: Block, figures: &[i32], e: u16) -> Search
-    requires { ⌜ BlockReady t l block × (count ≤ 1100000) × Limited (now figures) ⌝ }
+    requires { ⌜ BlockReady t l block × (count ≤ Counts.beforeBlock) × Limited (now figures) ⌝ }
     ensures { λ r. ⌜ BlockTested e (shortfall (now (figures .entry))) count t l block r ⌝ }
 {
     let kind = block.kind;
@@ -292,9 +294,9 @@ fn nth_block(block: Block, v: u16, i: u16) -> Block
 // Tests the rows of a node: those of its V, where it has one, and those of its own block. It is a loop so that blocks
 // are tested at one place, and the compiler makes no call of it.
 fn test_node(count: usize, t: u16, l: u16, block: Block, v: u16, figures: &[i32], e: u16) -> Search
-    requires { ⌜ NodeReady t l block v × (count ≤ 1070000) × Limited (now figures) ⌝ }
+    requires { ⌜ NodeReady t l block v × (count ≤ Counts.nodes) × Limited (now figures) ⌝ }
     ensures { λ r. ⌜ ((m n : ℕ) (ns : List Node) → OwnIn t m l ns n v block →
-        r ≡ tested e (shortfall (now (figures .entry))) (Search.Clear count) (partRows t m l ns n)) × (reached r ≤ count + 8320) ⌝ }
+        r ≡ tested e (shortfall (now (figures .entry))) (Search.Clear count) (partRows t m l ns n)) × (reached r ≤ count + Counts.node) ⌝ }
 {
     let mut rows = count;
     let mut i = first_block(block, t, l);
@@ -321,7 +323,7 @@ fn test_nodes(
 ) -> Search
     requires { ⌜ Ready t m l (now table) × (n ≡ recordCount (now table)) × Limited (now figures) ⌝ }
     ensures { λ r. ⌜ (r ≡ tested e (shortfall (now (figures .entry))) (Search.Clear 0) (rowsTo t m l (nodesIn (now (table .entry))) n)) ×
-        (reached r ≤ 8320 * n) ⌝ }
+        (reached r ≤ Counts.node * n) ⌝ }
 {
     let mut rows: usize = 0;
     let mut kept: usize = 0;
@@ -357,6 +359,5 @@ pub fn test_all(
 {
     let slacks = test_nodes(table, n, t, m, l, figures, e);
     let goal = row::goal(row::slack(t, m, n - 1, 1));
-    let all = judge_slot::step(slacks, judge_sums::shortfall(goal, figures), e);
-    all
+    judge_slot::step(slacks, judge_sums::shortfall(goal, figures), e)
 }

@@ -12,6 +12,7 @@ use Rattle.rules.specs.Rows.{Row}
 use Rattle.rules.specs.Verdicts.{isShort}
 use Rattle.judge_slot.specs.declared.Search.{Search}
 use Rattle.judge_slot.specs.declared.Search.the-variants.{Clear, Broken}
+use Rattle.judge_slot.specs.Counts.{atSlot}
 use Rattle.judge_slot.specs.Searches.{tested, tested-none, tested-one, tested-append, stuck, reached, Tested}
 
 -- so many more rows hold, if none was broken
@@ -64,7 +65,7 @@ module _ (e : ℕ) (f : Row → ℤ) where
   held-last h k r p t u = held-append (subst Held p (held-flat h k t)) (held-one r u)
 
   -- the search passes them
-  pub held-tested : {rs : List Row} (n : ℕ) (s : Search) {x : Search} → Held rs → length rs ≡ n → n ≤ 65 → x ≡ passed n s → Tested e f s rs x
+  pub held-tested : {rs : List Row} (n : ℕ) (s : Search) {x : Search} → Held rs → length rs ≡ n → n ≤ atSlot → x ≡ passed n s → Tested e f s rs x
   unfolding reached
   held-tested {rs} n (Clear i) h l b p =
       record { is = p ∙ ap (λ (m : ℕ). Clear (i + m)) (sym l) ∙ sym (h .clear i); by-many = rw p (omega arith) }

@@ -1,3 +1,4 @@
+pub mod Counts
 pub mod Searches
 pub mod Windows
 pub mod Holding

@@ -15,6 +15,7 @@ use Rattle.rules.specs.Rows.{Row}
 use Rattle.rules.specs.Verdicts.{isShort}
 use Rattle.judge_slot.specs.declared.Search.{Search}
 use Rattle.judge_slot.specs.declared.Search.the-variants.{Clear, Broken}
+use Rattle.judge_slot.specs.Counts.{atSlot}
 
 -- ---- rows one after the other
 
@@ -88,7 +89,7 @@ reached-clear s i e = rw e
 -- the rows of a node at a slot, as the call that tests them ensures
 pub record Tested (e : ℕ) (f : Row → ℤ) (s : Search) (rs : List Row) (x : Search) : Type 0 where
   pub is : x ≡ tested e f s rs
-  pub by-many : reached x ≤ reached s + 65
+  pub by-many : reached x ≤ reached s + atSlot
 
 module _ (e : ℕ) (f : Row → ℤ) where
   step-next : {i : ℤ} {a : Row} {s x : Search} → i ≡ f a → Step e i s x → x ≡ next e f s a
@@ -170,7 +171,7 @@ module _ (e : ℕ) (f : Row → ℤ) (s : Search) (g : ℕ → List Row) where
       p ∙ sym (later k (n - k) (ap over (sym p) ∙ o)) ∙ ap (λ (i : ℕ). tested e f s (flat g i)) z
 
 -- and a last row
-pub over-last : (e : ℕ) (f : Row → ℤ) (rs : List Row) (a : Row) {s x : Search} → x ≡ tested e f s rs → over x ≡ true → reached x ≤ reached s + 65 →
+pub over-last : (e : ℕ) (f : Row → ℤ) (rs : List Row) (a : Row) {s x : Search} → x ≡ tested e f s rs → over x ≡ true → reached x ≤ reached s + atSlot →
     Tested e f s (rs ++ (a ∷ [])) x
 over-last e f rs a {s = s} {x = x} p o b =
     record {

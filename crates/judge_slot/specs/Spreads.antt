@@ -17,6 +17,7 @@ use Rattle.ints.specs.Stored.{sfits-abs, cast-fits, cast-back}
 use Rattle.rules.specs.Rows.{plus, valueAt, sumOf}
 use Rattle.rules.specs.Shortfalls.{below-difference}
 use Rattle.rules.specs.Verdicts.{isShort}
+use Rattle.millionths.specs.Bounds as Bounds
 use Rattle.judge_sums.specs.Sums.{pairOf}
 use Rattle.judge_sums.specs.Laws.{shortOf}
 use Rattle.judge_sums.specs.Windows.{plus-times, minus-times}
@@ -27,23 +28,23 @@ use Rattle.judge_slot.specs.Windows.{sumTo, sum-none, sum-more, sum-same
 
 -- figures that are not far outside the limits: few of them have a sum of 32 bits
 abbrev pub Limited : List ℤ → Type 0
-Limited xs = (v : ℕ) → natAbs (valueAt xs v) ≤ 1100000
+Limited xs = (v : ℕ) → natAbs (valueAt xs v) ≤ Bounds.near
 
 -- of the figures of k variables, the i-th of which is `at i`
 pub record Spreads (xs : List ℤ) (at : ℕ → ℕ) (k : ℕ) (sum least most : ℤ) : Type 0 where
   pub is : sum ≡ sumTo xs at k
-  pub small : natAbs sum ≤ 1100000 * k
+  pub small : natAbs sum ≤ Bounds.near * k
   pub below : (i : ℕ) → i < k → least ≤ℤ valueAt xs (at i)
   pub above : (i : ℕ) → i < k → valueAt xs (at i) ≤ℤ most
 
 abbrev pub SpreadOf : List ℤ → (at : ℕ → ℕ) → (k : ℕ) → Spread → Type 0
-SpreadOf xs at k x = Spreads xs at k (x .sum) (x .least) (x .most)
+SpreadOf xs at k x = Spreads xs at k (x .sum) (x .least .value) (x .most .value)
 
 -- two spreads as one
 pub record Joined (a b x : Spread) : Type 0 where
   pub sum-is : x .sum ≡ a .sum +ℤ b .sum
-  pub least-is : (x .least ≤ℤ a .least) × (x .least ≤ℤ b .least)
-  pub most-is : (a .most ≤ℤ x .most) × (b .most ≤ℤ x .most)
+  pub least-is : (x .least .value ≤ℤ a .least .value) × (x .least .value ≤ℤ b .least .value)
+  pub most-is : (a .most .value ≤ℤ x .most .value) × (b .most .value ≤ℤ x .most .value)
 
 ≤ℤ-trans : {a b c : ℤ} → a ≤ℤ b → b ≤ℤ c → a ≤ℤ c
 ≤ℤ-trans {a} {b} {c} h k = go (ltZ c a) refl
@@ -71,7 +72,7 @@ module _ (xs : List ℤ) (at : ℕ → ℕ) where
     above = λ i g. absurd (omega arith);
   }
 
-  pub spread-more : (k : ℕ) {s s′ y a a′ b b′ : ℤ} → Spreads xs at k s a b → y ≡ valueAt xs (at k) → s′ ≡ s +ℤ y → natAbs y ≤ 1100000 →
+  pub spread-more : (k : ℕ) {s s′ y a a′ b b′ : ℤ} → Spreads xs at k s a b → y ≡ valueAt xs (at k) → s′ ≡ s +ℤ y → natAbs y ≤ Bounds.near →
       (a′ ≤ℤ a) × (a′ ≤ℤ y) → (b ≤ℤ b′) × (y ≤ℤ b′) → Spreads xs at (k + 1) s′ a′ b′
   spread-more k {s} {y = y} {a′ = a′} {b′ = b′} h f n z l m = record {
     is = n ∙ sum-more xs at k (h .is) f;
@@ -93,8 +94,8 @@ spread-as : {xs : List ℤ} {f at : ℕ → ℕ} {k : ℕ} {x : Spread} → ((i 
 spread-as {xs} {f} {at} {k} {x} e h = record {
   is = h .is ∙ sum-same xs f at k e;
   small = h .small;
-  below = λ i g. subst (λ (v : ℕ). x .least ≤ℤ valueAt xs v) (e i g) (h .below i g);
-  above = λ i g. subst (λ (v : ℕ). valueAt xs v ≤ℤ x .most) (e i g) (h .above i g);
+  below = λ i g. subst (λ (v : ℕ). x .least .value ≤ℤ valueAt xs v) (e i g) (h .below i g);
+  above = λ i g. subst (λ (v : ℕ). valueAt xs v ≤ℤ x .most .value) (e i g) (h .above i g);
 }
 
 -- of the first j variables, and of the k after them
@@ -110,13 +111,13 @@ spread-joined {xs} {at} {j} {k} {a} {b} {x} h l u = record {
     place : (i : ℕ) → i < j + k → (i < j → ⊥) → at (j + (i - j)) ≡ at i
     place i z t = ap at (omega arith)
 
-    low : (i : ℕ) → i < j + k → Dec (i < j) → x .least ≤ℤ valueAt xs (at i)
+    low : (i : ℕ) → i < j + k → Dec (i < j) → x .least .value ≤ℤ valueAt xs (at i)
     low i z (yes t) = ≤ℤ-trans (u .least-is .0) (h .below i t)
-    low i z (no t) = ≤ℤ-trans (u .least-is .1) (subst (λ (v : ℕ). b .least ≤ℤ valueAt xs v) (place i z t) (l .below (i - j) (omega arith)))
+    low i z (no t) = ≤ℤ-trans (u .least-is .1) (subst (λ (v : ℕ). b .least .value ≤ℤ valueAt xs v) (place i z t) (l .below (i - j) (omega arith)))
 
-    high : (i : ℕ) → i < j + k → Dec (i < j) → valueAt xs (at i) ≤ℤ x .most
+    high : (i : ℕ) → i < j + k → Dec (i < j) → valueAt xs (at i) ≤ℤ x .most .value
     high i z (yes t) = ≤ℤ-trans (h .above i t) (u .most-is .0)
-    high i z (no t) = ≤ℤ-trans (subst (λ (v : ℕ). valueAt xs v ≤ℤ b .most) (place i z t) (l .above (i - j) (omega arith))) (u .most-is .1)
+    high i z (no t) = ≤ℤ-trans (subst (λ (v : ℕ). valueAt xs v ≤ℤ b .most .value) (place i z t) (l .above (i - j) (omega arith))) (u .most-is .1)
 
 -- at the slots of a window, in one range or in two
 module _ (xs : List ℤ) (w : Looks) (p : ℕ) {from head : ℕ} {a : Spread} (f : from ≡ p + w .first) (g : head ≡ w .head)
@@ -144,8 +145,8 @@ module _ (xs : List ℤ) (w : Looks) (p : ℕ) {s a b : ℤ} (h : Spreads xs (va
   pub wide-fits : w .count ≤ 64 → SFits w64 (toZ w32 (ofZ w32 s))
   wide-fits g = cast-fits tt (fits g)
 
-  pub window-small : w .count ≤ 64 → natAbs (toZ w64 (ofZ w64 (toZ w32 (ofZ w32 s)))) ≤ 137438953472
-  window-small g = subst⁻¹ (λ (z : ℤ). natAbs z ≤ 137438953472) (kept-sum g) (omega (arith, h .small))
+  pub window-small : w .count ≤ 64 → natAbs (toZ w64 (ofZ w64 (toZ w32 (ofZ w32 s)))) ≤ Bounds.windowSum
+  window-small g = subst⁻¹ (λ (z : ℤ). natAbs z ≤ Bounds.windowSum) (kept-sum g) (omega (arith, h .small))
 
   pub passed-sum : w .count ≤ 64 → toZ w64 (ofZ w64 (toZ w32 (ofZ w32 s))) ≡ sumOf xs (map plus (variables w p))
   passed-sum g = kept-sum g ∙ h .is ∙ sum-all xs w p

@@ -1,8 +1,9 @@
 // The rows of a node at a slot, tested one after the other.
+use millionths::Millionths;
 use window::Looks;
 ghost use mathlib.Core.Path.{_≡_};
 ghost use mathlib.Core.Bool.{true};
-ghost use Prim.Native.Nat.{_+_, _≤_, _<_};
+ghost use Prim.Native.Nat.{_+_, _*_, _^_, _≤_, _<_};
 ghost use lib.IntN.{natAbs, _+ℤ_};
 ghost use lib.ListN.{length};
 ghost use lib.Signed.{_≤ℤ_};
@@ -10,8 +11,10 @@ ghost use Rattle.rules.specs.Rows.{sameRows, notRows, andRows, orRows, impliesR
 ghost use Rattle.rules.specs.Judge.{shortfall};
 ghost use Rattle.rules.specs.Verdicts.{isShort};
 ghost use Rattle.rules.specs.Rule.Window.{within, throughout};
+ghost use Rattle.millionths.specs.Bounds as Bounds;
 ghost use Rattle.row.specs.Kinds.{overRows};
 ghost use Rattle.window.specs.Slots.{Few, variableAt, variables};
+ghost use Rattle.judge_slot.specs.Counts as Counts;
 ghost use Rattle.judge_slot.specs.Searches.{Step, Tested, reached, over};
 ghost use Rattle.judge_slot.specs.Spreads.{Limited, SpreadOf, Joined};
 ghost use Rattle.judge_slot.specs.Holding.{Held, passed};
@@ -20,21 +23,21 @@ ghost use Rattle.judge_slot.specs.Holding.{Held, passed};
 pub enum Search {
     // so many rows are tested and hold
     Clear(usize),
-    // the shortfall of the first broken row, and its number
-    Broken(i64, usize),
+    // the first broken row, and its shortfall in millionths
+    Broken { shortfall: i64, row: usize },
 }
 
 // One more row, of this shortfall, is tested, if none was broken.
 pub fn step(state: Search, shortfall: i64, e: u16) -> Search
-    requires { ⌜ (reached state ≤ 1300000) × (natAbs shortfall ≤ 1099511627776) ⌝ }
+    requires { ⌜ (reached state ≤ Counts.beforeStep) × (natAbs shortfall ≤ Bounds.shortfall) ⌝ }
     ensures { λ r. ⌜ Step e shortfall state r ⌝ }
 {
     match state {
-        Search::Broken(first, i) => Search::Broken(first, i),
+        Search::Broken { shortfall, row } => Search::Broken { shortfall, row },
         Search::Clear(i) => {
             let over = shortfall - (e as i64);
             if 0 < over {
-                Search::Broken(shortfall, i)
+                Search::Broken { shortfall, row: i }
             } else {
                 Search::Clear(i + 1)
             }
@@ -47,7 +50,7 @@ pub fn is_over(state: Search) -> bool
     ensures { λ r. ⌜ r ≡ over state ⌝ }
 {
     match state {
-        Search::Broken(_, _) => true,
+        Search::Broken { .. } => true,
         Search::Clear(_) => false,
     }
 }
@@ -57,18 +60,18 @@ pub fn row_count(state: Search) -> usize
     ensures { λ r. ⌜ r ≡ reached state ⌝ }
 {
     match state {
-        Search::Broken(_, i) => i,
+        Search::Broken { row, .. } => row,
         Search::Clear(i) => i,
     }
 }
 
 // So many more rows hold, if none was broken.
 fn go_on(state: Search, rows: u16) -> Search
-    requires { ⌜ reached state ≤ 1300000 ⌝ }
+    requires { ⌜ reached state ≤ Counts.beforeStep ⌝ }
     ensures { λ r. ⌜ r ≡ passed rows state ⌝ }
 {
     match state {
-        Search::Broken(first, i) => Search::Broken(first, i),
+        Search::Broken { shortfall, row } => Search::Broken { shortfall, row },
         Search::Clear(i) => Search::Clear(i + scalars::wide(rows)),
     }
 }
@@ -82,7 +85,7 @@ fn is_short(shortfall: i64, e: u16) -> bool
 
 // P − p = 0
 pub fn test_same(state: Search, node: u16, p: u16, figures: &[i32], e: u16) -> Search
-    requires { ⌜ reached state ≤ 1200000 ⌝ }
+    requires { ⌜ reached state ≤ Counts.beforeSlot ⌝ }
     ensures { λ r. ⌜ Tested e (shortfall (now (figures .entry))) state (sameRows node p) r ⌝ }
 {
     let x = judge_sums::figure_of(figures, node);
@@ -92,7 +95,7 @@ pub fn test_same(state: Search, node: u16, p: u16, figures: &[i32], e: u16) -> S
 
 // P + p = 1
 pub fn test_not(state: Search, node: u16, p: u16, figures: &[i32], e: u16) -> Search
-    requires { ⌜ reached state ≤ 1200000 ⌝ }
+    requires { ⌜ reached state ≤ Counts.beforeSlot ⌝ }
     ensures { λ r. ⌜ Tested e (shortfall (now (figures .entry))) state (notRows node p) r ⌝ }
 {
     let x = judge_sums::figure_of(figures, node);
@@ -102,7 +105,7 @@ pub fn test_not(state: Search, node: u16, p: u16, figures: &[i32], e: u16) -> Se
 
 // p − P ≥ 0; q − P ≥ 0; P − p − q ≥ −1
 pub fn test_and(state: Search, node: u16, p: u16, q: u16, figures: &[i32], e: u16) -> Search
-    requires { ⌜ reached state ≤ 1200000 ⌝ }
+    requires { ⌜ reached state ≤ Counts.beforeSlot ⌝ }
     ensures { λ r. ⌜ Tested e (shortfall (now (figures .entry))) state (andRows node p q) r ⌝ }
 {
     let x = judge_sums::figure_of(figures, node);
@@ -115,7 +118,7 @@ pub fn test_and(state: Search, node: u16, p: u16, q: u16, figures: &[i32], e: u1
 
 // P − p ≥ 0; P − q ≥ 0; p + q − P ≥ 0
 pub fn test_or(state: Search, node: u16, p: u16, q: u16, figures: &[i32], e: u16) -> Search
-    requires { ⌜ reached state ≤ 1200000 ⌝ }
+    requires { ⌜ reached state ≤ Counts.beforeSlot ⌝ }
     ensures { λ r. ⌜ Tested e (shortfall (now (figures .entry))) state (orRows node p q) r ⌝ }
 {
     let x = judge_sums::figure_of(figures, node);
@@ -128,7 +131,7 @@ pub fn test_or(state: Search, node: u16, p: u16, q: u16, figures: &[i32], e: u16
 
 // P + p ≥ 1; P − q ≥ 0; q − p − P ≥ −1
 pub fn test_implies(state: Search, node: u16, p: u16, q: u16, figures: &[i32], e: u16) -> Search
-    requires { ⌜ reached state ≤ 1200000 ⌝ }
+    requires { ⌜ reached state ≤ Counts.beforeSlot ⌝ }
     ensures { λ r. ⌜ Tested e (shortfall (now (figures .entry))) state (impliesRows node p q) r ⌝ }
 {
     let x = judge_sums::figure_of(figures, node);
@@ -149,7 +152,7 @@ pub fn test_until(
     figures: &[i32],
     e: u16,
 ) -> Search
-    requires { ⌜ reached state ≤ 1200000 ⌝ }
+    requires { ⌜ reached state ≤ Counts.beforeSlot ⌝ }
     ensures { λ r. ⌜ Tested e (shortfall (now (figures .entry))) state (untilRows node p q next) r ⌝ }
 {
     let x = judge_sums::figure_of(figures, node);
@@ -165,8 +168,8 @@ pub fn test_until(
 // Some figures within limits: their sum, the least and the largest.
 struct Spread {
     sum: i32,
-    least: i32,
-    most: i32,
+    least: Millionths,
+    most: Millionths,
 }
 
 fn lesser(a: i32, b: i32) -> i32
@@ -183,7 +186,7 @@ fn larger(a: i32, b: i32) -> i32
 
 // The sum of two sums of figures within limits.
 fn together(a: i32, b: i32) -> i32
-    requires { ⌜ (natAbs a ≤ 70400000) × (natAbs b ≤ 70400000) ⌝ }
+    requires { ⌜ (natAbs a ≤ 64 * Bounds.near) × (natAbs b ≤ 64 * Bounds.near) ⌝ }
     ensures { λ r. ⌜ r ≡ a +ℤ b ⌝ }
 {
     a + b
@@ -207,26 +210,30 @@ fn spread_of(figures: &[i32], from: usize, k: usize) -> Spread
     }
     Spread {
         sum: sum,
-        least: least,
-        most: most,
+        least: Millionths { value: least },
+        most: Millionths { value: most },
     }
 }
 
 // Two spreads as one.
 fn joined(a: Spread, b: Spread) -> Spread
-    requires { ⌜ (natAbs (a .sum) ≤ 70400000) × (natAbs (b .sum) ≤ 70400000) ⌝ }
+    requires { ⌜ (natAbs (a .sum) ≤ 64 * Bounds.near) × (natAbs (b .sum) ≤ 64 * Bounds.near) ⌝ }
     ensures { λ r. ⌜ Joined a b r ⌝ }
 {
     Spread {
         sum: together(a.sum, b.sum),
-        least: lesser(a.least, b.least),
-        most: larger(a.most, b.most),
+        least: Millionths {
+            value: lesser(a.least.value, b.least.value),
+        },
+        most: Millionths {
+            value: larger(a.most.value, b.most.value),
+        },
     }
 }
 
 // The part's variable at the first slot of a window.
 fn start(p: u16, looks: Looks) -> usize
-    ensures { λ r. ⌜ (r ≡ p + looks .first) × (r < 131072) ⌝ }
+    ensures { λ r. ⌜ (r ≡ p + looks .first) × (r < 2 ^ 17) ⌝ }
 {
     scalars::wide(p) + scalars::wide(looks.first)
 }
@@ -290,7 +297,7 @@ fn throughout_holds(node: u16, p: u16, looks: Looks, figures: &[i32], e: u16) ->
 
 // The rows of F[a,b] at a slot, row by row.
 fn search_within(state: Search, node: u16, p: u16, looks: Looks, figures: &[i32], e: u16) -> Search
-    requires { ⌜ Few looks × (p ≤ 25600) × (reached state ≤ 1200000) ⌝ }
+    requires { ⌜ Few looks × Counts.Fit p 64 × (reached state ≤ Counts.beforeSlot) ⌝ }
     ensures { λ r. ⌜ Tested e (shortfall (now (figures .entry))) state (overRows within node (variables looks p)) r ⌝ }
 {
     let k = looks.count;
@@ -320,7 +327,7 @@ fn search_throughout(
     figures: &[i32],
     e: u16,
 ) -> Search
-    requires { ⌜ Few looks × (p ≤ 25600) × (reached state ≤ 1200000) ⌝ }
+    requires { ⌜ Few looks × Counts.Fit p 64 × (reached state ≤ Counts.beforeSlot) ⌝ }
     ensures { λ r. ⌜ Tested e (shortfall (now (figures .entry))) state (overRows throughout node (variables looks p)) r ⌝ }
 {
     let k = looks.count;
@@ -350,7 +357,7 @@ pub fn test_within(
     figures: &[i32],
     e: u16,
 ) -> Search
-    requires { ⌜ Few looks × (p ≤ 25600) × (reached state ≤ 1200000) × Limited (now figures) ⌝ }
+    requires { ⌜ Few looks × Counts.Fit p 64 × (reached state ≤ Counts.beforeSlot) × Limited (now figures) ⌝ }
     ensures { λ r. ⌜ Tested e (shortfall (now (figures .entry))) state (overRows within node (variables looks p)) r ⌝ }
 {
     if within_holds(node, p, looks, figures, e) {
@@ -369,7 +376,7 @@ pub fn test_throughout(
     figures: &[i32],
     e: u16,
 ) -> Search
-    requires { ⌜ Few looks × (p ≤ 25600) × (reached state ≤ 1200000) × Limited (now figures) ⌝ }
+    requires { ⌜ Few looks × Counts.Fit p 64 × (reached state ≤ Counts.beforeSlot) × Limited (now figures) ⌝ }
     ensures { λ r. ⌜ Tested e (shortfall (now (figures .entry))) state (overRows throughout node (variables looks p)) r ⌝ }
 {
     if throughout_holds(node, p, looks, figures, e) {

@@ -1,26 +1,14 @@
--- Laws of the tests on figures, and of shortfalls.
+-- Shortfalls.
 use mathlib.Core.Path.{_≡_}
-use mathlib.Core.Bool.{Bool, true, false}
 use mathlib.Core.List.{List}
-use Prim.Native.Nat.{ℕ, _≤_}
-use native.Mathlib.Omega.{arith}
-use lib.IntN.{ℤ, pos, natAbs, _*ℤ_}
+use lib.IntN.{ℤ, pos, _*ℤ_}
 use Rattle.rules.specs.Quantities.{one}
 use Rattle.rules.specs.Rows.{sumOf}
 use Rattle.rules.specs.Rows.Relation.{at-least, equal}
 use Rattle.rules.specs.Judge.{shortfallBy, shortfall}
-use Rattle.millionths.specs.Unit.{ofTruth}
 use Rattle.row.specs.declared.Relation.the-variants.{AtLeast, Equal}
 use Rattle.row.specs.declared.Row.{Row}
 use Rattle.row.specs.Meaning.{termsOf, rowOf}
-
--- the size of a number of which a difference is taken, by a bound that it has
-pub within : (m : ℕ) → m ≤ 2199023255552 → {n : ℕ} → n ≤ m → n ≤ 2199023255552
-within m k h = omega arith
-
-pub truth-small : (b : Bool) → natAbs (ofTruth b .value) ≤ 1000000
-truth-small true = omega arith
-truth-small false = omega arith
 
 -- ---- what a sum falls short of a right side by, and how far it is from it
 

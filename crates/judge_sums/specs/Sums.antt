@@ -17,6 +17,7 @@ use Rattle.row.specs.declared.Term as Row
 use Rattle.row.specs.declared.Terms.{Terms}
 use Rattle.row.specs.declared.Terms.the-variants.{Single, Pair, Triple}
 use Rattle.row.specs.Meaning.{termOf, termsOf}
+use Rattle.millionths.specs.Bounds as Bounds
 use Rattle.judge_sums.specs.declared.RowSum.{RowSum}
 use Rattle.judge_sums.specs.Meaning.{rowSumOf}
 
@@ -42,8 +43,8 @@ term c v = record { coefficient = c; variable = v }
 -- the row sum of terms over figures, as the calls that make it ensure
 pub record RowSumOf (xs : List ℤ) (ts : List Term) (r : RowSum) : Type 0 where
   pub is : rowSumOf r ≡ rowSum xs ts
-  pub positive-small : natAbs (r .positive) ≤ 824633720832
-  pub whole-small : natAbs (r .whole) ≤ 824633720832
+  pub positive-small : natAbs (r .positive) ≤ Bounds.rowSum
+  pub whole-small : natAbs (r .whole) ≤ Bounds.rowSum
 
 -- the whole sum, as it is passed on, is the same number as before
 pub sums-whole : {xs : List ℤ} {ts : List Term} {r : RowSum} → RowSumOf xs ts r → toZ w64 (ofZ w64 (r .whole)) ≡ sumOf xs ts

@@ -7,8 +7,21 @@ use lib.IntN.{ℤ, pos, negsuc, negℤ, natAbs, _+ℤ_, _-ℤ_, _*ℤ_, +ℤ-idl
 use Rattle.rules.specs.Rows.{Term, plus, minus, valueAt, sumOf}
 use Rattle.rules.specs.RowSum.{positiveTerms}
 use Rattle.rules.specs.RowSumLaws.{sums-equal, positive-is, whole-is}
+use Rattle.millionths.specs.Bounds as Bounds
 use Rattle.judge_sums.specs.declared.RowSum.{RowSum}
 use Rattle.judge_sums.specs.Sums.{RowSumOf}
+
+-- the terms of the last row for F[a,b] and for G[a,b], over the part's variables at the slots of the window, and the node's
+abbrev pub withinTerms : List ℕ → ℕ → List Term
+withinTerms vs v = map plus vs ++ (minus v ∷ [])
+
+abbrev pub throughoutTerms : List ℕ → ℕ → List Term
+throughoutTerms vs v = plus v ∷ map minus vs
+
+-- their row sum, where `sum` is that of the part's figures, and x the node's figure
+abbrev pub WindowSum : (terms : List ℕ → ℕ → List Term) (sum x : ℤ) (r : RowSum) → Type 0
+WindowSum terms sum x r =
+    (xs : List ℤ) (vs : List ℕ) (v : ℕ) → sum ≡ sumOf xs (map plus vs) → x ≡ valueAt xs v → RowSumOf xs (terms vs v) r
 
 once : (n : ℕ) → 1 * n ≡ n
 once n = omega arith
@@ -50,21 +63,23 @@ module _ (xs : List ℤ) where
 
   -- the sum of all p(s), less P: s is the sum of the p(s), and x the figure of P
   pub within-sums : (vs : List ℕ) (v : ℕ) {s x : ℤ} {r : RowSum} → s ≡ sumOf xs (map plus vs) → x ≡ valueAt xs v → r .positive ≡ s → r .whole ≡ s -ℤ x →
-      natAbs (r .positive) ≤ 824633720832 → natAbs (r .whole) ≤ 824633720832 → RowSumOf xs (map plus vs ++ (minus v ∷ [])) r
+      natAbs (r .positive) ≤ Bounds.rowSum → natAbs (r .whole) ≤ Bounds.rowSum → RowSumOf xs (withinTerms vs v) r
   within-sums vs v e f p w b c =
       record {
         is = sums-equal (p ∙ e ∙ sym (positive-is xs (map plus vs ++ (minus v ∷ [])) ∙ ap (sumOf xs) (positive-pluses vs v)))
-            (w ∙ ap₂ _-ℤ_ e f ∙ sym (whole-is xs (map plus vs ++ (minus v ∷ [])) ∙ sum-append (map plus vs) (minus v ∷ []) ∙ ap (λ (z : ℤ). sumOf xs (map plus vs) +ℤ z) (sum-minus v)));
+            (w ∙ ap₂ _-ℤ_ e f ∙ sym (whole-is xs (withinTerms vs v) ∙ sum-append (map plus vs) (minus v ∷ [])
+            ∙ ap (λ (z : ℤ). sumOf xs (map plus vs) +ℤ z) (sum-minus v)));
         positive-small = b;
         whole-small = c;
       }
 
   -- P less all p(s)
   pub throughout-sums : (vs : List ℕ) (v : ℕ) {s x : ℤ} {r : RowSum} → s ≡ sumOf xs (map plus vs) → x ≡ valueAt xs v → r .positive ≡ x → r .whole ≡ x -ℤ s →
-      natAbs (r .positive) ≤ 824633720832 → natAbs (r .whole) ≤ 824633720832 → RowSumOf xs (plus v ∷ map minus vs) r
+      natAbs (r .positive) ≤ Bounds.rowSum → natAbs (r .whole) ≤ Bounds.rowSum → RowSumOf xs (throughoutTerms vs v) r
   throughout-sums vs v e f p w b c =
       record {
-        is = sums-equal (p ∙ f ∙ sym (positive-is xs (plus v ∷ map minus vs) ∙ ap (λ (l : List Term). sumOf xs (plus v ∷ l)) (positive-minuses vs) ∙ sum-plus v))
+        is = sums-equal (p ∙ f ∙ sym (positive-is xs (throughoutTerms vs v) ∙ ap (λ (l : List Term). sumOf xs (plus v ∷ l)) (positive-minuses vs)
+            ∙ sum-plus v))
             (w ∙ ap₂ _-ℤ_ f e ∙ sym (whole-is xs (plus v ∷ map minus vs) ∙ ap₂ _+ℤ_ (plus-times (valueAt xs v)) (sum-minuses vs)));
         positive-small = b;
         whole-small = c;

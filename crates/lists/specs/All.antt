@@ -26,7 +26,8 @@ all-at : (f : ℕ → Bool) (n : ℕ) → Is (all f n) → (i : ℕ) → i < n �
 unfolding all
 all-at f zero t i h = absurd (omega arith)
 all-at f (suc n) t i h =
-    ⊎-elim (λ e. let z : i ≡ n = omega arith in rw z (and-right (all f n) (f n) t)) (λ l. all-at f n (and-left (all f n) (f n) t) i (omega arith)) (eq-or-lt-of-le h)
+    ⊎-elim (λ e. let z : i ≡ n = omega arith in rw z (and-right (all f n) (f n) t)) (λ l. all-at f n (and-left (all f n) (f n) t) i (omega arith))
+    (eq-or-lt-of-le h)
 
 at-all : (f : ℕ → Bool) (n : ℕ) → ((i : ℕ) → i < n → Is (f i)) → Is (all f n)
 unfolding all

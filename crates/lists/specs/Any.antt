@@ -25,7 +25,8 @@ at-any : (f : ℕ → Bool) (n i : ℕ) → i < n → Is (f i) → Is (any f n)
 unfolding any
 at-any f zero i h t = absurd (omega arith)
 at-any f (suc n) i h t =
-    ⊎-elim (λ e. let z : i ≡ n = omega arith in or-right (any f n) (f n) (rw (← z) t)) (λ l. or-left (any f n) (f n) (at-any f n i (omega arith) t)) (eq-or-lt-of-le h)
+    ⊎-elim (λ e. let z : i ≡ n = omega arith in or-right (any f n) (f n) (rw (← z) t)) (λ l. or-left (any f n) (f n) (at-any f n i (omega arith) t))
+    (eq-or-lt-of-le h)
 
 pub any-iff : (f : ℕ → Bool) (n : ℕ) → Is (any f n) ↔ Some f n
 any-iff f n = (any-at f n, λ s. at-any f n (s .0) (s .1) (s .2))

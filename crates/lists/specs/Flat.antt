@@ -1,6 +1,6 @@
--- `flat f n` is f 0, f 1, .., f (n - 1), one after the other.
+-- `flat f n` is f 0, f 1, .., f (n - 1), one after the other; and laws of `flatMap f l`, which is f x for each x of l, one after the other.
 use mathlib.Core.Path.{_≡_, refl, sym, ap, ap₂, _∙_}
-use mathlib.Core.List.{List, [], _∷_, _++_, append-assoc, append-nil}
+use mathlib.Core.List.{List, [], _∷_, _++_, append-assoc, append-nil, flatMap}
 use Prim.Native.Nat.{ℕ, zero, suc, _+_, _*_, _≤_, _<_}
 use native.Mathlib.Numerals.{add-one}
 use native.Mathlib.Decide.{le-ind}
@@ -55,3 +55,14 @@ module _ {A : Type 0} where
   pub flat-singles : (f : ℕ → A) (n : ℕ) → flat (λ i. f i ∷ []) n ≡ tabulate n f
   flat-singles f zero = flat-zero (λ i. f i ∷ [])
   flat-singles f (suc n) = flat-first (λ i. f i ∷ []) n ∙ ap (λ (l : List A). f 0 ∷ l) (flat-singles (λ i. f (suc i)) n)
+
+module _ {A B : Type 0} (f : A → List B) where
+  pub flatMap-append : (a b : List A) → flatMap f (a ++ b) ≡ flatMap f a ++ flatMap f b
+  unfolding flatMap
+  flatMap-append [] b = refl
+  flatMap-append (x ∷ a) b = ap (λ (l : List B). f x ++ l) (flatMap-append a b) ∙ sym (append-assoc (f x) (flatMap f a) (flatMap f b))
+
+  pub flatMap-flat : (g : ℕ → List A) (n : ℕ) → flatMap f (flat g n) ≡ flat (λ i. flatMap f (g i)) n
+  unfolding flatMap flat
+  flatMap-flat g zero = refl
+  flatMap-flat g (suc n) = flatMap-append (flat g n) (g n) ∙ ap (λ (l : List B). l ++ flatMap f (g n)) (flatMap-flat g n)

@@ -7,6 +7,7 @@ pub mod Scan
 pub mod Tabulate
 pub mod Passing
 pub mod Flat
+pub mod Sums
 pub mod Place
 pub mod Splice
 pub mod Stores

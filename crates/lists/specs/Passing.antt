@@ -67,7 +67,8 @@ module _ (h f : ℕ → Bool) where
   found zero t x = absurd x
   found (suc k) t x = go (h t) refl x (λ y. let r = found k (t + 1) y in (r .0, omega (arith, r .1), omega (arith, r .2), r .3, r .4))
     where
-      go : (b : Bool) → h t ≡ b → Is (someOf f (cond b (t ∷ passing h k (t + 1)) (passing h k (t + 1)))) → (Is (someOf f (passing h k (t + 1))) → Found (suc k) t) → Found (suc k) t
+      go : (b : Bool) → h t ≡ b → Is (someOf f (cond b (t ∷ passing h k (t + 1)) (passing h k (t + 1)))) →
+          (Is (someOf f (passing h k (t + 1))) → Found (suc k) t) → Found (suc k) t
       go true e x g = ⊎-elim (λ y. (t, omega arith, omega arith, rw e tt, y)) g (or-cases (f t) (someOf f (passing h k (t + 1))) x)
       go false e x g = g x
 
@@ -76,7 +77,9 @@ module _ (h f : ℕ → Bool) where
   find (suc k) t s u v x y = go (h t) refl (λ l. find k (t + 1) s (omega arith) (omega arith) x y)
     where
       go : (b : Bool) → h t ≡ b → (t < s → Is (someOf f (passing h k (t + 1)))) → Is (someOf f (cond b (t ∷ passing h k (t + 1)) (passing h k (t + 1))))
-      go true e g = ⊎-elim (λ z. or-left (f t) (someOf f (passing h k (t + 1))) (rw z y)) (λ z. or-right (f t) (someOf f (passing h k (t + 1))) (g z)) (eq-or-lt-of-le u)
+      go true e g =
+          ⊎-elim (λ z. or-left (f t) (someOf f (passing h k (t + 1))) (rw z y)) (λ z. or-right (f t) (someOf f (passing h k (t + 1))) (g z))
+          (eq-or-lt-of-le u)
       go false e g = ⊎-elim (λ z. absurd (rw e at (rw (← z) at x))) g (eq-or-lt-of-le u)
 
   pub someOf-passing : (k t : ℕ) → Is (someOf f (passing h k t)) ↔ Found k t
@@ -121,7 +124,8 @@ pub passing-all : (h : ℕ → Bool) (k t : ℕ) → ((s : ℕ) → t ≤ s → 
 passing-all h zero t f = refl
 passing-all h (suc k) t f =
     rw (f t (omega arith) (omega arith))
-    (ap₂ _∷_ (omega arith) (passing-all h k (t + 1) (λ s u v. f s (omega arith) (omega arith)) ∙ tabulate-same k (λ i. t + 1 + i) (λ i. t + suc i) (λ i g. omega arith)))
+    (ap₂ _∷_ (omega arith)
+    (passing-all h k (t + 1) (λ s u v. f s (omega arith) (omega arith)) ∙ tabulate-same k (λ i. t + 1 + i) (λ i. t + suc i) (λ i g. omega arith)))
 
 -- ---- numbers that pass in two ranges: the first `head` of them from `first` on, the others after `skip` numbers that do not
 

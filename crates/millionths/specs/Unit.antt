@@ -1,5 +1,5 @@
 -- One, zero and the figure of a truth, in millionths.
-use mathlib.Core.Bool.{Bool, true, false}
+use mathlib.Core.Bool.{Bool}
 use lib.IntN.{pos}
 use Rattle.rules.specs.Quantities as Quantities
 use Rattle.millionths.specs.declared.Millionths.{Millionths}
@@ -8,8 +8,7 @@ abbrev pub one : Millionths
 one = record { value = pos Quantities.one }
 
 abbrev pub nought : Millionths
-nought = record { value = pos 0 }
+nought = record { value = pos Quantities.zero }
 
 abbrev pub ofTruth : Bool → Millionths
-ofTruth true = one
-ofTruth false = nought
+ofTruth truth = record { value = pos (Quantities.ofTruth truth) }

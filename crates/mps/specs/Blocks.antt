@@ -10,7 +10,7 @@ use lib.ListN.{length}
 use Rattle.lists.specs.Flat.{flat}
 use Rattle.rules.specs.Rows.{Row}
 use Rattle.mps.specs.Page.{ended, eachRow}
-use Rattle.mps.specs.Reading.{Fields, Section, linesIn, fieldsIn, indented, cut, cutAt, factsIn}
+use Rattle.mps.specs.Parsing.{Fields, Section, linesIn, fieldsIn, indented, cut, cutAt, each, factsIn}
 use Rattle.mps.specs.FieldLaws.{Line, Unbroken}
 
 -- ---- the lines of a text
@@ -24,40 +24,40 @@ lines-ended (b ∷ x) rest h = rw (ne-eqb b 10 (λ e. omega (arith, h .0)), line
 
 module _ {A : Type 0} (fact : Fields → Option A) where
   -- lines that begin with a space, and what each says
-  pub data Told : List (List ℕ) → List A → Type 0 where
-    nothing : Told [] []
-    more : {l : List ℕ} {ls : List (List ℕ)} {f : A} {fs : List A} → indented l ≡ true → fact (fieldsIn l) ≡ some f → Told ls fs → Told (l ∷ ls) (f ∷ fs)
+  pub data Parses : List (List ℕ) → List A → Type 0 where
+    nothing : Parses [] []
+    more : {l : List ℕ} {ls : List (List ℕ)} {f : A} {fs : List A} → indented l ≡ true → fact (fieldsIn l) ≡ some f → Parses ls fs → Parses (l ∷ ls) (f ∷ fs)
 
-  both-told : {ls ms : List (List ℕ)} {fs gs : List A} → Told ls fs → Told ms gs → Told (ls ++ ms) (fs ++ gs)
-  both-told nothing u = u
-  both-told (more i e t) u = more i e (both-told t u)
+  both-parse : {ls ms : List (List ℕ)} {fs gs : List A} → Parses ls fs → Parses ms gs → Parses (ls ++ ms) (fs ++ gs)
+  both-parse nothing u = u
+  both-parse (more i e t) u = more i e (both-parse t u)
 
-  facts-told : {ls : List (List ℕ)} {fs : List A} → Told ls fs → factsIn fact ls ≡ some fs
-  unfolding factsIn
-  facts-told nothing = refl
-  facts-told (more i e t) = rw (e, facts-told t) refl
+  facts-parse : {ls : List (List ℕ)} {fs : List A} → Parses ls fs → factsIn fact ls ≡ some fs
+  unfolding each
+  facts-parse nothing = refl
+  facts-parse (more i e t) = rw (e, facts-parse t) refl
 
   -- such lines belong to the section that stands before them
-  cut-told : {ls : List (List ℕ)} {fs : List A} → Told ls fs → (rest : List (List ℕ)) →
+  cut-parse : {ls : List (List ℕ)} {fs : List A} → Parses ls fs → (rest : List (List ℕ)) →
       cut (ls ++ rest) ≡ record { pending = ls ++ cut rest .pending; sections = cut rest .sections }
   unfolding cut cutAt
-  cut-told nothing rest = refl
-  cut-told (more {l} {ls} i e t) rest = rw (i, cut-told t rest) refl
+  cut-parse nothing rest = refl
+  cut-parse (more {l} {ls} i e t) rest = rw (i, cut-parse t rest) refl
 
   pub record Block (text : List ℕ) (facts : List A) : Type 0 where
     pub lines : List (List ℕ)
     pub split : (rest : List ℕ) → linesIn (text ++ rest) ≡ lines ++ linesIn rest
-    pub told : Told lines facts
+    pub parses : Parses lines facts
 
   pub block-none : Block [] []
-  block-none = record { lines = []; split = λ rest. refl; told = nothing }
+  block-none = record { lines = []; split = λ rest. refl; parses = nothing }
 
   pub block-line : {text : List ℕ} {fields : Fields} {f : A} → Line text fields → fact fields ≡ some f → Block (ended text) (f ∷ [])
   block-line {text} l e =
       record {
         lines = text ∷ [];
         split = λ rest. lines-ended text rest (l .unbroken);
-        told = more (l .starts) (ap fact (l .reads) ∙ e) nothing;
+        parses = more (l .starts) (ap fact (l .reads) ∙ e) nothing;
       }
 
   pub block-both : {s t : List ℕ} {fs gs : List A} → Block s fs → Block t gs → Block (s ++ t) (fs ++ gs)
@@ -67,7 +67,7 @@ module _ {A : Type 0} (fact : Fields → Option A) where
         split = λ rest.
             ap linesIn (append-assoc s t rest) ∙ a .split (t ++ rest) ∙ ap (λ (ls : List (List ℕ)). a .lines ++ ls) (b .split rest)
             ∙ sym (append-assoc (a .lines) (b .lines) (linesIn rest));
-        told = both-told (a .told) (b .told);
+        parses = both-parse (a .parses) (b .parses);
       }
 
   pub block-cond : (b : Bool) {s t : List ℕ} {fs gs : List A} → Block s fs → Block t gs → Block (cond b s t) (cond b fs gs)
@@ -109,8 +109,8 @@ module _ {A : Type 0} {fact : Fields → Option A} where
   unfolding cut cutAt
   headed word {text} {rest} h i b s =
       record {
-        cut-is = rw (lines-ended word (text ++ rest) h, i, b .split rest, cut-told fact (b .told) (linesIn rest), s .cut-is, append-nil (b .lines)) refl;
+        cut-is = rw (lines-ended word (text ++ rest) h, i, b .split rest, cut-parse fact (b .parses) (linesIn rest), s .cut-is, append-nil (b .lines)) refl;
       }
 
   pub block-facts : {text : List ℕ} {facts : List A} (b : Block fact text facts) → factsIn fact (b .lines) ≡ some facts
-  block-facts b = facts-told fact (b .told)
+  block-facts b = facts-parse fact (b .parses)

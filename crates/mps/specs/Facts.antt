@@ -6,10 +6,10 @@ use lib.IntN.{pos}
 use Rattle.rules.specs.Rows.{Row}
 use Rattle.mps.specs.Merged.{coefficient, isZero, stands}
 use Rattle.mps.specs.Page.{eachRow}
-use Rattle.mps.specs.Reading.{RowFact, ColumnFact, RightFact}
-use Rattle.mps.specs.Reading.RowFact.{typed}
-use Rattle.mps.specs.Reading.ColumnFact.{entry, cost}
-use Rattle.mps.specs.Reading.RightFact.{right}
+use Rattle.mps.specs.Parsing.{RowFact, ColumnFact, RightFact}
+use Rattle.mps.specs.Parsing.RowFact.{typed}
+use Rattle.mps.specs.Parsing.ColumnFact.{entry, cost}
+use Rattle.mps.specs.Parsing.RightFact.{right}
 
 abbrev pub rowFacts : (i : ℕ) → Row → List RowFact
 rowFacts i r = typed i (r .relation) ∷ []

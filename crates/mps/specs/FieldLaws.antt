@@ -9,7 +9,7 @@ use lib.ListN.{length, replicate, take, drop, length-append, length-replicate, d
 use lib.Seq.{take-at, drop-at, take-all, drop-drop}
 use Rattle.lists.specs.Every.{Every, every-append}
 use Rattle.mps.specs.Page.{field}
-use Rattle.mps.specs.Reading.{Fields, trimmed, unlessEnd, fieldsIn, indented}
+use Rattle.mps.specs.Parsing.{Fields, trimmed, unlessEnd, fieldsIn, indented}
 use Rattle.mps.specs.Numbers.{Solid}
 
 -- ---- a text and spaces, up to a width

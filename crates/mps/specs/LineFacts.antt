@@ -13,12 +13,13 @@ use Rattle.text.specs.Decimal.{decimal}
 use Rattle.text.specs.Decimal.{signedText}
 use Rattle.mps.specs.Words.{COST, N, G, E, RHS, BND, BV, UP, R, X}
 use Rattle.mps.specs.Merged.{isZero}
-use Rattle.mps.specs.Page.{field, rowName, variableName, typeText, typeLine, rowLine, numberLine, numberUnlessZero, costLine, binaryLine, upperLine, boundLine}
-use Rattle.mps.specs.Reading.{same, RowFact, rowFact, columnFact, rightFact, boundFact}
-use Rattle.mps.specs.Reading.RowFact.{free, typed}
-use Rattle.mps.specs.Reading.ColumnFact.{entry, cost}
-use Rattle.mps.specs.Reading.RightFact.{right}
-use Rattle.mps.specs.Reading.Bound.{binary, upper}
+use Rattle.mps.specs.Page.{field, rowName, variableName, typeText, typeLine, rowLine, numberLine, numberUnlessZero}
+use Rattle.mps.specs.Page.{costLine, binaryLine, upperLine, boundLine}
+use Rattle.mps.specs.Parsing.{same, RowFact, rowFact, columnFact, rightFact, boundFact}
+use Rattle.mps.specs.Parsing.RowFact.{free, typed}
+use Rattle.mps.specs.Parsing.ColumnFact.{entry, cost}
+use Rattle.mps.specs.Parsing.RightFact.{right}
+use Rattle.mps.specs.Parsing.Bound.{binary, upper}
 use Rattle.mps.specs.Says.{boundOf}
 use Rattle.mps.specs.Numbers.{decimal-solid, signed-solid, number-decimal, whole-signed, name-short}
 use Rattle.mps.specs.FieldLaws.{Line, Content, two-fields, three-fields, four-fields}

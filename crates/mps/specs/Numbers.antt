@@ -6,13 +6,13 @@ use Prim.Native.Nat.{ℕ, suc, _+_, _-_, _*_, _≤_, _<_}
 use native.Mathlib.Omega.{arith}
 use borrow.Author.Tests.{le-leb, ne-eqb}
 use lib.IntN.{ℤ, pos, negsuc}
-use lib.ListN.{length, length-append}
+use lib.ListN.{length}
 use Rattle.lists.specs.Every.{Every, every-append}
 use Rattle.rules.specs.Grammar.{Numeral}
 use Rattle.rules.specs.Grammar.Numeral.{digit, more}
-use Rattle.text.specs.Decimal.{decimal, numeral-decimal, below-1000000}
-use Rattle.text.specs.Decimal.{signedText}
-use Rattle.mps.specs.Reading.{digitsIn, numberIn, with, wholeIn}
+use Rattle.text.specs.Decimal.{decimal, signedText}
+use Rattle.text.specs.DecimalLaws.{numeral-decimal, below-1000000}
+use Rattle.mps.specs.Parsing.{digitsIn, numberIn, with, wholeIn}
 
 -- ---- the bytes of a text without spaces and line feeds
 
@@ -38,10 +38,6 @@ pub signed-solid : (c : ℤ) → Solid (signedText c)
 signed-solid (pos n) = decimal-solid n
 signed-solid (negsuc n) = (omega arith, decimal-solid (suc n))
 
-numeral-some : {ds : List ℕ} {n : ℕ} → Numeral ds n → 1 ≤ length ds
-numeral-some (digit h) = omega arith
-numeral-some (more {ds} {n} {d} m l h) = simp length-append (omega arith)
-
 -- ---- a number
 
 next-digit : (n d : ℕ) (rest : List ℕ) → d < 10 → digitsIn n ((48 + d) ∷ rest) ≡ digitsIn (10 * n + d) rest
@@ -61,12 +57,30 @@ digits-all : {ds : List ℕ} {n : ℕ} → Numeral ds n → digitsIn 0 ds ≡ so
 unfolding digitsIn
 digits-all {ds} {n} m = rw append-nil at (digits-in m [])
 
-number-from : (ds : List ℕ) → 1 ≤ length ds → numberIn ds ≡ digitsIn 0 ds
-number-from [] h = absurd (omega arith)
-number-from (b ∷ ds) h = refl
+-- no leading zero
+abbrev FirstAbove : List ℕ → Type 0
+FirstAbove [] = ⊥
+FirstAbove (b ∷ l) = 48 < b
+
+first-append : (ds rest : List ℕ) → FirstAbove ds → FirstAbove (ds ++ rest)
+first-append [] rest h = absurd h
+first-append (b ∷ ds) rest h = h
+
+first-digit : {ds : List ℕ} {n : ℕ} → Numeral ds n → 0 < n → FirstAbove ds
+first-digit (digit h) l = omega arith
+first-digit (more {ds} {n} {d} m l h) g = first-append ds ((48 + d) ∷ []) (first-digit m l)
+
+number-from : (ds : List ℕ) → FirstAbove ds → numberIn ds ≡ digitsIn 0 ds
+number-from [] h = absurd h
+number-from (b ∷ []) h = refl
+number-from (b ∷ c ∷ ds) h = rw (ne-eqb b 48 (λ e. omega arith)) refl
+
+number-numeral : {ds : List ℕ} {n : ℕ} → Numeral ds n → numberIn ds ≡ digitsIn 0 ds
+number-numeral (digit h) = refl
+number-numeral (more {ds} {n} {d} m l h) = number-from (ds ++ ((48 + d) ∷ [])) (first-append ds ((48 + d) ∷ []) (first-digit m l))
 
 pub number-decimal : (n : ℕ) → numberIn (decimal n) ≡ some n
-number-decimal n = let m = numeral-decimal n in number-from (decimal n) (numeral-some m) ∙ digits-all m
+number-decimal n = let m = numeral-decimal n in number-numeral m ∙ digits-all m
 
 -- ---- a whole number
 

@@ -6,11 +6,11 @@ use Prim.Native.Nat.{ℕ, zero, suc, _+_, _-_, _*_, _≤_, _<_}
 use native.Mathlib.Nat.{mul-le-mul}
 use native.Mathlib.Omega.{arith}
 use lib.Dec.{eqb, ltb}
-use borrow.Author.Tests.{ne-eqb, eqb-true}
 use lib.IntN.{ℤ, pos, negsuc, negℤ, natAbs, _+ℤ_}
 use lib.ListN.{length, length-append, length-map, length-replicate}
 use Rattle.lists.specs.Every.{Every}
 use Rattle.lists.specs.Flat.{flat}
+use Rattle.lists.specs.Sums.{sumTo, sum-le, sum-add, sum-times, sum-even, pick, pick-most, length-flat}
 use Rattle.ints.specs.Magnitudes.{sum-magnitude}
 use Rattle.lists.specs.Passing.{passing-length}
 use Rattle.rules.specs.Rule.{Unary, Binary, Window}
@@ -25,55 +25,24 @@ use Rattle.rules.specs.Rows.{nodeRows, nodesRows, slackRows, goalRow, rowsOf}
 use Rattle.rules.specs.Rows.Relation.{at-least, equal}
 use Rattle.rules.specs.RowRecords.{Small, Recordable, rows-recordable}
 use Rattle.rules.specs.RowCount.{rows-count}
-use Rattle.text.specs.Decimal.{decimal, signedText, below-1000, below-100000, below-1000000}
+use Rattle.text.specs.Decimal.{decimal, signedText}
+use Rattle.text.specs.DecimalLaws.{below-1000, below-100000, below-1000000}
 use Rattle.mps.specs.Words.{RHS, COST, N, G, E, BND, BV, UP, R, X}
 use Rattle.mps.specs.Proved.{looping-le, if-le}
 use Rattle.mps.specs.Merged.{coefficient, isZero, stands}
-use Rattle.mps.specs.Page.{field, rowName, variableName, typeText, typeLine, rowLine, numberLine, numberUnlessZero, entryLine, rightLine, eachRow, costLine, columnLines, binaryLine, upperLine, boundLine, rowSection, columnSection, rightSection, boundSection, pageOf, page}
-
--- ---- sums over 0, 1, .., n − 1
-
-abbrev sumTo : (ℕ → ℕ) → ℕ → ℕ
-sumTo f zero = 0
-sumTo f (suc n) = sumTo f n + f n
-
-sum-add : (f g : ℕ → ℕ) (n : ℕ) → sumTo (λ i. f i + g i) n ≡ sumTo f n + sumTo g n
-sum-add f g zero = omega arith
-sum-add f g (suc n) = omega (arith, sum-add f g n)
-
-sum-zero : (n : ℕ) → sumTo (λ i. 0) n ≡ 0
-sum-zero zero = refl
-sum-zero (suc n) = omega (arith, sum-zero n)
-
-length-flat : {A : Type 0} (f : ℕ → List A) (g : ℕ → ℕ) (n : ℕ) → ((i : ℕ) → i < n → length (f i) ≤ g i) → length (flat f n) ≤ sumTo g n
-unfolding flat
-length-flat f g zero h = omega arith
-length-flat f g (suc n) h = omega (arith, length-append (flat f n) (f n), length-flat f g n (λ i l. h i (omega arith)), h n (omega arith))
+use Rattle.mps.specs.Page.{field, rowName, variableName, typeText, typeLine, rowLine, numberLine, numberUnlessZero, entryLine, rightLine}
+use Rattle.mps.specs.Page.{eachRow, costLine, columnLines, binaryLine, upperLine, boundLine}
+use Rattle.mps.specs.Page.{rowSection, columnSection, rightSection, boundSection, pageOf, page}
 
 -- ---- how often a variable stands in terms and in rows: in all, as often as there are terms
 
-abbrev hit : (a v : ℕ) → ℕ
-hit a v = cond (eqb a v) 1 0
-
-hit-none : (a n : ℕ) → n ≤ a → sumTo (hit a) n ≡ 0
-hit-none a zero h = refl
-hit-none a (suc n) h = let e : hit a n ≡ 0 = ap (λ (b : Bool). cond b 1 0) (ne-eqb a n (λ q. omega arith)) in omega (arith, hit-none a n (omega arith))
-
-hit-once : (a n : ℕ) → sumTo (hit a) n ≤ 1
-hit-once a zero = omega arith
-hit-once a (suc n) = go (eqb a n) refl (hit-once a n)
-  where
-    go : (b : Bool) → eqb a n ≡ b → sumTo (hit a) n ≤ 1 → sumTo (hit a) n + cond b 1 0 ≤ 1
-    go true e h = omega (arith, hit-none a n (let q = eqb-true a n e in omega arith))
-    go false e h = omega arith
-
 abbrev occurs : (v : ℕ) → List Term → ℕ
 occurs v [] = 0
-occurs v (t ∷ ts) = hit (t .variable) v + occurs v ts
+occurs v (t ∷ ts) = pick (t .variable) 1 v + occurs v ts
 
 occurs-all : (ts : List Term) (n : ℕ) → sumTo (λ v. occurs v ts) n ≤ length ts
-occurs-all [] n = omega (arith, sum-zero n)
-occurs-all (t ∷ ts) n = omega (arith, sum-add (hit (t .variable)) (λ v. occurs v ts) n, hit-once (t .variable) n, occurs-all ts n)
+occurs-all [] n = omega (arith, sum-even (λ v. 0) 0 n (λ v h. refl))
+occurs-all (t ∷ ts) n = omega (arith, sum-add (pick (t .variable) 1) (λ v. occurs v ts) n, pick-most (t .variable) 1 n, occurs-all ts n)
 
 abbrev inRows : (v : ℕ) → List Row → ℕ
 inRows v [] = 0
@@ -84,7 +53,7 @@ termCount [] = 0
 termCount (r ∷ rs) = length (r .terms) + termCount rs
 
 rows-all : (rs : List Row) (n : ℕ) → sumTo (λ v. inRows v rs) n ≤ termCount rs
-rows-all [] n = omega (arith, sum-zero n)
+rows-all [] n = omega (arith, sum-even (λ v. 0) 0 n (λ v h. refl))
 rows-all (r ∷ rs) n = omega (arith, sum-add (λ v. occurs v (r .terms)) (λ v. inRows v rs) n, occurs-all (r .terms) n, rows-all rs n)
 
 -- ---- a line has at most 40 bytes
@@ -144,7 +113,7 @@ coefficient-none v [] e = refl
 coefficient-none v (t ∷ ts) e = go (eqb (t .variable) v) refl (λ q. coefficient-none v ts q)
   where
     go : (b : Bool) → eqb (t .variable) v ≡ b → (occurs v ts ≡ 0 → coefficient v ts ≡ pos 0) → cond b (t .coefficient) (pos 0) +ℤ coefficient v ts ≡ pos 0
-    go true q f = let z : hit (t .variable) v ≡ 1 = ap (λ (b : Bool). cond b 1 0) q in absurd (omega arith)
+    go true q f = let z : pick (t .variable) 1 v ≡ 1 = ap (λ (b : Bool). cond b 1 0) q in absurd (omega arith)
     go false q f = rw (f (omega arith)) refl
 
 small-size : (c : ℤ) → Small c → natAbs c ≤ 128
@@ -175,13 +144,18 @@ entry-length v i r g h q = go (occurs v (r .terms)) refl
     go : (k : ℕ) → occurs v (r .terms) ≡ k → length (entryLine v i r) ≤ 40 * k
     go zero e = rw (coefficient-none v (r .terms) e) (omega arith)
     go (suc k) e =
-        omega (arith, unless-zero-short (variableName v) i (coefficient v (r .terms)) (name-short X v g) h (omega (arith, coefficient-size v (r .terms) (q .small), q .few)))
+        let c = coefficient v (r .terms) in
+        let small : natAbs c < 100000 = omega (arith, coefficient-size v (r .terms) (q .small), q .few) in
+        omega (arith, unless-zero-short (variableName v) i c (name-short X v g) h small)
 
-entries-length : (v i : ℕ) (rs : List Row) → v < 1000000 → i + length rs ≤ 1000000 → Every Recordable rs → length (eachRow (entryLine v) i rs) ≤ 40 * inRows v rs
+entries-length : (v i : ℕ) (rs : List Row) → v < 1000000 → i + length rs ≤ 1000000 → Every Recordable rs →
+    length (eachRow (entryLine v) i rs) ≤ 40 * inRows v rs
 unfolding eachRow
 entries-length v i [] g h q = omega arith
 entries-length v i (r ∷ rs) g h q =
-    omega (arith, length-append (entryLine v i r) (eachRow (entryLine v) (i + 1) rs), entry-length v i r g (omega arith) (q .0), entries-length v (i + 1) rs g (omega arith) (q .1))
+    let first = entry-length v i r g (omega arith) (q .0) in
+    let others = entries-length v (i + 1) rs g (omega arith) (q .1) in
+    omega (arith, length-append (entryLine v i r) (eachRow (entryLine v) (i + 1) rs))
 
 column-length : (rs : List Row) (v : ℕ) → v < 1000000 → length rs ≤ 1000000 → Every Recordable rs → length (columnLines rs v) ≤ 40 + 40 * inRows v rs
 unfolding columnLines costLine
@@ -191,20 +165,19 @@ column-length rs v g h q = go (stands v rs)
     go true = omega (arith, entries-length v 0 rs g (omega arith) q)
     go false = omega (arith, number-short (variableName v) COST (pos 0) (name-short X v g) (omega arith) (signed-short (pos 0) (omega arith)))
 
-sum-scaled : (f : ℕ → ℕ) (n : ℕ) → sumTo (λ v. 40 + 40 * f v) n ≡ 40 * n + 40 * sumTo f n
-sum-scaled f zero = omega arith
-sum-scaled f (suc n) = omega (arith, sum-scaled f n)
-
-sum-forty : (n : ℕ) → sumTo (λ v. 40) n ≡ 40 * n
-sum-forty zero = omega arith
-sum-forty (suc n) = omega (arith, sum-forty n)
+parts-length : {A : Type 0} (f : ℕ → List A) (g : ℕ → ℕ) (n : ℕ) → ((i : ℕ) → i < n → length (f i) ≤ g i) → length (flat f n) ≤ sumTo g n
+parts-length f g n h = omega (arith, length-flat f n, sum-le (λ i. length (f i)) g n h)
 
 -- ---- rows and right sides
 
-each-short : (f : ℕ → Row → List ℕ) (i : ℕ) (rs : List Row) → i + length rs ≤ 1000000 → Every Recordable rs → ((j : ℕ) (r : Row) → j < 1000000 → Recordable r → length (f j r) ≤ 40) → length (eachRow f i rs) ≤ 40 * length rs
+each-short : (f : ℕ → Row → List ℕ) (i : ℕ) (rs : List Row) → i + length rs ≤ 1000000 → Every Recordable rs →
+    ((j : ℕ) (r : Row) → j < 1000000 → Recordable r → length (f j r) ≤ 40) → length (eachRow f i rs) ≤ 40 * length rs
 unfolding eachRow
 each-short f i [] h q g = omega arith
-each-short f i (r ∷ rs) h q g = omega (arith, length-append (f i r) (eachRow f (i + 1) rs), g i r (omega arith) (q .0), each-short f (i + 1) rs (omega arith) (q .1) g)
+each-short f i (r ∷ rs) h q g =
+    let first = g i r (omega arith) (q .0) in
+    let others = each-short f (i + 1) rs (omega arith) (q .1) g in
+    omega (arith, length-append (f i r) (eachRow f (i + 1) rs))
 
 row-short : (i : ℕ) (r : Row) → i < 1000000 → length (rowLine i r) ≤ 40
 unfolding rowLine
@@ -224,10 +197,11 @@ module _ (atoms n : ℕ) (rs : List Row) (few : n ≤ 1000000) (short : length r
   pageOf-length =
       let a = each-short rowLine 0 rs (omega arith) q (λ j r h p. row-short j r h) in
       let b = each-short rightLine 0 rs (omega arith) q right-short in
-      let c = length-flat (columnLines rs) (λ v. 40 + 40 * inRows v rs) n (λ v h. column-length rs v (omega arith) short q) in
-      let d = length-flat (boundLine atoms) (λ v. 40) n (λ v h. bound-short atoms v (omega arith)) in
-      let e = sum-scaled (λ v. inRows v rs) n in
-      let f = sum-forty n in
+      let c = parts-length (columnLines rs) (λ v. 40 + 40 * inRows v rs) n (λ v h. column-length rs v (omega arith) short q) in
+      let d = parts-length (boundLine atoms) (λ v. 40) n (λ v h. bound-short atoms v (omega arith)) in
+      let e = sum-add (λ v. 40) (λ v. 40 * inRows v rs) n in
+      let s = sum-times 40 (λ v. inRows v rs) n in
+      let f = sum-even (λ v. 40) 40 n (λ v h. refl) in
       let g = rows-all rs n in
       let h = free-short in
       simp length-append (omega arith)
@@ -261,7 +235,8 @@ window-terms : (w : Window) (P : ℕ) (p : ℕ → ℕ) (ss : List ℕ) → term
 window-terms within P p ss =
     let pair : ℕ → Row = λ s. ge (plus P ∷ minus (p s) ∷ []) (pos 0) in
     let long : Row = ge (map (λ s. plus (p s)) ss ++ (minus P ∷ [])) (pos 0) in
-    omega (arith, terms-append (map pair ss) (long ∷ []), pair-terms pair (λ s. refl) ss, length-append (map (λ (s : ℕ). plus (p s)) ss) (minus P ∷ []), length-map ss (λ (s : ℕ). plus (p s)))
+    let parts = length-append (map (λ (s : ℕ). plus (p s)) ss) (minus P ∷ []) in
+    omega (arith, terms-append (map pair ss) (long ∷ []), pair-terms pair (λ s. refl) ss, length-map ss (λ (s : ℕ). plus (p s)))
 window-terms throughout P p ss =
     let pair : ℕ → Row = λ s. ge (plus (p s) ∷ minus P ∷ []) (pos 0) in
     let long : Row = ge (plus P ∷ map (λ s. minus (p s)) ss) (negℤ (pos (length ss - 1))) in
@@ -281,7 +256,8 @@ module _ (T M L : ℕ) (ns : List Node) where
   at-terms n (atom a) t = omega arith
   at-terms n (unary u c) t = omega (arith, unary-terms u (goesOn T L t) (slack T M n t) (slack T M c t) (nextSlack T M L ns n t))
   at-terms n (binary o l r) t = omega (arith, binary-terms o (goesOn T L t) (slack T M n t) (slack T M l t) (slack T M r t) (nextSlack T M L ns n t))
-  at-terms n (windowed w a b c) t = omega (arith, window-terms w (slack T M n t) (slack T M c) (windowSlots T L t a b), passing-length (inWindow T L t a b) T 1)
+  at-terms n (windowed w a b c) t =
+      omega (arith, window-terms w (slack T M n t) (slack T M c) (windowSlots T L t a b), passing-length (inWindow T L t a b) T 1)
 
   loop-terms : (n : ℕ) (nd : Node) (t : ℕ) → termCount (loopRowsAt T M ns n nd t) ≤ 11
   loop-terms n (atom a) t = omega arith

@@ -11,7 +11,7 @@ use Rattle.rules.specs.Table.{Node}
 use Rattle.mps.specs.Page.{page}
 use Rattle.mps.specs.Says.{PageSays}
 use Rattle.rules.specs.RowCount.{rows-count}
-use Rattle.mps.specs.PageRead.{page-read}
+use Rattle.mps.specs.PageParsed.{page-parsed}
 
 pub looping-le : (ns : List Node) → looping ns ≤ length ns
 looping-le [] = omega arith
@@ -34,4 +34,4 @@ page-says T M L table ns slots atoms loop good =
     let e : b * T ≤ 256 * 64 = mul-le-mul {n₂ = 256} {m₂ = 64} v (omega arith) in
     let f : length ns * T ≤ 128 * 64 = mul-le-mul {n₂ = 128} {m₂ = 64} (good .few) (omega arith) in
     let g : (T + 8) * (length ns * T) ≤ 72 * 8192 = mul-le-mul {n₂ = 72} {m₂ = 8192} (omega arith) (omega arith) in
-    page-read (M * T) (variableCount T M L ns) (rowsOf T M L ns) (omega arith) (omega (arith, rows-count T M L ns))
+    page-parsed (M * T) (variableCount T M L ns) (rowsOf T M L ns) (omega arith) (omega (arith, rows-count T M L ns))

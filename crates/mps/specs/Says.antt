@@ -16,12 +16,12 @@ use Rattle.rules.specs.Table.{Node, Good}
 use Rattle.rules.specs.Rows.{Term, Row, variableCount, rowsOf, Meets}
 use Rattle.mps.specs.Merged.{merged, stands}
 use Rattle.mps.specs.Page.{page}
-use Rattle.mps.specs.Reading.{Stated, Bound, Said, reading}
-use Rattle.mps.specs.Reading.Stated.{free, numbered}
-use Rattle.mps.specs.Reading.Bound.{binary, upper}
+use Rattle.mps.specs.Parsing.{ModelRow, Bound, Model, parsePage}
+use Rattle.mps.specs.Parsing.ModelRow.{free, numbered}
+use Rattle.mps.specs.Parsing.Bound.{binary, upper}
 
 -- the rows from number i on, of a table of n variables, "after that adding and dropping"
-abbrev pub mergedRows : (n i : ℕ) → List Row → List Stated
+abbrev pub mergedRows : (n i : ℕ) → List Row → List ModelRow
 mergedRows n i [] = []
 mergedRows n i (r ∷ rs) = numbered i (merged n r) ∷ mergedRows n (i + 1) rs
 
@@ -33,14 +33,14 @@ costOf rs v = cond (stands v rs) [] (record { coefficient = pos 0; variable = v 
 abbrev pub boundOf : (atoms v : ℕ) → Bound
 boundOf atoms v = cond (ltb v atoms) (binary v) (upper v (pos 1))
 
-abbrev pub saidOf : (atoms variables : ℕ) → List Row → Said
-saidOf atoms variables rs =
+abbrev pub modelOf : (atoms variables : ℕ) → List Row → Model
+modelOf atoms variables rs =
     record { rows = free ∷ mergedRows variables 0 rs; costs = flat (costOf rs) variables; bounds = tabulate variables (boundOf atoms) }
 
 -- the free row, the rows of the table after that adding and dropping, every variable's bound, and nothing else
 abbrev pub PageSays : Type 0
 PageSays = (T M L : ℕ) (table : List ℕ) (ns : List Node) → SlotsAllowed T → AtomsAllowed M → LoopAllowed T L → Good M table ns →
-    reading (page T M L ns) ≡ some (saidOf (M * T) (variableCount T M L ns) (rowsOf T M L ns))
+    parsePage (page T M L ns) ≡ some (modelOf (M * T) (variableCount T M L ns) (rowsOf T M L ns))
 
 -- The meaning is kept: numerators meet a row after that adding and dropping exactly when they meet the row as written.
 abbrev pub SameMeaning : Type 0

@@ -2,3 +2,4 @@ pub mod Walk
 pub mod Windows
 pub mod Column
 pub mod Parts
+pub mod Plans

@@ -21,34 +21,10 @@ use Rattle.row.specs.Apart.{Apart, Behind}
 use Rattle.row.specs.Kinds.{kindRows, windowAt, slotCount, leftBlock, followed, following}
 use Rattle.row.specs.NodeRows.{blockOn, blockRows, Own, Kept}
 use Rattle.mps_row.specs.Slots.{slotText, rowsBefore}
-use Rattle.mps_row.specs.Laws.{Plain, before-kind, block-text}
+use Rattle.mps_row.specs.Laws.{Plain, not-plain, before-kind, block-text}
 use Rattle.mps_row.specs.Absent.{Lacks, absent}
 use Rattle.mps_users.specs.Around.{and-false}
 use Rattle.mps_users.specs.Picked.{before, flat-around, flat-only}
-
-abbrev pub plainKind : Kind → Bool
-plainKind Atom = true
-plainKind Not = true
-plainKind And = true
-plainKind Or = true
-plainKind Implies = true
-plainKind Eventually = true
-plainKind Always = true
-plainKind Until = true
-plainKind Within = false
-plainKind Throughout = false
-
-pub plain-is : (k : Kind) → plainKind k ≡ true → Plain k
-plain-is Atom e = tt
-plain-is Not e = tt
-plain-is And e = tt
-plain-is Or e = tt
-plain-is Implies e = tt
-plain-is Eventually e = tt
-plain-is Always e = tt
-plain-is Until e = tt
-plain-is Within e = let z : _≡_ {A = ℕ} 0 1 = cc in absurd (omega arith)
-plain-is Throughout e = let z : _≡_ {A = ℕ} 0 1 = cc in absurd (omega arith)
 
 plain-rows : (k : Kind) → Plain k → (inner : Bool) (P p q P′ : ℕ) (vs : List ℕ) → kindRows k inner P p q P′ [] ≡ kindRows k inner P p q P′ vs
 plain-rows Atom h inner P p q P′ vs = refl
@@ -59,8 +35,8 @@ plain-rows Implies h inner P p q P′ vs = refl
 plain-rows Eventually h inner P p q P′ vs = refl
 plain-rows Always h inner P p q P′ vs = refl
 plain-rows Until h inner P p q P′ vs = refl
-plain-rows Within h inner P p q P′ vs = absurd h
-plain-rows Throughout h inner P p q P′ vs = absurd h
+plain-rows Within h inner P p q P′ vs = absurd (not-plain h)
+plain-rows Throughout h inner P p q P′ vs = absurd (not-plain h)
 
 -- the lines of variable v in the rows of a block without a window at slot s + 1; the block's first row is `start`
 unfoldable pub kindText : (v : ℕ) → Block → (T start s : ℕ) → List ℕ
@@ -152,8 +128,8 @@ parts-lack Implies v p q h a b = (a, b)
 parts-lack Eventually v p q h a b = a
 parts-lack Always v p q h a b = a
 parts-lack Until v p q h a b = (a, b)
-parts-lack Within v p q h a b = absurd h
-parts-lack Throughout v p q h a b = absurd h
+parts-lack Within v p q h a b = absurd (not-plain h)
+parts-lack Throughout v p q h a b = absurd (not-plain h)
 
 -- of a variable that stands behind the block
 behind-lack : (k : Kind) (T P p q v i : ℕ) → Plain k → Apart k T P p q → P + T ≤ v → i < T → PartsLack k v (p + i) (q + i)
@@ -165,8 +141,8 @@ behind-lack Implies T P p q v i h g l m = (λ e. omega (arith, g .0), λ e. omeg
 behind-lack Eventually T P p q v i h g l m = λ e. omega arith
 behind-lack Always T P p q v i h g l m = λ e. omega arith
 behind-lack Until T P p q v i h g l m = (λ e. omega (arith, g .0), λ e. omega (arith, g .1))
-behind-lack Within T P p q v i h g l m = absurd h
-behind-lack Throughout T P p q v i h g l m = absurd h
+behind-lack Within T P p q v i h g l m = absurd (not-plain h)
+behind-lack Throughout T P p q v i h g l m = absurd (not-plain h)
 
 kind-lacks : (v : ℕ) (k : Kind) (inner : Bool) (P p q P′ : ℕ) (vs : List ℕ) → (P ≡ v → ⊥) → PartsLack k v p q → (loopsBy k ≡ true → inner ≡ true → P′ ≡ v → ⊥) →
     Every (Lacks v) (kindRows k inner P p q P′ vs)
@@ -276,10 +252,6 @@ module _ (T L : ℕ) (b : Block) (plain : Plain (b .kind)) (0<T : 1 ≤ T) (v st
 -- two tests, the second of equal numbers, do not both pass
 pub not-both : {r a c : Bool} (v w : ℕ) → r ≡ (a && eqb v w) → a ≡ c → r ≡ false → c ≡ true → w ≡ v → ⊥
 not-both {r} {a} {c} v w e f g h q = eqb-false v w (and-false a (eqb v w) (sym e ∙ g) (f ∙ h)) (sym q)
-
--- v is the variable of some part at slot s + 1
-abbrev pub AtSlot : (T s v : ℕ) → Type 0
-AtSlot T s v = (x : ℕ) × (v ≡ x * T + s)
 
 -- numbers of a list are below n
 abbrev pub Low : (n : ℕ) → List ℕ → (count : ℕ) → Type 0

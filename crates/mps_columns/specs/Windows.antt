@@ -6,6 +6,7 @@ use native.Mathlib.Omega.{arith}
 use lib.ListN.{length}
 use Rattle.rules.specs.Quantities.{WindowAllowed}
 use Rattle.rules.specs.Rule.Window.{within, throughout}
+use Rattle.table.specs.Ends.{hasWindow}
 use Rattle.table.specs.declared.Kind.{Kind}
 use Rattle.table.specs.declared.Kind.the-variants.{Atom, Not, And, Or, Implies, Eventually, Always, Until, Within, Throughout}
 use Rattle.window.specs.declared.Looks.{Looks}
@@ -15,9 +16,8 @@ use Rattle.row.specs.Apart.{Apart}
 use Rattle.row.specs.Kinds.{Allowed, overRows, rowsOn, length-on}
 use Rattle.row.specs.NodeRows.{blockOn}
 use Rattle.mps_window.specs.declared.Over.{Over}
-use Rattle.mps_window.specs.Places.{PartBelow}
+use Rattle.mps_window.specs.Places.{rowsOver, PartBelow}
 use Rattle.mps_node.specs.Places.{Fit}
-use Rattle.mps_columns.specs.Walk.{plainKind}
 
 abbrev pub isWithin : Kind → Bool
 isWithin Atom = false
@@ -43,15 +43,15 @@ missed-behind o v a h = (a, λ j l e. omega (arith, place-high (o .looks) j))
 -- ---- a block's window at slot s + 1
 
 pub record Overlooked (b : Block) (T L s : ℕ) (o : Over) : Type 0 where
-  pub rows : overRows (windowBy (o .within)) (o .own) (variables (o .looks) (o .left)) ≡ blockOn b T L s
+  pub rows : rowsOver o ≡ blockOn b T L s
   pub are-few : Few (o .looks)
   pub below : PartBelow o
   pub counted : o .looks .count + 1 ≡ length (blockOn b T L s)
 
-never : true ≡ false → ⊥
+never : false ≡ true → ⊥
 never e = let z : _≡_ {A = ℕ} 0 1 = cc in omega arith
 
-pub window-allowed : (k : Kind) (a b : ℕ) → plainKind k ≡ false → Allowed k a b → WindowAllowed a b
+pub window-allowed : (k : Kind) (a b : ℕ) → hasWindow k ≡ true → Allowed k a b → WindowAllowed a b
 window-allowed Atom a b e h = absurd (never e)
 window-allowed Not a b e h = absurd (never e)
 window-allowed And a b e h = absurd (never e)
@@ -63,7 +63,7 @@ window-allowed Until a b e h = absurd (never e)
 window-allowed Within a b e h = h
 window-allowed Throughout a b e h = h
 
-window-apart : (k : Kind) (T P p q : ℕ) → plainKind k ≡ false → Apart k T P p q → p + T ≤ P
+window-apart : (k : Kind) (T P p q : ℕ) → hasWindow k ≡ true → Apart k T P p q → p + T ≤ P
 window-apart Atom T P p q e h = absurd (never e)
 window-apart Not T P p q e h = absurd (never e)
 window-apart And T P p q e h = absurd (never e)
@@ -76,7 +76,7 @@ window-apart Within T P p q e h = h
 window-apart Throughout T P p q e h = h
 
 module _ (T L : ℕ) (loops : Bool) (next P p q a b s : ℕ) (w : Looks) (l : Looking T L (s + 1) a b w) where
-  window-rows : (k : Kind) → plainKind k ≡ false → overRows (windowBy (isWithin k)) (P + s) (variables w p) ≡ rowsOn k T L loops next P p q a b s
+  window-rows : (k : Kind) → hasWindow k ≡ true → overRows (windowBy (isWithin k)) (P + s) (variables w p) ≡ rowsOn k T L loops next P p q a b s
   window-rows Atom e = absurd (never e)
   window-rows Not e = absurd (never e)
   window-rows And e = absurd (never e)
@@ -88,7 +88,7 @@ module _ (T L : ℕ) (loops : Bool) (next P p q a b s : ℕ) (w : Looks) (l : Lo
   window-rows Within e = ap (overRows within (P + s)) (l .is p)
   window-rows Throughout e = ap (overRows throughout (P + s)) (l .is p)
 
-  window-count : (k : Kind) → plainKind k ≡ false → w .count + 1 ≡ length (rowsOn k T L loops next P p q a b s)
+  window-count : (k : Kind) → hasWindow k ≡ true → w .count + 1 ≡ length (rowsOn k T L loops next P p q a b s)
   window-count Atom e = absurd (never e)
   window-count Not e = absurd (never e)
   window-count And e = absurd (never e)
@@ -100,7 +100,7 @@ module _ (T L : ℕ) (loops : Bool) (next P p q a b s : ℕ) (w : Looks) (l : Lo
   window-count Within e = ap (λ (n : ℕ). n + 1) (count-is l) ∙ sym (length-on Within T L loops next P p q a b s)
   window-count Throughout e = ap (λ (n : ℕ). n + 1) (count-is l) ∙ sym (length-on Throughout T L loops next P p q a b s)
 
-pub overlooked : (b : Block) (T L s : ℕ) (x : Bool) (w : Looks) → Fit T b → plainKind (b .kind) ≡ false → x ≡ isWithin (b .kind) →
+pub overlooked : (b : Block) (T L s : ℕ) (x : Bool) (w : Looks) → Fit T b → hasWindow (b .kind) ≡ true → x ≡ isWithin (b .kind) →
     Looking T L (s + 1) (b .from) (b .to) w → Overlooked b T L s (record { within = x; own = b .own + s; left = b .left; looks = w })
 overlooked b T L s x w f e g l = record {
   rows =

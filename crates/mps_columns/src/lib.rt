@@ -7,28 +7,30 @@ use mps_window::Over;
 use row::Block;
 use table::Kind;
 ghost use mathlib.Core.Path.{_≡_};
-ghost use mathlib.Core.Bool.{cond, false};
-ghost use mathlib.Core.List.{[], _++_};
+ghost use mathlib.Core.Bool.{cond, true};
+ghost use mathlib.Core.List.{[]};
 ghost use Prim.Native.Nat.{_+_, _-_, _*_, _≤_, _<_};
 ghost use lib.ListN.{length, getD};
 ghost use Rattle.lists.specs.Flat.{flat};
 ghost use Rattle.rules.specs.Table.{nodeAt};
-ghost use Rattle.rules.specs.Rows.{loops, looping, slackRows, rowsOf, variableCount};
+ghost use Rattle.rules.specs.Rows.{loops, looping, rowsOf, variableCount};
 ghost use Rattle.rules.specs.TableTest.{recordCount, nodesIn};
 ghost use Rattle.mps.specs.Page.{entryLine, eachRow, columnLines};
 ghost use Rattle.table.specs.Checks.{Ready};
-ghost use Rattle.row.specs.Kinds.{overRows};
+ghost use Rattle.table.specs.Ends.{hasWindow};
 ghost use Rattle.row.specs.NodeRows.{blockRows};
-ghost use Rattle.mps_line.specs.Emitted.{Emitted};
+ghost use Rattle.mps_line.specs.Bounds.{numberLimit, LinesFit, plainLines, slotLines, blockLines, nodeLines, nodesLines, tableLines};
+ghost use Rattle.mps_line.specs.Bounds.{partLines, ownParts, keptParts, allParts};
+ghost use Rattle.mps_line.specs.Emitted.{Lines};
 ghost use Rattle.mps_row.specs.Laws.{Plain};
-ghost use Rattle.window.specs.Slots.{windowBy, variables, Few};
-ghost use Rattle.mps_window.specs.Places.{PartBelow};
-ghost use Rattle.mps_node.specs.Places.{Fit};
+ghost use Rattle.window.specs.Slots.{Few};
+ghost use Rattle.mps_window.specs.Places.{rowsOver, PartBelow};
+ghost use Rattle.mps_node.specs.Places.{blocksRows, Fit};
 ghost use Rattle.mps_users.specs.Users.{keptPart, userText};
-ghost use Rattle.mps_users.specs.Found.{Layout, Found};
-ghost use Rattle.mps_columns.specs.Walk.{plainKind, kindText, kindAround, kindLines, Whole, AtSlot, Low};
+ghost use Rattle.mps_users.specs.Found.{Found};
+ghost use Rattle.mps_columns.specs.Walk.{kindText, kindAround, kindLines, Whole, Low};
 ghost use Rattle.mps_columns.specs.Windows.{isWithin, Missed, Overlooked};
-ghost use Rattle.mps_columns.specs.Parts.{partText};
+ghost use Rattle.mps_columns.specs.Plans.{Planned, plannedPart, AtSlot, Slotted};
 
 // A variable, and its slot, counted from 0.
 struct Variable {
@@ -36,7 +38,7 @@ struct Variable {
     s: usize,
 }
 
-// A slot, counted from 0, of a block of variables.
+// A part of the variables, and a slot, counted from 0.
 struct Slot {
     x: usize,
     s: usize,
@@ -50,24 +52,6 @@ struct Plan {
     rows: usize,
 }
 
-// Whether a kind has no window.
-fn is_plain(kind: Kind) -> bool
-    ensures { λ r. ⌜ r ≡ plainKind kind ⌝ }
-{
-    match kind {
-        Kind::Atom => true,
-        Kind::Not => true,
-        Kind::And => true,
-        Kind::Or => true,
-        Kind::Implies => true,
-        Kind::Eventually => true,
-        Kind::Always => true,
-        Kind::Until => true,
-        Kind::Within => false,
-        Kind::Throughout => false,
-    }
-}
-
 // The lines of variable v in the rows of a block without a window at slot s + 1. `start` is the block's first row.
 fn put_at(
     out: &mut [u8],
@@ -78,8 +62,8 @@ fn put_at(
     s: usize,
     t: usize,
 ) -> usize
-    requires { ⌜ (at ≤ 1099511600000) × (v < 1000000) × (start ≤ 600000) × (s < t) × (t ≤ 64) × Fit t block × Plain (block .kind) ⌝ }
-    ensures { λ r. ⌜ Emitted at (kindText v block t start s) (now (out .entry)) (now (out .exit)) r × (r ≤ at + 160) ⌝ }
+    requires { ⌜ LinesFit at plainLines × (v < numberLimit) × (start + blockLines ≤ numberLimit) × (s < t) × (t ≤ 64) × Fit t block × Plain (block .kind) ⌝ }
+    ensures { λ r. ⌜ Lines plainLines at (kindText v block t start s) (now (out .entry)) (now (out .exit)) r ⌝ }
 {
     let kind = block.kind;
     let i = start + row::rows_before(s, row::slot_count(kind, true, 0));
@@ -106,8 +90,9 @@ fn put_around(
     s: usize,
     t: usize,
 ) -> usize
-    requires { ⌜ (at ≤ 1099511590000) × (v < 1000000) × (start ≤ 600000) × (s < t) × (t ≤ 64) × Fit t block × Plain (block .kind) ⌝ }
-    ensures { λ r. ⌜ Emitted at (kindAround v block t start s) (now (out .entry)) (now (out .exit)) r × (r ≤ at + 320) ⌝ }
+    requires { ⌜ LinesFit at (2 * plainLines) × (v < numberLimit) × (start + blockLines ≤ numberLimit) × (s < t) × (t ≤ 64)
+        × Fit t block × Plain (block .kind) ⌝ }
+    ensures { λ r. ⌜ Lines (2 * plainLines) at (kindAround v block t start s) (now (out .entry)) (now (out .exit)) r ⌝ }
 {
     if s == 0 {
         return put_at(out, at, v, start, block, s, t);
@@ -127,9 +112,10 @@ fn put_plain(
     s: usize,
     t: usize,
 ) -> usize
-    requires { ⌜ (at ≤ 1099511580000) × (v < 1000000) × (start ≤ 600000) × (s < t) × (t ≤ 64) × Fit t block × Plain (block .kind) ⌝ }
+    requires { ⌜ LinesFit at (2 * plainLines) × (v < numberLimit) × (start + blockLines ≤ numberLimit) × (s < t) × (t ≤ 64)
+        × Fit t block × Plain (block .kind) ⌝ }
     requires { ⌜ Whole t block × AtSlot t s v ⌝ }
-    ensures { λ r. ⌜ Emitted at (kindLines v block t start s) (now (out .entry)) (now (out .exit)) r × (r ≤ at + 320) ⌝ }
+    ensures { λ r. ⌜ Lines (2 * plainLines) at (kindLines v block t start s) (now (out .entry)) (now (out .exit)) r ⌝ }
 {
     if scalars::both(block.loops, v == block.next as usize) {
         return put_at(out, at, v, start, block, t - 1, t);
@@ -179,8 +165,8 @@ fn misses(over: Over, v: usize) -> bool
 
 // Its lines in the rows of a window at a slot, from row i on.
 fn put_seen(out: &mut [u8], at: usize, v: usize, i: usize, over: Over) -> usize
-    requires { ⌜ (at ≤ 1099511600000) × (v < 1000000) × (i + 65 ≤ 1000000) × Few (over .looks) × PartBelow over ⌝ }
-    ensures { λ r. ⌜ Emitted at (eachRow (entryLine v) i (overRows (windowBy (over .within)) (over .own) (variables (over .looks) (over .left)))) (now (out .entry)) (now (out .exit)) r × (r ≤ at + 2600) ⌝ }
+    requires { ⌜ LinesFit at slotLines × (v < numberLimit) × (i + slotLines ≤ numberLimit) × Few (over .looks) × PartBelow over ⌝ }
+    ensures { λ r. ⌜ Lines slotLines at (eachRow (entryLine v) i (rowsOver over)) (now (out .entry)) (now (out .exit)) r ⌝ }
 {
     if misses(over, v) {
         return at;
@@ -190,7 +176,7 @@ fn put_seen(out: &mut [u8], at: usize, v: usize, i: usize, over: Over) -> usize
 
 // The window of a block at slot s + 1.
 fn over_at(block: Block, within: bool, t: u16, l: u16, s: u16) -> Over
-    requires { ⌜ (1 ≤ l) × (l ≤ t) × (t ≤ 64) × (s < t) × Fit t block × (plainKind (block .kind) ≡ false) × (within ≡ isWithin (block .kind)) ⌝ }
+    requires { ⌜ (1 ≤ l) × (l ≤ t) × (t ≤ 64) × (s < t) × Fit t block × (hasWindow (block .kind) ≡ true) × (within ≡ isWithin (block .kind)) ⌝ }
     ensures { λ r. ⌜ Overlooked block t l s r ⌝ }
 {
     let looks = window::look(t, l, s, block.from, block.to);
@@ -212,8 +198,9 @@ fn put_windows(
     t: u16,
     l: u16,
 ) -> usize
-    requires { ⌜ (at ≤ 1099511300000) × (v < 1000000) × (start ≤ 600000) × (1 ≤ l) × (l ≤ t) × (t ≤ 64) × Fit t block × (plainKind (block .kind) ≡ false) ⌝ }
-    ensures { λ r. ⌜ Emitted at (eachRow (entryLine v) start (blockRows block t l)) (now (out .entry)) (now (out .exit)) r × (r ≤ at + 166400) ⌝ }
+    requires { ⌜ LinesFit at blockLines × (v < numberLimit) × (start + blockLines ≤ numberLimit) × (1 ≤ l) × (l ≤ t) × (t ≤ 64)
+        × Fit t block × (hasWindow (block .kind) ≡ true) ⌝ }
+    ensures { λ r. ⌜ Lines blockLines at (eachRow (entryLine v) start (blockRows block t l)) (now (out .entry)) (now (out .exit)) r ⌝ }
 {
     let kind = block.kind;
     let within = is_within(kind);
@@ -241,16 +228,16 @@ fn put_block(
     t: usize,
     l: usize,
 ) -> usize
-    requires { ⌜ (at ≤ 1099511300000) × (variable .v < 1000000) × (start ≤ 600000) × (variable .s < t) × (1 ≤ l) × (l ≤ t) × (t ≤ 64) × Fit t block × Whole t block ⌝ }
-    requires { ⌜ AtSlot t (variable .s) (variable .v) ⌝ }
-    ensures { λ r. ⌜ Emitted at (eachRow (entryLine (variable .v)) start (blockRows block t l)) (now (out .entry)) (now (out .exit)) r × (r ≤ at + 166400) ⌝ }
+    requires { ⌜ LinesFit at blockLines × Slotted t variable × (start + blockLines ≤ numberLimit) × (1 ≤ l) × (l ≤ t) × (t ≤ 64)
+        × Fit t block × Whole t block ⌝ }
+    ensures { λ r. ⌜ Lines blockLines at (eachRow (entryLine (variable .v)) start (blockRows block t l)) (now (out .entry)) (now (out .exit)) r ⌝ }
 {
     let kind = block.kind;
     let v = variable.v;
-    if is_plain(kind) {
-        return put_plain(out, at, v, start, block, variable.s, t);
+    if table::has_window(kind) {
+        return put_windows(out, at, v, start, block, t as u16, l as u16);
     }
-    put_windows(out, at, v, start, block, t as u16, l as u16)
+    put_plain(out, at, v, start, block, variable.s, t)
 }
 
 // All its lines in the rows of a node, V's before its own.
@@ -263,10 +250,9 @@ fn put_node(
     t: usize,
     l: usize,
 ) -> usize
-    requires { ⌜ (at ≤ 1099511100000) × (variable .v < 1000000) × (start ≤ 590000) × (variable .s < t) × (1 ≤ l) × (l ≤ t) × (t ≤ 64) ⌝ }
+    requires { ⌜ LinesFit at nodeLines × Slotted t variable × (start + nodeLines ≤ numberLimit) × (1 ≤ l) × (l ≤ t) × (t ≤ 64) ⌝ }
     requires { ⌜ Fit t (blocks .own) × Whole t (blocks .own) × Fit t (blocks .kept) × Whole t (blocks .kept) ⌝ }
-    requires { ⌜ AtSlot t (variable .s) (variable .v) ⌝ }
-    ensures { λ r. ⌜ Emitted at (eachRow (entryLine (variable .v)) start (cond (blocks .both) (blockRows (blocks .kept) t l) [] ++ blockRows (blocks .own) t l)) (now (out .entry)) (now (out .exit)) r × (r ≤ at + 332800) ⌝ }
+    ensures { λ r. ⌜ Lines nodeLines at (eachRow (entryLine (variable .v)) start (blocksRows t l blocks)) (now (out .entry)) (now (out .exit)) r ⌝ }
 {
     let own = blocks.own;
     let kept = blocks.kept;
@@ -278,10 +264,10 @@ fn put_node(
     }
     let kind = own.kind;
     let v = variable.v;
-    if is_plain(kind) {
-        return put_plain(out, at, v, start, own, variable.s, t);
+    if table::has_window(kind) {
+        return put_windows(out, at, v, start, own, t as u16, l as u16);
     }
-    put_windows(out, at, v, start, own, t as u16, l as u16)
+    put_plain(out, at, v, start, own, variable.s, t)
 }
 
 // All its lines in the rows of node n of a checked table.
@@ -294,9 +280,9 @@ fn put_user(
     variable: Variable,
     plan: Plan,
 ) -> usize
-    requires { ⌜ (at ≤ 1099511100000) × (variable .v < 1000000) × (variable .s < plan .t) × Ready (plan .t) (plan .m) (plan .l) (now table) × (n < recordCount (now table)) × AtSlot (plan .t) (variable .s) (variable .v) ⌝ }
-    requires { ⌜ Layout (plan .t) (plan .m) (plan .l) (nodesIn (now table)) (recordCount (now table)) (now layout) ⌝ }
-    ensures { λ r. ⌜ Emitted at (userText (plan .t) (plan .m) (plan .l) (nodesIn (now (table .entry))) (variable .v) n) (now (out .entry)) (now (out .exit)) r × (r ≤ at + 332800) ⌝ }
+    requires { ⌜ LinesFit at nodeLines × Slotted (plan .t) variable × Planned plan (now table) (now layout) × (n < recordCount (now table)) ⌝ }
+    ensures { λ r. ⌜ Lines nodeLines at (userText (plan .t) (plan .m) (plan .l) (nodesIn (now (table .entry))) (variable .v) n)
+        (now (out .entry)) (now (out .exit)) r ⌝ }
 {
     let kept = layout[128 + n] as u16;
     let blocks = mps_node::blocks_at(table, n, plan.t, plan.m, plan.l, kept);
@@ -313,10 +299,10 @@ fn put_users(
     variable: Variable,
     plan: Plan,
 ) -> usize
-    requires { ⌜ (at ≤ 1099460000000) × (variable .v < 1000000) × (variable .s < plan .t) × Ready (plan .t) (plan .m) (plan .l) (now table) × AtSlot (plan .t) (variable .s) (variable .v) ⌝ }
-    requires { ⌜ Layout (plan .t) (plan .m) (plan .l) (nodesIn (now table)) (recordCount (now table)) (now layout) ⌝ }
+    requires { ⌜ LinesFit at nodesLines × Slotted (plan .t) variable × Planned plan (now table) (now layout) ⌝ }
     requires { ⌜ (length (now users) ≤ 128) × Low (recordCount (now table)) (now users) (length (now users)) ⌝ }
-    ensures { λ r. ⌜ Emitted at (flat (λ j. userText (plan .t) (plan .m) (plan .l) (nodesIn (now (table .entry))) (variable .v) (getD (now (users .entry)) j 0)) (length (now (users .entry)))) (now (out .entry)) (now (out .exit)) r × (r ≤ at + 42598400) ⌝ }
+    ensures { λ r. ⌜ Lines nodesLines at (flat (λ j. userText (plan .t) (plan .m) (plan .l) (nodesIn (now (table .entry))) (variable .v)
+        (getD (now (users .entry)) j 0)) (length (now (users .entry)))) (now (out .entry)) (now (out .exit)) r ⌝ }
 {
     let mut next = at;
     let mut j: usize = 0;
@@ -338,10 +324,10 @@ fn put_variable(
     slot: Slot,
     plan: Plan,
 ) -> usize
-    requires { ⌜ (at ≤ 1099450000000) × (slot .x ≤ 400) × (slot .s < plan .t) × Ready (plan .t) (plan .m) (plan .l) (now table) × (plan .rows < 1000000) × (plan .rows ≡ length (slackRows (plan .t) (plan .m) (plan .l) (nodesIn (now table)))) ⌝ }
-    requires { ⌜ Layout (plan .t) (plan .m) (plan .l) (nodesIn (now table)) (recordCount (now table)) (now layout) ⌝ }
+    requires { ⌜ LinesFit at tableLines × (slot .x < allParts) × (slot .s < plan .t) × Planned plan (now table) (now layout) ⌝ }
     requires { ⌜ Found (plan .m) (nodesIn (now table)) (slot .x) (now users) (length (now users)) ⌝ }
-    ensures { λ r. ⌜ Emitted at (columnLines (rowsOf (plan .t) (plan .m) (plan .l) (nodesIn (now (table .entry)))) (slot .x * plan .t + slot .s)) (now (out .entry)) (now (out .exit)) r × (r ≤ at + 42598480) ⌝ }
+    ensures { λ r. ⌜ Lines tableLines at (columnLines (rowsOf (plan .t) (plan .m) (plan .l) (nodesIn (now (table .entry))))
+        (slot .x * plan .t + slot .s)) (now (out .entry)) (now (out .exit)) r ⌝ }
 {
     let v = row::first_variable(slot.x, plan.t) as usize + slot.s;
     let n = table::count(table);
@@ -365,10 +351,9 @@ fn put_part(
     x: usize,
     plan: Plan,
 ) -> usize
-    requires { ⌜ (at ≤ 1090000000000) × (x ≤ 400) × Ready (plan .t) (plan .m) (plan .l) (now table) × (plan .rows < 1000000) × (plan .rows ≡ length (slackRows (plan .t) (plan .m) (plan .l) (nodesIn (now table)))) ⌝ }
-    requires { ⌜ Layout (plan .t) (plan .m) (plan .l) (nodesIn (now table)) (recordCount (now table)) (now layout) ⌝ }
+    requires { ⌜ LinesFit at partLines × (x < allParts) × Planned plan (now table) (now layout) ⌝ }
     requires { ⌜ Found (plan .m) (nodesIn (now table)) x (now users) (length (now users)) ⌝ }
-    ensures { λ r. ⌜ Emitted at (partText (plan .t) (columnLines (rowsOf (plan .t) (plan .m) (plan .l) (nodesIn (now (table .entry))))) x) (now (out .entry)) (now (out .exit)) r × (r ≤ at + 2726302720) ⌝ }
+    ensures { λ r. ⌜ Lines partLines at (plannedPart plan (now (table .entry)) x) (now (out .entry)) (now (out .exit)) r ⌝ }
 {
     let t = plan.t;
     let mut next = at;
@@ -390,9 +375,8 @@ fn put_found(
     x: usize,
     plan: Plan,
 ) -> usize
-    requires { ⌜ (at ≤ 1090000000000) × (x < plan .m + recordCount (now table)) × Ready (plan .t) (plan .m) (plan .l) (now table) × (plan .rows < 1000000) × (plan .rows ≡ length (slackRows (plan .t) (plan .m) (plan .l) (nodesIn (now table)))) ⌝ }
-    requires { ⌜ Layout (plan .t) (plan .m) (plan .l) (nodesIn (now table)) (recordCount (now table)) (now layout) ⌝ }
-    ensures { λ r. ⌜ Emitted at (partText (plan .t) (columnLines (rowsOf (plan .t) (plan .m) (plan .l) (nodesIn (now (table .entry))))) x) (now (out .entry)) (now (out .exit)) r × (r ≤ at + 2726302720) ⌝ }
+    requires { ⌜ LinesFit at partLines × (x < plan .m + recordCount (now table)) × Planned plan (now table) (now layout) ⌝ }
+    ensures { λ r. ⌜ Lines partLines at (plannedPart plan (now (table .entry)) x) (now (out .entry)) (now (out .exit)) r ⌝ }
 {
     let mut users = [0u8; 128];
     let count = mps_users::find_users(table, table::count(table), plan.m, x, &mut users);
@@ -409,9 +393,10 @@ fn put_kept(
     x: usize,
     plan: Plan,
 ) -> usize
-    requires { ⌜ (at ≤ 1090000000000) × (n < recordCount (now table)) × (x ≡ keptPart (plan .m) (nodesIn (now table)) n) × Ready (plan .t) (plan .m) (plan .l) (now table) × (plan .rows < 1000000) × (plan .rows ≡ length (slackRows (plan .t) (plan .m) (plan .l) (nodesIn (now table)))) ⌝ }
-    requires { ⌜ Layout (plan .t) (plan .m) (plan .l) (nodesIn (now table)) (recordCount (now table)) (now layout) ⌝ }
-    ensures { λ r. ⌜ Emitted at (cond (loops (nodeAt (nodesIn (now (table .entry))) n)) (partText (plan .t) (columnLines (rowsOf (plan .t) (plan .m) (plan .l) (nodesIn (now (table .entry))))) x) []) (now (out .entry)) (now (out .exit)) r × (r ≤ at + 2726302720) ⌝ }
+    requires { ⌜ LinesFit at partLines × (n < recordCount (now table)) × (x ≡ keptPart (plan .m) (nodesIn (now table)) n)
+        × Planned plan (now table) (now layout) ⌝ }
+    ensures { λ r. ⌜ Lines partLines at (cond (loops (nodeAt (nodesIn (now (table .entry))) n)) (plannedPart plan (now (table .entry)) x) [])
+        (now (out .entry)) (now (out .exit)) r ⌝ }
 {
     if table::loops_at(table, n) {
         let users = [n as u8];
@@ -428,9 +413,9 @@ fn put_own_parts(
     layout: &[usize; 256],
     plan: Plan,
 ) -> usize
-    requires { ⌜ (at ≤ 300000000000) × Ready (plan .t) (plan .m) (plan .l) (now table) × (plan .rows < 1000000) × (plan .rows ≡ length (slackRows (plan .t) (plan .m) (plan .l) (nodesIn (now table)))) ⌝ }
-    requires { ⌜ Layout (plan .t) (plan .m) (plan .l) (nodesIn (now table)) (recordCount (now table)) (now layout) ⌝ }
-    ensures { λ r. ⌜ Emitted at (flat (partText (plan .t) (columnLines (rowsOf (plan .t) (plan .m) (plan .l) (nodesIn (now (table .entry)))))) (plan .m + recordCount (now (table .entry)))) (now (out .entry)) (now (out .exit)) r × (r ≤ at + 392587591680) ⌝ }
+    requires { ⌜ LinesFit at (ownParts * partLines) × Planned plan (now table) (now layout) ⌝ }
+    ensures { λ r. ⌜ Lines (ownParts * partLines) at (flat (plannedPart plan (now (table .entry))) (plan .m + recordCount (now (table .entry))))
+        (now (out .entry)) (now (out .exit)) r ⌝ }
 {
     let m = plan.m;
     let parts = m + table::count(table);
@@ -451,9 +436,9 @@ fn put_kept_parts(
     layout: &[usize; 256],
     plan: Plan,
 ) -> usize
-    requires { ⌜ (at ≤ 700000000000) × Ready (plan .t) (plan .m) (plan .l) (now table) × (plan .rows < 1000000) × (plan .rows ≡ length (slackRows (plan .t) (plan .m) (plan .l) (nodesIn (now table)))) ⌝ }
-    requires { ⌜ Layout (plan .t) (plan .m) (plan .l) (nodesIn (now table)) (recordCount (now table)) (now layout) ⌝ }
-    ensures { λ r. ⌜ Emitted at (flat (λ j. partText (plan .t) (columnLines (rowsOf (plan .t) (plan .m) (plan .l) (nodesIn (now (table .entry))))) (plan .m + recordCount (now (table .entry)) + j)) (looping (nodesIn (now (table .entry))))) (now (out .entry)) (now (out .exit)) r × (r ≤ at + 348966748160) ⌝ }
+    requires { ⌜ LinesFit at (keptParts * partLines) × Planned plan (now table) (now layout) ⌝ }
+    ensures { λ r. ⌜ Lines (keptParts * partLines) at (flat (λ j. plannedPart plan (now (table .entry))
+        (plan .m + recordCount (now (table .entry)) + j)) (looping (nodesIn (now (table .entry))))) (now (out .entry)) (now (out .exit)) r ⌝ }
 {
     let m = plan.m;
     let count = table::count(table);
@@ -470,8 +455,9 @@ fn put_kept_parts(
 
 // The lines of all variables of a checked table.
 pub fn put_columns(out: &mut [u8], at: usize, table: &[u8], t: usize, m: usize, l: usize) -> usize
-    requires { ⌜ (at ≤ 300000000000) × Ready t m l (now table) ⌝ }
-    ensures { λ r. ⌜ Emitted at (flat (columnLines (rowsOf t m l (nodesIn (now (table .entry))))) (variableCount t m l (nodesIn (now (table .entry))))) (now (out .entry)) (now (out .exit)) r × (r ≤ at + 741554339840) ⌝ }
+    requires { ⌜ LinesFit at (allParts * partLines) × Ready t m l (now table) ⌝ }
+    ensures { λ r. ⌜ Lines (allParts * partLines) at (flat (columnLines (rowsOf t m l (nodesIn (now (table .entry)))))
+        (variableCount t m l (nodesIn (now (table .entry))))) (now (out .entry)) (now (out .exit)) r ⌝ }
 {
     let mut layout = [0usize; 256];
     let rows = mps_users::find_layout(table, t, m, l, &mut layout);

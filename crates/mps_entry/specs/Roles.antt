@@ -29,6 +29,21 @@ module _ (v i : ℕ) where
   abbrev pub lines : List Row → List ℕ
   lines rs = eachRow (entryLine v) i rs
 
+  -- 1 or −1 in three rows
+  abbrev pub threeLines : (a b c : Bool) → List ℕ
+  threeLines a b c = unitLine v i a ++ (unitLine v (i + 1) b ++ unitLine v (i + 1 + 1) c)
+
+  -- a part that is both, of "and" where it goes up and of "or" where it goes down; and of "until"
+  abbrev pub bothJoined : (up : Bool) → List ℕ
+  bothJoined up = unitLine v i up ++ (unitLine v (i + 1) up ++ doubleLine v (i + 1 + 1) (not up))
+
+  abbrev pub bothUntil : List ℕ
+  bothUntil = unitLine v i false ++ (doubleLine v (i + 1) true ++ (unitLine v (i + 1 + 1) true ++ unitLine v (i + 1 + 1 + 1) false))
+
+  -- the node's own variable, of "until"
+  abbrev pub ownUntil : List ℕ
+  ownUntil = unitLine v i true ++ (unitLine v (i + 1) false ++ (unitLine v (i + 1 + 1) false ++ unitLine v (i + 1 + 1 + 1) true))
+
   is : {x : ℕ} → v ≡ x → eqb x v ≡ true
   is {x} e = eq-eqb x v (sym e)
 
@@ -61,12 +76,12 @@ module _ (v i : ℕ) where
     not-none a b = rw (other a, other b) refl
 
   module _ (P p q : ℕ) where
-    pub join-own : (up : Bool) → v ≡ P → (v ≡ p → ⊥) → (v ≡ q → ⊥) → unitLine v i (not up) ++ (unitLine v (i + 1) (not up) ++ unitLine v (i + 1 + 1) up) ≡ lines (joinRows up P p q)
+    pub join-own : (up : Bool) → v ≡ P → (v ≡ p → ⊥) → (v ≡ q → ⊥) → threeLines (not up) (not up) up ≡ lines (joinRows up P p q)
     unfolding eachRow coefficient numberUnlessZero
     join-own true a b c = rw (is a, other b, other c, append-nil (unitLine v (i + 1 + 1) true)) refl
     join-own false a b c = rw (is a, other b, other c, append-nil (unitLine v (i + 1 + 1) false)) refl
 
-    pub join-both : (up : Bool) → (v ≡ P → ⊥) → v ≡ p → v ≡ q → unitLine v i up ++ (unitLine v (i + 1) up ++ doubleLine v (i + 1 + 1) (not up)) ≡ lines (joinRows up P p q)
+    pub join-both : (up : Bool) → (v ≡ P → ⊥) → v ≡ p → v ≡ q → bothJoined up ≡ lines (joinRows up P p q)
     unfolding eachRow coefficient numberUnlessZero
     join-both true a b c = rw (other a, is b, is c, append-nil (doubleLine v (i + 1 + 1) false)) refl
     join-both false a b c = rw (other a, is b, is c, append-nil (doubleLine v (i + 1 + 1) true)) refl
@@ -86,7 +101,7 @@ module _ (v i : ℕ) where
     join-none true a b c = rw (other a, other b, other c) refl
     join-none false a b c = rw (other a, other b, other c) refl
 
-    pub implies-own : v ≡ P → (v ≡ p → ⊥) → (v ≡ q → ⊥) → unitLine v i true ++ (unitLine v (i + 1) true ++ unitLine v (i + 1 + 1) false) ≡ lines (impliesRows P p q)
+    pub implies-own : v ≡ P → (v ≡ p → ⊥) → (v ≡ q → ⊥) → threeLines true true false ≡ lines (impliesRows P p q)
     unfolding eachRow coefficient numberUnlessZero
     implies-own a b c = rw (is a, other b, other c, append-nil (unitLine v (i + 1 + 1) false)) refl
 
@@ -107,23 +122,25 @@ module _ (v i : ℕ) where
     implies-none a b c = rw (other a, other b, other c) refl
 
   module _ (P p q P′ : ℕ) where
-    pub until-own : v ≡ P → (v ≡ p → ⊥) → (v ≡ q → ⊥) → (v ≡ P′ → ⊥) → unitLine v i true ++ (unitLine v (i + 1) false ++ (unitLine v (i + 1 + 1) false ++ unitLine v (i + 1 + 1 + 1) true)) ≡ lines (untilRows P p q P′)
+    pub until-own : v ≡ P → (v ≡ p → ⊥) → (v ≡ q → ⊥) → (v ≡ P′ → ⊥) → ownUntil ≡ lines (untilRows P p q P′)
     unfolding eachRow coefficient numberUnlessZero
     until-own a b c d = rw (is a, other b, other c, other d, append-nil (unitLine v (i + 1 + 1 + 1) true)) refl
 
-    pub until-next : (v ≡ P → ⊥) → (v ≡ p → ⊥) → (v ≡ q → ⊥) → v ≡ P′ → unitLine v (i + 1 + 1) true ++ unitLine v (i + 1 + 1 + 1) false ≡ lines (untilRows P p q P′)
+    pub until-next : (v ≡ P → ⊥) → (v ≡ p → ⊥) → (v ≡ q → ⊥) → v ≡ P′ →
+        unitLine v (i + 1 + 1) true ++ unitLine v (i + 1 + 1 + 1) false ≡ lines (untilRows P p q P′)
     unfolding eachRow coefficient numberUnlessZero
     until-next a b c d = rw (other a, other b, other c, is d, append-nil (unitLine v (i + 1 + 1 + 1) false)) refl
 
-    pub until-both : (v ≡ P → ⊥) → v ≡ p → v ≡ q → (v ≡ P′ → ⊥) → unitLine v i false ++ (doubleLine v (i + 1) true ++ (unitLine v (i + 1 + 1) true ++ unitLine v (i + 1 + 1 + 1) false)) ≡ lines (untilRows P p q P′)
+    pub until-both : (v ≡ P → ⊥) → v ≡ p → v ≡ q → (v ≡ P′ → ⊥) → bothUntil ≡ lines (untilRows P p q P′)
     unfolding eachRow coefficient numberUnlessZero
     until-both a b c d = rw (other a, is b, is c, other d, append-nil (unitLine v (i + 1 + 1 + 1) false)) refl
 
-    pub until-first : (v ≡ P → ⊥) → v ≡ p → (v ≡ q → ⊥) → (v ≡ P′ → ⊥) → unitLine v (i + 1) true ++ unitLine v (i + 1 + 1 + 1) false ≡ lines (untilRows P p q P′)
+    pub until-first : (v ≡ P → ⊥) → v ≡ p → (v ≡ q → ⊥) → (v ≡ P′ → ⊥) →
+        unitLine v (i + 1) true ++ unitLine v (i + 1 + 1 + 1) false ≡ lines (untilRows P p q P′)
     unfolding eachRow coefficient numberUnlessZero
     until-first a b c d = rw (other a, is b, other c, other d, append-nil (unitLine v (i + 1 + 1 + 1) false)) refl
 
-    pub until-second : (v ≡ P → ⊥) → (v ≡ p → ⊥) → v ≡ q → (v ≡ P′ → ⊥) → unitLine v i false ++ (unitLine v (i + 1) true ++ unitLine v (i + 1 + 1) true) ≡ lines (untilRows P p q P′)
+    pub until-second : (v ≡ P → ⊥) → (v ≡ p → ⊥) → v ≡ q → (v ≡ P′ → ⊥) → threeLines false true true ≡ lines (untilRows P p q P′)
     unfolding eachRow coefficient numberUnlessZero
     until-second a b c d = rw (other a, other b, is c, other d, append-nil (unitLine v (i + 1 + 1) true)) refl
 

@@ -3,14 +3,15 @@
 use mps_line::Name;
 use table::Kind;
 ghost use mathlib.Core.Path.{_≡_};
-ghost use mathlib.Core.Bool.{true, false, not};
+ghost use mathlib.Core.Bool.{true, false};
 ghost use mathlib.Core.List.{_++_};
 ghost use Prim.Native.Nat.{_+_, _≤_, _<_};
 ghost use Rattle.rules.specs.Rows.{sameRows, notRows, impliesRows, untilRows};
-ghost use Rattle.mps_line.specs.Emitted.{Emitted};
+ghost use Rattle.mps_line.specs.Bounds.{numberLimit, LinesFit, plainLines};
+ghost use Rattle.mps_line.specs.Emitted.{Lines};
 ghost use Rattle.mps_line.specs.Units.{unitLine};
-ghost use Rattle.mps_entry.specs.Roles.{doubleLine, joinRows, lines};
-ghost use Rattle.mps_entry.specs.Spots.{Ordered, spotRows};
+ghost use Rattle.mps_entry.specs.Roles.{doubleLine, threeLines, bothJoined, bothUntil, ownUntil, joinRows, lines};
+ghost use Rattle.mps_entry.specs.Spots.{EntriesFit, Ordered, spotRows};
 
 // A node without a window at a slot: its variable there, its parts', and, where something follows (`inner`), that one's.
 pub struct Spot {
@@ -24,8 +25,8 @@ pub struct Spot {
 
 // 2 or −2.
 fn put_double(out: &mut [u8], at: usize, v: usize, i: usize, up: bool) -> usize
-    requires { ⌜ (at ≤ 1099511620000) × (v < 1000000) × (i < 1000000) ⌝ }
-    ensures { λ r. ⌜ Emitted at (doubleLine v i up) (now (out .entry)) (now (out .exit)) r × (r ≤ at + 40) ⌝ }
+    requires { ⌜ LinesFit at 1 × (v < numberLimit) × (i < numberLimit) ⌝ }
+    ensures { λ r. ⌜ Lines 1 at (doubleLine v i up) (now (out .entry)) (now (out .exit)) r ⌝ }
 {
     if up {
         mps_line::put_number_line(out, at, Name::Variable(v), Name::Row(i), 2)
@@ -36,8 +37,8 @@ fn put_double(out: &mut [u8], at: usize, v: usize, i: usize, up: bool) -> usize
 
 // 1 or −1 in two rows.
 fn put_two(out: &mut [u8], at: usize, v: usize, i: usize, a: bool, j: usize, b: bool) -> usize
-    requires { ⌜ (at ≤ 1099511610000) × (v < 1000000) × (i < 1000000) × (j < 1000000) ⌝ }
-    ensures { λ r. ⌜ Emitted at (unitLine v i a ++ unitLine v j b) (now (out .entry)) (now (out .exit)) r × (r ≤ at + 80) ⌝ }
+    requires { ⌜ LinesFit at 2 × (v < numberLimit) × (i < numberLimit) × (j < numberLimit) ⌝ }
+    ensures { λ r. ⌜ Lines 2 at (unitLine v i a ++ unitLine v j b) (now (out .entry)) (now (out .exit)) r ⌝ }
 {
     let next = mps_line::put_unit(out, at, v, i, a);
     mps_line::put_unit(out, next, v, j, b)
@@ -45,8 +46,8 @@ fn put_two(out: &mut [u8], at: usize, v: usize, i: usize, a: bool, j: usize, b: 
 
 // 1 or −1 in three rows, from row i on.
 fn put_three(out: &mut [u8], at: usize, v: usize, i: usize, a: bool, b: bool, c: bool) -> usize
-    requires { ⌜ (at ≤ 1099511609000) × (v < 1000000) × (i + 3 ≤ 1000000) ⌝ }
-    ensures { λ r. ⌜ Emitted at (unitLine v i a ++ (unitLine v (i + 1) b ++ unitLine v (i + 1 + 1) c)) (now (out .entry)) (now (out .exit)) r × (r ≤ at + 120) ⌝ }
+    requires { ⌜ LinesFit at 3 × (v < numberLimit) × (i + 3 ≤ numberLimit) ⌝ }
+    ensures { λ r. ⌜ Lines 3 at (threeLines v i a b c) (now (out .entry)) (now (out .exit)) r ⌝ }
 {
     let next = mps_line::put_unit(out, at, v, i, a);
     let second = i + 1;
@@ -55,8 +56,8 @@ fn put_three(out: &mut [u8], at: usize, v: usize, i: usize, a: bool, b: bool, c:
 
 // P − p = 0
 fn put_same(out: &mut [u8], at: usize, v: usize, i: usize, node: usize, p: usize) -> usize
-    requires { ⌜ (at ≤ 1099511600000) × (v < 1000000) × (i + 4 ≤ 1000000) × (p < node) ⌝ }
-    ensures { λ r. ⌜ Emitted at (lines v i (sameRows node p)) (now (out .entry)) (now (out .exit)) r × (r ≤ at + 160) ⌝ }
+    requires { ⌜ EntriesFit at v i × (p < node) ⌝ }
+    ensures { λ r. ⌜ Lines plainLines at (lines v i (sameRows node p)) (now (out .entry)) (now (out .exit)) r ⌝ }
 {
     if v == node {
         return mps_line::put_unit(out, at, v, i, true);
@@ -69,8 +70,8 @@ fn put_same(out: &mut [u8], at: usize, v: usize, i: usize, node: usize, p: usize
 
 // P + p = 1
 fn put_not(out: &mut [u8], at: usize, v: usize, i: usize, node: usize, p: usize) -> usize
-    requires { ⌜ (at ≤ 1099511600000) × (v < 1000000) × (i + 4 ≤ 1000000) × (p < node) ⌝ }
-    ensures { λ r. ⌜ Emitted at (lines v i (notRows node p)) (now (out .entry)) (now (out .exit)) r × (r ≤ at + 160) ⌝ }
+    requires { ⌜ EntriesFit at v i × (p < node) ⌝ }
+    ensures { λ r. ⌜ Lines plainLines at (lines v i (notRows node p)) (now (out .entry)) (now (out .exit)) r ⌝ }
 {
     if v == node {
         return mps_line::put_unit(out, at, v, i, true);
@@ -83,13 +84,19 @@ fn put_not(out: &mut [u8], at: usize, v: usize, i: usize, node: usize, p: usize)
 
 // A part that is both, of "and" where it goes up and of "or" where it goes down.
 fn put_both(out: &mut [u8], at: usize, v: usize, i: usize, up: bool) -> usize
-    requires { ⌜ (at ≤ 1099511600000) × (v < 1000000) × (i + 4 ≤ 1000000) ⌝ }
-    ensures { λ r. ⌜ Emitted at (unitLine v i up ++ (unitLine v (i + 1) up ++ doubleLine v (i + 1 + 1) (not up))) (now (out .entry)) (now (out .exit)) r × (r ≤ at + 160) ⌝ }
+    requires { ⌜ EntriesFit at v i ⌝ }
+    ensures { λ r. ⌜ Lines plainLines at (bothJoined v i up) (now (out .entry)) (now (out .exit)) r ⌝ }
 {
     let next = mps_line::put_unit(out, at, v, i, up);
     let second = i + 1;
     let last = mps_line::put_unit(out, next, v, second, up);
     put_double(out, last, v, second + 1, !up)
+}
+
+// The variables that a node joins: its parts', or its part's and the one that follows.
+struct Joined {
+    p: usize,
+    q: usize,
 }
 
 // p − P ≥ 0; q − P ≥ 0; P − p − q ≥ −1, or all with the opposite signs and 0 for −1
@@ -100,22 +107,21 @@ fn put_joined(
     i: usize,
     up: bool,
     node: usize,
-    p: usize,
-    q: usize,
+    joined: Joined,
 ) -> usize
-    requires { ⌜ (at ≤ 1099511600000) × (v < 1000000) × (i + 4 ≤ 1000000) × (p < node) × (q ≡ node → ⊥) ⌝ }
-    ensures { λ r. ⌜ Emitted at (lines v i (joinRows up node p q)) (now (out .entry)) (now (out .exit)) r × (r ≤ at + 160) ⌝ }
+    requires { ⌜ EntriesFit at v i × (joined .p < node) × (joined .q ≡ node → ⊥) ⌝ }
+    ensures { λ r. ⌜ Lines plainLines at (lines v i (joinRows up node (joined .p) (joined .q))) (now (out .entry)) (now (out .exit)) r ⌝ }
 {
     if v == node {
         return put_three(out, at, v, i, !up, !up, up);
     }
-    if v == p {
-        if v == q {
+    if v == joined.p {
+        if v == joined.q {
             return put_both(out, at, v, i, up);
         }
         return put_two(out, at, v, i, up, i + 1 + 1, !up);
     }
-    if v == q {
+    if v == joined.q {
         return put_two(out, at, v, i + 1, up, i + 1 + 1, !up);
     }
     at
@@ -131,8 +137,8 @@ fn put_implies(
     p: usize,
     q: usize,
 ) -> usize
-    requires { ⌜ (at ≤ 1099511600000) × (v < 1000000) × (i + 4 ≤ 1000000) × (p < node) × (q < node) ⌝ }
-    ensures { λ r. ⌜ Emitted at (lines v i (impliesRows node p q)) (now (out .entry)) (now (out .exit)) r × (r ≤ at + 160) ⌝ }
+    requires { ⌜ EntriesFit at v i × (p < node) × (q < node) ⌝ }
+    ensures { λ r. ⌜ Lines plainLines at (lines v i (impliesRows node p q)) (now (out .entry)) (now (out .exit)) r ⌝ }
 {
     if v == node {
         return put_three(out, at, v, i, true, true, false);
@@ -151,8 +157,8 @@ fn put_implies(
 
 // A part that is both, of "until".
 fn put_both_until(out: &mut [u8], at: usize, v: usize, i: usize) -> usize
-    requires { ⌜ (at ≤ 1099511600000) × (v < 1000000) × (i + 4 ≤ 1000000) ⌝ }
-    ensures { λ r. ⌜ Emitted at (unitLine v i false ++ (doubleLine v (i + 1) true ++ (unitLine v (i + 1 + 1) true ++ unitLine v (i + 1 + 1 + 1) false))) (now (out .entry)) (now (out .exit)) r × (r ≤ at + 160) ⌝ }
+    requires { ⌜ EntriesFit at v i ⌝ }
+    ensures { λ r. ⌜ Lines plainLines at (bothUntil v i) (now (out .entry)) (now (out .exit)) r ⌝ }
 {
     let next = mps_line::put_unit(out, at, v, i, false);
     let second = i + 1;
@@ -162,8 +168,8 @@ fn put_both_until(out: &mut [u8], at: usize, v: usize, i: usize) -> usize
 
 // The node's own variable, of "until".
 fn put_own_until(out: &mut [u8], at: usize, v: usize, i: usize) -> usize
-    requires { ⌜ (at ≤ 1099511600000) × (v < 1000000) × (i + 4 ≤ 1000000) ⌝ }
-    ensures { λ r. ⌜ Emitted at (unitLine v i true ++ (unitLine v (i + 1) false ++ (unitLine v (i + 1 + 1) false ++ unitLine v (i + 1 + 1 + 1) true))) (now (out .entry)) (now (out .exit)) r × (r ≤ at + 160) ⌝ }
+    requires { ⌜ EntriesFit at v i ⌝ }
+    ensures { λ r. ⌜ Lines plainLines at (ownUntil v i) (now (out .entry)) (now (out .exit)) r ⌝ }
 {
     let next = mps_line::put_unit(out, at, v, i, true);
     put_three(out, next, v, i + 1, false, false, true)
@@ -171,8 +177,8 @@ fn put_own_until(out: &mut [u8], at: usize, v: usize, i: usize) -> usize
 
 // P − q ≥ 0; p + q − P ≥ 0; q + P' − P ≥ 0; P − p − P' ≥ −1
 fn put_until(out: &mut [u8], at: usize, v: usize, i: usize, spot: Spot) -> usize
-    requires { ⌜ (at ≤ 1099511600000) × (v < 1000000) × (i + 4 ≤ 1000000) × (spot .left < spot .own) × (spot .right < spot .own) × (spot .own < spot .next) ⌝ }
-    ensures { λ r. ⌜ Emitted at (lines v i (untilRows (spot .own) (spot .left) (spot .right) (spot .next))) (now (out .entry)) (now (out .exit)) r × (r ≤ at + 160) ⌝ }
+    requires { ⌜ EntriesFit at v i × (spot .left < spot .own) × (spot .right < spot .own) × (spot .own < spot .next) ⌝ }
+    ensures { λ r. ⌜ Lines plainLines at (lines v i (untilRows (spot .own) (spot .left) (spot .right) (spot .next))) (now (out .entry)) (now (out .exit)) r ⌝ }
 {
     if v == spot.own {
         return put_own_until(out, at, v, i);
@@ -194,38 +200,38 @@ fn put_until(out: &mut [u8], at: usize, v: usize, i: usize, spot: Spot) -> usize
 
 // The entries of variable v in the rows of a node at a slot, from row i on.
 pub fn put_entries(out: &mut [u8], at: usize, v: usize, i: usize, spot: Spot) -> usize
-    requires { ⌜ (at ≤ 1099511600000) × (v < 1000000) × (i + 4 ≤ 1000000) × Ordered spot ⌝ }
-    ensures { λ r. ⌜ Emitted at (lines v i (spotRows spot)) (now (out .entry)) (now (out .exit)) r × (r ≤ at + 160) ⌝ }
+    requires { ⌜ EntriesFit at v i × Ordered spot ⌝ }
+    ensures { λ r. ⌜ Lines plainLines at (lines v i (spotRows spot)) (now (out .entry)) (now (out .exit)) r ⌝ }
 {
     let kind = spot.kind;
-    let own = spot.own;
     let left = spot.left;
     let right = spot.right;
+    let next = spot.next;
     match kind {
-        Kind::Atom => put_same(out, at, v, i, own, left),
-        Kind::Not => put_not(out, at, v, i, own, left),
-        Kind::And => put_joined(out, at, v, i, true, own, left, right),
-        Kind::Or => put_joined(out, at, v, i, false, own, left, right),
-        Kind::Implies => put_implies(out, at, v, i, own, left, right),
+        Kind::Atom => put_same(out, at, v, i, spot.own, left),
+        Kind::Not => put_not(out, at, v, i, spot.own, left),
+        Kind::And => put_joined(out, at, v, i, true, spot.own, Joined { p: left, q: right }),
+        Kind::Or => put_joined(out, at, v, i, false, spot.own, Joined { p: left, q: right }),
+        Kind::Implies => put_implies(out, at, v, i, spot.own, left, right),
         Kind::Eventually => {
             if spot.inner {
-                put_joined(out, at, v, i, false, own, left, spot.next)
+                put_joined(out, at, v, i, false, spot.own, Joined { p: left, q: next })
             } else {
-                put_same(out, at, v, i, own, left)
+                put_same(out, at, v, i, spot.own, left)
             }
         }
         Kind::Always => {
             if spot.inner {
-                put_joined(out, at, v, i, true, own, left, spot.next)
+                put_joined(out, at, v, i, true, spot.own, Joined { p: left, q: next })
             } else {
-                put_same(out, at, v, i, own, left)
+                put_same(out, at, v, i, spot.own, left)
             }
         }
         Kind::Until => {
             if spot.inner {
                 put_until(out, at, v, i, spot)
             } else {
-                put_same(out, at, v, i, own, right)
+                put_same(out, at, v, i, spot.own, right)
             }
         }
         Kind::Within => at,

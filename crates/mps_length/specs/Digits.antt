@@ -4,8 +4,9 @@ use Prim.Native.Nat.{ℕ, zero, suc, _+_, _-_, _*_, _/_, _≤_, _<_}
 use native.Mathlib.Decide.{decLt}
 use native.Mathlib.Omega.{arith}
 use lib.ListN.{length}
-use Rattle.text.specs.Decimal.{decimal, length-low, length-next}
-use Rattle.mps_length.specs.Sums.{sumTo}
+use Rattle.text.specs.Decimal.{decimal}
+use Rattle.text.specs.DecimalLaws.{length-low, length-next}
+use Rattle.lists.specs.Sums.{sumTo}
 
 abbrev digits : ℕ → ℕ
 digits n = length (decimal n)

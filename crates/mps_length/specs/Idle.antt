@@ -28,7 +28,7 @@ use Rattle.row.specs.declared.Block.{Block}
 use Rattle.row.specs.Kinds.{leftBlock}
 use Rattle.row.specs.NodeRows.{blockOn, blockRows, keptPlace, hasKept, partRows, ownBlock, keptBlock, part-blocks}
 use Rattle.mps.specs.Merged.{stands}
-use Rattle.mps_length.specs.Sums.{sumTo, sum-same, sum-times, sum-even, sum-split, sum-parts}
+use Rattle.lists.specs.Sums.{sumTo, sum-same, sum-times, sum-even, sum-split, sum-parts}
 use Rattle.mps_length.specs.Blocks.{all-variables, own-is-behind, kept-is-behind}
 use Rattle.mps_length.specs.Stands.{stands-left, stands-right, stands-flat, stands-first, behind, block-stands}
 use Rattle.mps_length.specs.Stands.{none-rows, none-append, none-flat, block-none}

@@ -1,4 +1,3 @@
-pub mod Sums
 pub mod Digits
 pub mod Terms
 pub mod RowSizes

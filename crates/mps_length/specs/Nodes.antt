@@ -20,7 +20,7 @@ use Rattle.row.specs.declared.Block.{Block}
 use Rattle.row.specs.Kinds.{kindRows, windowAt, followed, following, followed-inner, followed-last}
 use Rattle.row.specs.Apart.{Apart, apart-at, Behind}
 use Rattle.row.specs.NodeRows.{blockOn, blockRows, hasKept, partRows, ownBlock, keptBlock, part-blocks}
-use Rattle.mps_length.specs.Sums.{sumTo, sum-more, sum-same, sum-even, sum-last}
+use Rattle.lists.specs.Sums.{sumTo, sum-more, sum-same, sum-even, sum-last}
 use Rattle.mps_length.specs.RowSizes.{weight, weight-append, weight-flat, same-weight, not-weight, and-weight, and-twice, or-weight, or-twice}
 use Rattle.mps_length.specs.RowSizes.{implies-weight, implies-twice, until-weight, until-twice}
 use Rattle.mps_length.specs.Windows.{Rising, backSize, within-weight, throughout-weight}

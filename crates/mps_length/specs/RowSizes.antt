@@ -6,7 +6,7 @@ use native.Mathlib.Omega.{arith}
 use lib.IntN.{pos, negsuc}
 use Rattle.lists.specs.Flat.{flat}
 use Rattle.rules.specs.Rows.{Row, plus, minus, sameRows, notRows, andRows, orRows, impliesRows, untilRows}
-use Rattle.mps_length.specs.Sums.{sumTo}
+use Rattle.lists.specs.Sums.{sumTo}
 use Rattle.mps_length.specs.Terms.{size, size-zero, size-one, size-two, size-less-one, size-less-two, total, pair, first-double, last-double, triple}
 
 -- of one row, with n variables, and of rows

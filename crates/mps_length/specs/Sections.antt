@@ -10,22 +10,18 @@ use lib.ListN.{length, length-append}
 use Rattle.lists.specs.Flat.{flat}
 use Rattle.rules.specs.Rows.{Relation, Row}
 use Rattle.rules.specs.Rows.Relation.{at-least, equal}
-use Rattle.text.specs.Decimal.{decimal, length-low}
+use Rattle.text.specs.Decimal.{decimal}
+use Rattle.text.specs.DecimalLaws.{length-low}
 use Rattle.mps.specs.Words.{COST, N}
 use Rattle.mps.specs.Merged.{coefficient, isZero, stands}
 use Rattle.mps.specs.Page.{typeLine, typeText, rowName, rowLine, entryLine, rightLine, eachRow, costLine, columnLines, binaryLine, upperLine, boundLine}
 use Rattle.mps.specs.Page.{rowSection, columnSection, rightSection, boundSection, pageOf}
 use Rattle.mps_line.specs.declared.Name.the-variants.{Cost, Rights, Row as RowName, Variable}
 use Rattle.mps_line.specs.Names.{type-length, number-length, binary-length, upper-length}
-use Rattle.mps_length.specs.Sums.{sumTo, sum-same, sum-add, sum-times, sum-even, sum-split}
+use Rattle.lists.specs.Sums.{sumTo, sum-same, sum-add, sum-times, sum-even, sum-split, length-flat}
 use Rattle.mps_length.specs.Digits.{digitSum, digits-below}
 use Rattle.mps_length.specs.Terms.{size, size-zero, line-size, total}
 use Rattle.mps_length.specs.RowSizes.{weight}
-
-length-parts : {A : Type 0} (f : ℕ → List A) (n : ℕ) → length (flat f n) ≡ sumTo (λ i. length (f i)) n
-unfolding flat
-length-parts f zero = refl
-length-parts f (suc n) = length-append (flat f n) (f n) ∙ ap (λ (k : ℕ). k + length (f n)) (length-parts f n)
 
 -- ---- ROWS
 
@@ -130,7 +126,7 @@ bound-lines atoms k h =
     let b : sumTo (λ i. f (atoms + i)) k ≡ k * 26 = sum-even (λ i. f (atoms + i)) 26 k after in
     let c = sum-add (λ v. 16) (λ v. length (decimal v)) atoms in
     let d = sum-even (λ v. 16) 16 atoms (λ v g. refl) in
-    omega (arith, length-parts (boundLine atoms) (atoms + k), sum-split f atoms k, c, d, digits-below atoms (omega arith))
+    omega (arith, length-flat (boundLine atoms) (atoms + k), sum-split f atoms k, c, d, digits-below atoms (omega arith))
   where
     below : (v : ℕ) → v < atoms → length (boundLine atoms v) ≡ 16 + length (decimal v)
     below v g = ap (λ (t : Bool). length (cond t (binaryLine v) (upperLine v))) (lt-ltb v atoms g) ∙ binary-length v
@@ -148,7 +144,7 @@ module _ (atoms k : ℕ) (rs : List Row) (few : atoms + k ≤ 1000000) (short : 
 
   column-section : length (flat (columnLines rs) n) ≡ sumTo (λ v. column v rs) n + 26 * sumTo (idleAt rs) n
   column-section =
-      length-parts (columnLines rs) n
+      length-flat (columnLines rs) n
       ∙ sum-same (λ v. length (columnLines rs v)) (λ v. column v rs + 26 * idleAt rs v) n (λ v g. column-lines rs v (omega arith) short)
       ∙ sum-add (λ v. column v rs) (λ v. 26 * idleAt rs v) n ∙ ap (λ (x : ℕ). sumTo (λ v. column v rs) n + x) (sum-times 26 (idleAt rs) n)
 

@@ -10,14 +10,15 @@ use lib.IntN.{ℤ, pos, negsuc, _+ℤ_, +ℤ-idl, +ℤ-idr, +ℤ-assoc}
 use lib.ListN.{length}
 use Rattle.lists.specs.Every.{Every}
 use Rattle.rules.specs.Rows.{Term}
-use Rattle.text.specs.Decimal.{signedText, length-low}
+use Rattle.text.specs.Decimal.{signedText}
+use Rattle.text.specs.DecimalLaws.{length-low}
 use Rattle.mps.specs.Merged.{coefficient, isZero}
 use Rattle.mps.specs.Page.{rowName, numberLine, numberUnlessZero}
 use Rattle.mps_line.specs.declared.Name.{Name}
 use Rattle.mps_line.specs.declared.Name.the-variants.{Row}
 use Rattle.mps_line.specs.Names.{nameText, NameFits, number-length}
 use Rattle.mps_row.specs.Absent.{coefficient-none}
-use Rattle.mps_length.specs.Sums.{sumTo, sum-same, sum-add, sum-even, pick, pick-once}
+use Rattle.lists.specs.Sums.{sumTo, sum-same, sum-add, sum-even, pick, pick-once}
 
 -- ---- the line of a number, and none of 0
 

@@ -12,7 +12,8 @@ use lib.ListN.{length}
 use Rattle.lists.specs.Passing.{passing}
 use Rattle.rules.specs.Rule.Window.{within, throughout}
 use Rattle.rules.specs.Rows.{Row, plus, minus, ge, inWindow, windowSlots}
-use Rattle.text.specs.Decimal.{decimal, length-low, length-pair}
+use Rattle.text.specs.Decimal.{decimal}
+use Rattle.text.specs.DecimalLaws.{length-low, length-pair}
 use Rattle.row.specs.Kinds.{overRows, windowAt}
 use Rattle.mps_length.specs.Terms.{size, size-zero, size-one, size-less-one, total, Others, total-none, total-more, single, pair}
 use Rattle.mps_length.specs.RowSizes.{weight, weight-append}

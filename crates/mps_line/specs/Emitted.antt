@@ -1,17 +1,22 @@
 -- Texts put one after the other where there is room for them.
 use mathlib.Core.Path.{_≡_, refl, _∙_, subst}
 use mathlib.Core.List.{List, [], _++_}
-use Prim.Native.Nat.{ℕ, _+_, _≤_, _<_}
+use Prim.Native.Nat.{ℕ, _+_, _*_, _≤_, _<_}
 use native.Mathlib.Omega.{arith}
 use lib.ListN.{length, length-append}
 use lib.Seq.{sets}
 use Rattle.text.specs.Put.{Put, also}
+use Rattle.mps_line.specs.Bounds.{lineLimit}
 
 -- `next` is the place past xs, and xs is written from `at` on where it has room
 pub record Emitted (at : ℕ) (xs before after : List ℕ) (next : ℕ) : Type 0 where
   pub ends : next ≡ at + length xs
   pub content : at + length xs ≤ length before → after ≡ sets before at xs
   pub same : length after ≡ length before
+
+-- and xs is as long as k lines at most
+abbrev pub Lines : (k at : ℕ) (xs before after : List ℕ) (next : ℕ) → Type 0
+Lines k at xs before after next = Emitted at xs before after next × (next ≤ at + k * lineLimit)
 
 pub emitted-none : (at : ℕ) (l : List ℕ) → Emitted at [] l l at
 emitted-none at l = record { ends = omega arith; content = λ h. refl; same = refl }

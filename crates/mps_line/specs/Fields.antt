@@ -62,7 +62,8 @@ number-fields name row c h g =
     let blank : List ℕ = 32 ∷ 32 ∷ 32 ∷ 32 ∷ [] in
     let first = next-field 15 blank name row (length-append blank name) (omega arith) in
     let wide : length (blank ++ padded 10 name) ≡ 14 = length-append blank (padded 10 name) ∙ ap (λ (n : ℕ). 4 + n) (length-padded 10 name (omega arith)) in
-    let long : length ((blank ++ padded 10 name) ++ row) ≡ 14 + length row = length-append (blank ++ padded 10 name) row ∙ ap (λ (n : ℕ). n + length row) wide in
+    let long : length ((blank ++ padded 10 name) ++ row) ≡ 14 + length row =
+    length-append (blank ++ padded 10 name) row ∙ ap (λ (n : ℕ). n + length row) wide in
     ap (λ (l : List ℕ). ended (field 25 l (signedText c))) first
     ∙ ap ended (next-field 25 (blank ++ padded 10 name) row (signedText c) long (omega arith))
 

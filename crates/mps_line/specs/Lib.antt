@@ -1,3 +1,4 @@
+pub mod Bounds
 pub mod Emitted
 pub mod Turns
 pub mod Fields

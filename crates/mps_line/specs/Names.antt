@@ -5,9 +5,11 @@ use Prim.Native.Nat.{ℕ, _+_, _≤_, _<_}
 use native.Mathlib.Omega.{arith}
 use lib.IntN.{ℤ}
 use lib.ListN.{length, length-append}
-use Rattle.text.specs.Decimal.{decimal, signedText, length-low, below-1000000}
+use Rattle.text.specs.Decimal.{decimal, signedText}
+use Rattle.text.specs.DecimalLaws.{length-low, below-1000000}
 use Rattle.mps.specs.Words.{COST, RHS}
 use Rattle.mps.specs.Page.{rowName, variableName, typeLine, numberLine, binaryLine, upperLine}
+use Rattle.mps_line.specs.Bounds.{numberLimit}
 use Rattle.mps_line.specs.Fields.{padded, length-padded, type-fields, number-fields, binary-fields, upper-fields}
 use Rattle.mps_line.specs.declared.Name.{Name}
 use Rattle.mps_line.specs.declared.Name.the-variants.{Cost, Rights, Row, Variable}
@@ -22,8 +24,8 @@ nameText (Variable v) = variableName v
 abbrev pub NameFits : Name → Type 0
 NameFits Cost = Unit {0}
 NameFits Rights = Unit {0}
-NameFits (Row i) = i < 1000000
-NameFits (Variable v) = v < 1000000
+NameFits (Row i) = i < numberLimit
+NameFits (Variable v) = v < numberLimit
 
 -- so a name has at most seven bytes
 pub name-length : (name : Name) → NameFits name → length (nameText name) ≤ 7
@@ -52,7 +54,7 @@ number-length name row c h g =
 pub binary-length : (v : ℕ) → length (binaryLine v) ≡ 16 + length (decimal v)
 binary-length v = ap length (binary-fields v) ∙ simp length-append (omega arith)
 
-pub upper-length : (v : ℕ) → v < 1000000 → length (upperLine v) ≡ 26
+pub upper-length : (v : ℕ) → v < numberLimit → length (upperLine v) ≡ 26
 upper-length v h =
     let a = name-length (Variable v) h in
     let before : List ℕ = 32 ∷ 85 ∷ 80 ∷ 32 ∷ 66 ∷ 78 ∷ 68 ∷ 32 ∷ 32 ∷ 32 ∷ 32 ∷ 32 ∷ 32 ∷ 32 ∷ [] in

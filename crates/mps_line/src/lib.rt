@@ -1,7 +1,7 @@
 // The lines of an MPS page. A line is put where there is room for it; the result is the place after it, with room or without.
 ghost use mathlib.Core.Path.{_≡_};
 ghost use mathlib.Core.List.{List, [], _∷_, _++_};
-ghost use Prim.Native.Nat.{ℕ, _+_, _*_, _/_, _%_, _≤_, _<_};
+ghost use Prim.Native.Nat.{ℕ, _+_, _*_, _/_, _%_, _^_, _≤_, _<_};
 ghost use lib.IntN.{natAbs};
 ghost use lib.ListN.{length};
 ghost use Rattle.endian.specs.Words.{littleEndian};
@@ -9,7 +9,8 @@ ghost use Rattle.text.specs.Decimal.{decimal, signedText};
 ghost use Rattle.text.specs.Put.{Put};
 ghost use Rattle.mps.specs.Page.{typeLine, numberLine, binaryLine, upperLine};
 ghost use Rattle.mps_line.specs.Names.{nameText, NameFits};
-ghost use Rattle.mps_line.specs.Emitted.{Emitted};
+ghost use Rattle.mps_line.specs.Bounds.{numberLimit, lineLimit, coefficientLimit, LinesFit};
+ghost use Rattle.mps_line.specs.Emitted.{Lines};
 ghost use Rattle.mps_line.specs.Fields.{padded};
 ghost use Rattle.mps_line.specs.Units.{bit, one, unitLine};
 
@@ -23,8 +24,8 @@ pub enum Name {
 
 // Puts a text of a line's length or less.
 pub fn put_text(out: &mut [u8], at: usize, text: &[u8]) -> usize
-    requires { ⌜ (at ≤ 1099511627776) × (length (now text) ≤ 40) ⌝ }
-    ensures { λ r. ⌜ Emitted at (now (text .entry)) (now (out .entry)) (now (out .exit)) r × (r ≤ at + 40) ⌝ }
+    requires { ⌜ LinesFit at 1 × (length (now text) ≤ lineLimit) ⌝ }
+    ensures { λ r. ⌜ Lines 1 at (now (text .entry)) (now (out .entry)) (now (out .exit)) r ⌝ }
 {
     let end = at + text.len();
     if end <= out.len() {
@@ -35,7 +36,7 @@ pub fn put_text(out: &mut [u8], at: usize, text: &[u8]) -> usize
 
 // How many digits a number has.
 fn digits_in(n: usize) -> usize
-    requires { ⌜ n < 1000000 ⌝ }
+    requires { ⌜ n < numberLimit ⌝ }
     ensures { λ r. ⌜ (r ≡ length (decimal n)) × (r ≤ 6) ⌝ }
 {
     if n < 10 {
@@ -69,7 +70,7 @@ fn name_length(name: Name) -> usize
 }
 
 fn signed_length(c: i64) -> usize
-    requires { ⌜ natAbs c ≤ 999 ⌝ }
+    requires { ⌜ natAbs c ≤ coefficientLimit ⌝ }
     ensures { λ r. ⌜ (r ≡ length (signedText c)) × (r ≤ 7) ⌝ }
 {
     let n = digits_in(text::magnitude(c));
@@ -80,7 +81,7 @@ fn signed_length(c: i64) -> usize
 
 // A word with a digit before its bytes.
 fn with_digit(rest: u64, d: usize) -> u64
-    requires { ⌜ (rest < 72057594037927936) × (d < 10) ⌝ }
+    requires { ⌜ (rest < 256 ^ 7) × (d < 10) ⌝ }
     ensures { λ r. ⌜ r ≡ rest * 256 + (48 + d) ⌝ }
 {
     endian::grown(rest, 48 + (d as u8))
@@ -88,7 +89,7 @@ fn with_digit(rest: u64, d: usize) -> u64
 
 // A word with the two digits of a number before its bytes.
 fn with_pair(rest: u64, n: usize) -> u64
-    requires { ⌜ (rest < 281474976710656) × (n < 100) ⌝ }
+    requires { ⌜ (rest < 256 ^ 6) × (n < 100) ⌝ }
     ensures { λ r. ⌜ r ≡ (rest * 256 + (48 + n % 10)) * 256 + (48 + n / 10) ⌝ }
 {
     with_digit(with_digit(rest, n % 10), n / 10)
@@ -97,7 +98,7 @@ fn with_pair(rest: u64, n: usize) -> u64
 // The digits of a number of five or six, and spaces up to 7 bytes.
 fn long_word(upper: usize, low: usize) -> u64
     requires { ⌜ (100 ≤ upper) × (upper < 10000) × (low < 100) ⌝ }
-    ensures { λ r. ⌜ (littleEndian 7 r ≡ padded 7 (decimal (upper * 100 + low))) × (r < 72057594037927936) ⌝ }
+    ensures { λ r. ⌜ (littleEndian 7 r ≡ padded 7 (decimal (upper * 100 + low))) × (r < 256 ^ 7) ⌝ }
 {
     let first = upper / 100;
     let second = upper % 100;
@@ -109,8 +110,8 @@ fn long_word(upper: usize, low: usize) -> u64
 
 // The digits of a number, and spaces up to 7 bytes.
 fn digits_word(n: usize) -> u64
-    requires { ⌜ n < 1000000 ⌝ }
-    ensures { λ r. ⌜ (littleEndian 7 r ≡ padded 7 (decimal n)) × (r < 72057594037927936) ⌝ }
+    requires { ⌜ n < numberLimit ⌝ }
+    ensures { λ r. ⌜ (littleEndian 7 r ≡ padded 7 (decimal n)) × (r < 256 ^ 7) ⌝ }
 {
     let upper = n / 100;
     let low = n % 100;
@@ -131,7 +132,7 @@ fn digits_word(n: usize) -> u64
 
 // A letter and a number, and spaces up to 8 bytes.
 fn lettered_word(letter: u8, n: usize) -> u64
-    requires { ⌜ n < 1000000 ⌝ }
+    requires { ⌜ n < numberLimit ⌝ }
     ensures { λ r. ⌜ littleEndian 8 r ≡ padded 8 (letter ∷ decimal n) ⌝ }
 {
     endian::grown(digits_word(n), letter)
@@ -163,7 +164,8 @@ fn put_type(out: &mut [u8], at: usize, letter: u8) -> usize
 // A field of ten columns: the 8 bytes of a name's word, and two spaces.
 fn put_field(out: &mut [u8], at: usize, w: u64) -> usize
     requires { ⌜ at + 10 ≤ length (now out) ⌝ }
-    ensures { λ r. ⌜ ((name : List ℕ) → length name ≤ 8 → littleEndian 8 w ≡ padded 8 name → Put at (padded 10 name) (now (out .entry)) (now (out .exit)) r) × (r ≡ at + 10) ⌝ }
+    ensures { λ r. ⌜ ((name : List ℕ) → length name ≤ 8 → littleEndian 8 w ≡ padded 8 name →
+        Put at (padded 10 name) (now (out .entry)) (now (out .exit)) r) × (r ≡ at + 10) ⌝ }
 {
     let next = endian::put_eight(out, at, w);
     endian::put_two(out, next, 0x2020)
@@ -191,7 +193,7 @@ fn put_name(out: &mut [u8], at: usize, name: Name) -> usize
 }
 
 fn put_signed(out: &mut [u8], at: usize, c: i64) -> usize
-    requires { ⌜ (at + length (signedText c) ≤ length (now out)) × (natAbs c ≤ 999) ⌝ }
+    requires { ⌜ (at + length (signedText c) ≤ length (now out)) × (natAbs c ≤ coefficientLimit) ⌝ }
     ensures { λ r. ⌜ Put at (signedText c) (now (out .entry)) (now (out .exit)) r ⌝ }
 {
     let n = text::magnitude(c);
@@ -206,8 +208,8 @@ fn put_signed(out: &mut [u8], at: usize, c: i64) -> usize
 
 // A row's type and name.
 pub fn put_type_line(out: &mut [u8], at: usize, letter: u8, name: Name) -> usize
-    requires { ⌜ (at ≤ 1099511627776) × NameFits name ⌝ }
-    ensures { λ r. ⌜ Emitted at (typeLine (letter ∷ []) (nameText name)) (now (out .entry)) (now (out .exit)) r × (r ≤ at + 40) ⌝ }
+    requires { ⌜ LinesFit at 1 × NameFits name ⌝ }
+    ensures { λ r. ⌜ Lines 1 at (typeLine (letter ∷ []) (nameText name)) (now (out .entry)) (now (out .exit)) r ⌝ }
 {
     let past = at + 5 + name_length(name);
     if out.len() < past {
@@ -220,8 +222,8 @@ pub fn put_type_line(out: &mut [u8], at: usize, letter: u8, name: Name) -> usize
 
 // A name, a row and a number.
 pub fn put_number_line(out: &mut [u8], at: usize, name: Name, row: Name, c: i64) -> usize
-    requires { ⌜ (at ≤ 1099511627776) × NameFits name × NameFits row × (natAbs c ≤ 999) ⌝ }
-    ensures { λ r. ⌜ Emitted at (numberLine (nameText name) (nameText row) c) (now (out .entry)) (now (out .exit)) r × (r ≤ at + 40) ⌝ }
+    requires { ⌜ LinesFit at 1 × NameFits name × NameFits row × (natAbs c ≤ coefficientLimit) ⌝ }
+    ensures { λ r. ⌜ Lines 1 at (numberLine (nameText name) (nameText row) c) (now (out .entry)) (now (out .exit)) r ⌝ }
 {
     let past = at + 25 + signed_length(c);
     if out.len() < past {
@@ -255,8 +257,8 @@ fn put_one(out: &mut [u8], at: usize, up: bool) -> usize
 
 // A variable, a row and 1 or −1.
 pub fn put_unit(out: &mut [u8], at: usize, v: usize, i: usize, up: bool) -> usize
-    requires { ⌜ (at ≤ 1099511627776) × (v < 1000000) × (i < 1000000) ⌝ }
-    ensures { λ r. ⌜ Emitted at (unitLine v i up) (now (out .entry)) (now (out .exit)) r × (r ≤ at + 40) ⌝ }
+    requires { ⌜ LinesFit at 1 × (v < numberLimit) × (i < numberLimit) ⌝ }
+    ensures { λ r. ⌜ Lines 1 at (unitLine v i up) (now (out .entry)) (now (out .exit)) r ⌝ }
 {
     let past = at + unit_length(up);
     if out.len() < past {
@@ -270,8 +272,8 @@ pub fn put_unit(out: &mut [u8], at: usize, v: usize, i: usize, up: bool) -> usiz
 
 // The bound of an atom's variable.
 pub fn put_binary_line(out: &mut [u8], at: usize, v: usize) -> usize
-    requires { ⌜ (at ≤ 1099511627776) × (v < 1000000) ⌝ }
-    ensures { λ r. ⌜ Emitted at (binaryLine v) (now (out .entry)) (now (out .exit)) r × (r ≤ at + 40) ⌝ }
+    requires { ⌜ LinesFit at 1 × (v < numberLimit) ⌝ }
+    ensures { λ r. ⌜ Lines 1 at (binaryLine v) (now (out .entry)) (now (out .exit)) r ⌝ }
 {
     let past = at + 16 + digits_in(v);
     if out.len() < past {
@@ -284,8 +286,8 @@ pub fn put_binary_line(out: &mut [u8], at: usize, v: usize) -> usize
 
 // The bound of a slack.
 pub fn put_upper_line(out: &mut [u8], at: usize, v: usize) -> usize
-    requires { ⌜ (at ≤ 1099511627776) × (v < 1000000) ⌝ }
-    ensures { λ r. ⌜ Emitted at (upperLine v) (now (out .entry)) (now (out .exit)) r × (r ≤ at + 40) ⌝ }
+    requires { ⌜ LinesFit at 1 × (v < numberLimit) ⌝ }
+    ensures { λ r. ⌜ Lines 1 at (upperLine v) (now (out .entry)) (now (out .exit)) r ⌝ }
 {
     let past = at + 26;
     if out.len() < past {

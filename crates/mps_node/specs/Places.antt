@@ -1,13 +1,13 @@
 -- The blocks of a node with their variables, and a block at a slot.
 use mathlib.Core.Path.{_≡_, refl, sym, ap, ap₂, _∙_}
-use mathlib.Core.Bool.{Bool}
-use mathlib.Core.List.{List}
+use mathlib.Core.Bool.{Bool, cond}
+use mathlib.Core.List.{List, [], _++_}
 use Prim.Native.Nat.{ℕ, _+_, _*_, _≤_, _<_}
 use native.Mathlib.Nat.{mul-le-mul}
 use native.Mathlib.Omega.{arith}
 use lib.ListN.{length, take}
 use Rattle.rules.specs.Table.{Node, NodeGood, nodeAt}
-use Rattle.rules.specs.Rows.{windowSlots, looping}
+use Rattle.rules.specs.Rows.{Row, windowSlots, looping}
 use Rattle.table.specs.Nodes.{nodeOf}
 use Rattle.table.specs.Looping.{looping-few}
 use Rattle.table.specs.declared.Node as Table
@@ -18,11 +18,16 @@ use Rattle.window.specs.Slots.{variables, Looking, count-is}
 use Rattle.row.specs.declared.Block.{Block}
 use Rattle.row.specs.Apart.{Apart, Behind, own-behind, kept-behind}
 use Rattle.row.specs.Kinds.{Allowed, allowed, kindRows, slotCount, windowAt, followed, following, length-on}
-use Rattle.row.specs.NodeRows.{blockOn, Own, Kept, keptPlace, hasKept}
+use Rattle.row.specs.NodeRows.{blockOn, blockRows, Own, Kept, keptPlace, hasKept}
 use Rattle.row.specs.Placed.{Placed}
+use Rattle.mps_line.specs.Bounds.{allParts}
 use Rattle.mps_slot.specs.declared.Spot.{Spot}
 use Rattle.mps_slot.specs.Spots.{spotRows, Seen, SeenBy}
 use Rattle.mps_node.specs.declared.Blocks.{Blocks}
+
+-- the rows of both blocks: "All of a node's V rows, by slot, come before its P rows."
+abbrev pub blocksRows : (T L : ℕ) → Blocks → List Row
+blocksRows T L bs = cond (bs .both) (blockRows (bs .kept) T L) [] ++ blockRows (bs .own) T L
 
 -- a block whose variables are within bounds and in order
 pub record Fit (T : ℕ) (b : Block) : Type 0 where
@@ -55,10 +60,10 @@ pub record BlocksAt (T M L : ℕ) (ns : List Node) (n v : ℕ) (bs : Blocks) : T
   pub own-fit : Fit T (bs .own)
   pub kept-fit : Fit T (bs .kept)
 
--- V's first variable is within 16 bits
-pub kept-low : (T M : ℕ) (ns : List Node) (n : ℕ) → T ≤ 64 → M ≤ 16 → length ns ≤ 128 → n < length ns → keptPlace T M ns n ≤ 25600
+-- V's first variable, at 64 slots of each part before it
+pub kept-low : (T M : ℕ) (ns : List Node) (n : ℕ) → T ≤ 64 → M ≤ 16 → length ns ≤ 128 → n < length ns → keptPlace T M ns n ≤ allParts * 64
 kept-low T M ns n t m few h =
-    let c : (M + (length ns + looping (take n ns))) * T ≤ 272 * 64 = mul-le-mul {n₂ = 272} {m₂ = 64} (omega (arith, looping-few ns n)) t in
+    let c : (M + (length ns + looping (take n ns))) * T ≤ allParts * 64 = mul-le-mul {n₂ = allParts} {m₂ = 64} (omega (arith, looping-few ns n)) t in
     omega arith
 
 -- ---- the slots of a window

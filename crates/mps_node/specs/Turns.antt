@@ -1,6 +1,6 @@
 -- A turn of the loops over slots and over nodes: the lines of one more slot, and of one more node.
 use mathlib.Core.Path.{_≡_, refl, sym, ap, _∙_}
-use mathlib.Core.Bool.{Bool, true, false, cond}
+use mathlib.Core.Bool.{Bool, cond}
 use mathlib.Core.List.{List, [], _∷_, _++_}
 use Prim.Native.Nat.{ℕ, _+_, _≤_}
 use native.Mathlib.Omega.{arith}
@@ -8,13 +8,12 @@ use lib.ListN.{length, length-append}
 use Rattle.rules.specs.Table.{Node}
 use Rattle.rules.specs.Rows.{Row, rowsOf, goalRow}
 use Rattle.mps.specs.Page.{eachRow}
-use Rattle.row.specs.Kinds.{blockCount}
-use Rattle.row.specs.NodeRows.{blockRows, length-block, Kept, both-rows, nodeCount, partRows, length-part, rowsTo, rows-none, rows-more, all-parts}
+use Rattle.row.specs.NodeRows.{blockRows, both-rows, nodeCount, partRows, length-part, rowsTo, rows-none, rows-more, all-parts}
 use Rattle.mps_line.specs.Emitted.{Emitted, emitted-none, emitted-also, emitted-as}
 use Rattle.mps_row.specs.Laws.{each-append}
 use Rattle.mps_slot.specs.Each.{one-line}
 use Rattle.mps_node.specs.declared.Blocks.{Blocks}
-use Rattle.mps_node.specs.Places.{BlocksAt}
+use Rattle.mps_node.specs.Places.{blocksRows, BlocksAt}
 
 -- the lines of the rows rs are put, numbered from `first` on, and the next row has the number `next`
 pub record Listed (line : ℕ → Row → List ℕ) (first : ℕ) (rs : List Row) (next at : ℕ) (l m : List ℕ) (to : ℕ) : Type 0 where
@@ -27,12 +26,14 @@ module _ (line : ℕ → Row → List ℕ) (first at : ℕ) (l : List ℕ) where
   listed-none = record { numbered = omega arith; emitted = emitted-none at l }
 
   -- more rows behind
-  pub listed-more : {rs : List Row} {next to next′ to′ : ℕ} {m n : List ℕ} (more : List Row) → Listed line first rs next at l m to → Emitted to (eachRow line next more) m n to′ →
+  pub listed-more : {rs : List Row} {next to next′ to′ : ℕ} {m n : List ℕ} (more : List Row) → Listed line first rs next at l m to →
+      Emitted to (eachRow line next more) m n to′ →
       next′ ≡ next + length more → Listed line first (rs ++ more) next′ at l n to′
   listed-more {rs} {next} {to} {next′} {to′} {m} {n} more d s e =
       record {
         numbered = omega (arith, e, d .numbered, length-append rs more);
-        emitted = emitted-as (ap (λ (k : ℕ). eachRow line first rs ++ eachRow line k more) (d .numbered) ∙ sym (each-append line first rs more)) (emitted-also (d .emitted) s);
+        emitted = emitted-as (ap (λ (k : ℕ). eachRow line first rs ++ eachRow line k more) (d .numbered) ∙ sym (each-append line first rs more))
+            (emitted-also (d .emitted) s);
       }
 
   -- the same rows, said in another way
@@ -57,23 +58,10 @@ module _ (T M L : ℕ) (ns : List Node) (line : ℕ → Row → List ℕ) (at : 
   -- ---- a node's rows by its blocks
 
   module _ {n v : ℕ} {bs : Blocks} (a : BlocksAt T M L ns n v bs) (0<T : 1 ≤ T) where
-    abbrev kept : List Row
-    kept = cond (bs .both) (blockRows (bs .kept) T L) []
-
-    pub blocks-rows : kept ++ blockRows (bs .own) T L ≡ partRows T M L ns n
+    pub blocks-rows : blocksRows T L bs ≡ partRows T M L ns n
     blocks-rows =
         ap (λ (b : Bool). cond b (blockRows (bs .kept) T L) [] ++ blockRows (bs .own) T L) (a .both-is)
         ∙ both-rows T M L ns n v (a .node) (bs .own) (bs .kept) (a .is) (a .place) (a .own-is) (a .kept-is)
-
-    pub kept-count : length kept ≡ cond (bs .both) (blockCount (bs .own .kind) false T L (bs .own .from) (bs .own .to)) 0
-    kept-count = go (bs .both)
-      where
-        k : Kept v (bs .own) (bs .kept)
-        k = a .kept-is
-
-        go : (b : Bool) → length (cond b (blockRows (bs .kept) T L) []) ≡ cond b (blockCount (bs .own .kind) false T L (bs .own .from) (bs .own .to)) 0
-        go true = length-block (bs .kept) T L 0<T ∙ rw (k .kind-is, k .loops-is, k .from-is, k .to-is) refl
-        go false = refl
 
     pub node-count : length (partRows T M L ns n) ≡ nodeCount (bs .own .kind) T L (bs .own .from) (bs .own .to)
     node-count =

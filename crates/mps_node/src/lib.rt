@@ -5,8 +5,6 @@ use row::Block;
 use table::Kind;
 use window::Looks;
 ghost use mathlib.Core.Path.{_≡_};
-ghost use mathlib.Core.Bool.{cond};
-ghost use mathlib.Core.List.{[], _++_};
 ghost use Prim.Native.Nat.{_+_, _≤_, _<_};
 ghost use Rattle.rules.specs.Rows.{rowsOf};
 ghost use Rattle.rules.specs.TableTest.{recordCount, nodesIn};
@@ -14,9 +12,10 @@ ghost use Rattle.mps.specs.Page.{eachRow};
 ghost use Rattle.table.specs.Checks.{Ready};
 ghost use Rattle.row.specs.Kinds.{Allowed};
 ghost use Rattle.row.specs.NodeRows.{blockRows, keptPlace};
-ghost use Rattle.mps_line.specs.Emitted.{Emitted};
+ghost use Rattle.mps_line.specs.Bounds.{numberLimit, LinesFit, blockLines, nodeLines, tableLines};
+ghost use Rattle.mps_line.specs.Emitted.{Lines};
 ghost use Rattle.mps_row.specs.Texts.{lineOf, TextFits};
-ghost use Rattle.mps_node.specs.Places.{Fit, BlocksAt, Looked, Spotted};
+ghost use Rattle.mps_node.specs.Places.{blocksRows, Fit, BlocksAt, Looked, Spotted};
 
 // A node's own block of slacks, and its V's; `both` says whether it has V's.
 pub struct Blocks {
@@ -103,8 +102,8 @@ pub fn put_block(
     t: u16,
     l: u16,
 ) -> usize
-    requires { ⌜ (at ≤ 1099511400000) × TextFits text × (first + 4160 ≤ 1000000) × (1 ≤ l) × (l ≤ t) × (t ≤ 64) × Fit t block ⌝ }
-    ensures { λ r. ⌜ Emitted at (eachRow (lineOf text) first (blockRows block t l)) (now (out .entry)) (now (out .exit)) r × (r ≤ at + 166400) ⌝ }
+    requires { ⌜ LinesFit at blockLines × TextFits text × (first + blockLines ≤ numberLimit) × (1 ≤ l) × (l ≤ t) × (t ≤ 64) × Fit t block ⌝ }
+    ensures { λ r. ⌜ Lines blockLines at (eachRow (lineOf text) first (blockRows block t l)) (now (out .entry)) (now (out .exit)) r ⌝ }
 {
     let kind = block.kind;
     let mut next = at;
@@ -132,8 +131,9 @@ fn put_node(
     t: u16,
     l: u16,
 ) -> usize
-    requires { ⌜ (at ≤ 1099511200000) × TextFits text × (first + 8320 ≤ 1000000) × (1 ≤ l) × (l ≤ t) × (t ≤ 64) × Fit t (blocks .own) × Fit t (blocks .kept) ⌝ }
-    ensures { λ r. ⌜ Emitted at (eachRow (lineOf text) first (cond (blocks .both) (blockRows (blocks .kept) t l) [] ++ blockRows (blocks .own) t l)) (now (out .entry)) (now (out .exit)) r × (r ≤ at + 332800) ⌝ }
+    requires { ⌜ LinesFit at nodeLines × TextFits text × (first + nodeLines ≤ numberLimit) × (1 ≤ l) × (l ≤ t) × (t ≤ 64)
+        × Fit t (blocks .own) × Fit t (blocks .kept) ⌝ }
+    ensures { λ r. ⌜ Lines nodeLines at (eachRow (lineOf text) first (blocksRows t l blocks)) (now (out .entry)) (now (out .exit)) r ⌝ }
 {
     let own = blocks.own;
     let kept = blocks.kept;
@@ -146,7 +146,7 @@ fn put_node(
     put_block(out, at, text, first, own, t, l)
 }
 
-// The lines of all rows of a checked table of n nodes.
+// The lines of all rows of a checked table.
 pub fn put_all(
     out: &mut [u8],
     at: usize,
@@ -156,8 +156,8 @@ pub fn put_all(
     m: usize,
     l: usize,
 ) -> usize
-    requires { ⌜ (at ≤ 1099400000000) × TextFits text × Ready t m l (now table) ⌝ }
-    ensures { λ r. ⌜ Emitted at (eachRow (lineOf text) 0 (rowsOf t m l (nodesIn (now (table .entry))))) (now (out .entry)) (now (out .exit)) r × (r ≤ at + 42598440) ⌝ }
+    requires { ⌜ LinesFit at tableLines × TextFits text × Ready t m l (now table) ⌝ }
+    ensures { λ r. ⌜ Lines tableLines at (eachRow (lineOf text) 0 (rowsOf t m l (nodesIn (now (table .entry))))) (now (out .entry)) (now (out .exit)) r ⌝ }
 {
     let n = table::count(table);
     let mut next = at;

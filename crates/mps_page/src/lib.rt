@@ -3,22 +3,24 @@ use answers::Answer;
 use answers::Refusal;
 use table::Checked;
 ghost use mathlib.Core.Path.{_≡_};
-ghost use Prim.Native.Nat.{_+_, _≤_};
+ghost use Prim.Native.Nat.{_+_, _*_};
 ghost use lib.ListN.{length};
 ghost use Rattle.rules.specs.Rows.{variableCount, rowsOf};
 ghost use Rattle.rules.specs.TableTest.{nodesIn};
 ghost use Rattle.rules.specs.Outcome.{result, buffer};
 ghost use Rattle.answers.specs.Meaning.{answerOf};
 ghost use Rattle.table.specs.Checks.{Ready};
-ghost use Rattle.mps_line.specs.Emitted.{Emitted};
+ghost use Rattle.mps_line.specs.Bounds.{LinesFit, partLines, allParts};
+ghost use Rattle.mps_line.specs.Emitted.{Emitted, Lines};
 ghost use Rattle.mps.specs.Page.{columnSection, page};
 ghost use Rattle.mps.specs.Outcome.{pageOutcome};
 ghost use Rattle.mps_page.specs.Answers.{pageAnswer, Short};
 
 // COLUMNS: the lines of each variable.
 fn put_columns(out: &mut [u8], at: usize, table: &[u8], t: usize, m: usize, l: usize) -> usize
-    requires { ⌜ (at ≤ 200000000000) × Ready t m l (now table) ⌝ }
-    ensures { λ r. ⌜ Emitted at (columnSection (variableCount t m l (nodesIn (now (table .entry)))) (rowsOf t m l (nodesIn (now (table .entry))))) (now (out .entry)) (now (out .exit)) r × (r ≤ at + 741554339880) ⌝ }
+    requires { ⌜ LinesFit at (1 + allParts * partLines) × Ready t m l (now table) ⌝ }
+    ensures { λ r. ⌜ Lines (1 + allParts * partLines) at (columnSection (variableCount t m l (nodesIn (now (table .entry))))
+        (rowsOf t m l (nodesIn (now (table .entry))))) (now (out .entry)) (now (out .exit)) r ⌝ }
 {
     let first = mps_line::put_text(out, at, b"COLUMNS\n");
     mps_columns::put_columns(out, first, table, t, m, l)

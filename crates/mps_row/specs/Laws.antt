@@ -1,6 +1,6 @@
 -- Laws of the texts of a table's rows: by slot, by a block's kind, by node, and how far row numbers go.
 use mathlib.Core.Path.{_≡_, refl, sym, ap, ap₂, _∙_}
-use mathlib.Core.Bool.{Bool, true}
+use mathlib.Core.Bool.{Bool, true, false}
 use mathlib.Core.List.{List, [], _∷_, _++_, append-assoc, append-nil}
 use Prim.Native.Nat.{ℕ, zero, suc, _+_, _*_, _≤_, _<_}
 use native.Mathlib.Nat.{mul-le-mul}
@@ -10,6 +10,7 @@ use Rattle.lists.specs.Flat.{flat, flat-zero, flat-same, length-flat-even}
 use Rattle.rules.specs.Table.{Node, nodeAt}
 use Rattle.rules.specs.Rows.{Row, windowSlots, slackRows, goalRow, rowsOf}
 use Rattle.rules.specs.RowParts.{nodes-parts}
+use Rattle.table.specs.Ends.{hasWindow}
 use Rattle.table.specs.declared.Kind.{Kind}
 use Rattle.table.specs.declared.Kind.the-variants.{Atom, Not, And, Or, Implies, Eventually, Always, Until, Within, Throughout}
 use Rattle.row.specs.declared.Block.{Block}
@@ -17,6 +18,7 @@ use Rattle.row.specs.Kinds.{kindRows, slotCount, followed, followed-inner, leng
 use Rattle.row.specs.NodeRows.{blockOn, blockRows, partRows, rowsTo}
 use Rattle.rules.specs.RowCount.{node-count}
 use Rattle.mps.specs.Page.{eachRow}
+use Rattle.mps_line.specs.Bounds.{rowLimit}
 use Rattle.mps_row.specs.Slots.{rowsBefore, slotText}
 
 -- ---- the texts of rows one after the other
@@ -44,16 +46,11 @@ module _ (line : ℕ → Row → List ℕ) where
 -- ---- kinds without a window
 
 abbrev pub Plain : Kind → Type 0
-Plain Atom = Unit {0}
-Plain Not = Unit {0}
-Plain And = Unit {0}
-Plain Or = Unit {0}
-Plain Implies = Unit {0}
-Plain Eventually = Unit {0}
-Plain Always = Unit {0}
-Plain Until = Unit {0}
-Plain Within = ⊥
-Plain Throughout = ⊥
+Plain k = hasWindow k ≡ false
+
+-- no other kind is among them
+pub not-plain : true ≡ false → ⊥
+not-plain e = let z : _≡_ {A = ℕ} 0 1 = cc in omega arith
 
 -- how many rows they have at a slot does not go by a window
 plain-count : (k : Kind) → Plain k → (inner : Bool) (n : ℕ) → slotCount k inner n ≡ slotCount k inner 0
@@ -65,8 +62,8 @@ plain-count Implies h inner n = refl
 plain-count Eventually h inner n = refl
 plain-count Always h inner n = refl
 plain-count Until h inner n = refl
-plain-count Within h inner n = absurd h
-plain-count Throughout h inner n = absurd h
+plain-count Within h inner n = absurd (not-plain h)
+plain-count Throughout h inner n = absurd (not-plain h)
 
 -- ---- of a block, slot by slot
 
@@ -116,7 +113,7 @@ unfolding flat
 length-flat-few f c zero h = omega arith
 length-flat-few f c (suc n) h = omega (arith, length-append (flat f n) (f n), length-flat-few f c n h, h n)
 
-pub start-small : (T M L : ℕ) (ns : List Node) (n : ℕ) → T ≤ 64 → n ≤ 128 → length (rowsTo T M L ns n) ≤ 589824
+pub start-small : (T M L : ℕ) (ns : List Node) (n : ℕ) → T ≤ 64 → n ≤ 128 → length (rowsTo T M L ns n) ≤ rowLimit
 unfolding rowsTo
 start-small T M L ns n few h =
     let c : (T + 8) * T ≤ 72 * 64 = mul-le-mul {n₂ = 72} {m₂ = 64} (omega arith) few in

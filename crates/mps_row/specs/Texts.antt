@@ -5,6 +5,7 @@ use Prim.Native.Nat.{ℕ, _<_}
 use Rattle.rules.specs.Rows.{Relation, Row}
 use Rattle.rules.specs.Rows.Relation.{at-least, equal}
 use Rattle.mps.specs.Page.{typeText, rowLine, rightLine, entryLine}
+use Rattle.mps_line.specs.Bounds.{numberLimit}
 use Rattle.mps_row.specs.declared.Text.{Text}
 use Rattle.mps_row.specs.declared.Text.the-variants.{Typed, Right, Entry}
 
@@ -17,7 +18,7 @@ lineOf (Entry v) i r = entryLine v i r
 abbrev pub TextFits : Text → Type 0
 TextFits Typed = Unit {0}
 TextFits Right = Unit {0}
-TextFits (Entry v) = v < 1000000
+TextFits (Entry v) = v < numberLimit
 
 -- the letter of a row's type
 abbrev pub typeLetter : Relation → ℕ

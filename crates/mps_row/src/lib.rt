@@ -6,14 +6,15 @@ use row::Term;
 use row::Terms;
 ghost use mathlib.Core.Path.{_≡_};
 ghost use mathlib.Core.Bool.{cond};
-ghost use Prim.Native.Nat.{_+_, _≤_, _<_};
+ghost use Prim.Native.Nat.{_*_, _≤_, _<_};
 ghost use lib.Dec.{eqb};
 ghost use lib.IntN.{pos, natAbs};
 ghost use Rattle.mps.specs.Merged.{coefficient};
 ghost use Rattle.mps.specs.Page.{numberUnlessZero};
 ghost use Rattle.row.specs.Meaning.{relationOf, termsOf, rowOf};
+ghost use Rattle.mps_line.specs.Bounds.{numberLimit, LinesFit};
 ghost use Rattle.mps_line.specs.Names.{nameText, NameFits};
-ghost use Rattle.mps_line.specs.Emitted.{Emitted};
+ghost use Rattle.mps_line.specs.Emitted.{Lines};
 ghost use Rattle.mps_row.specs.Texts.{typeLetter, lineOf, TextFits};
 
 // Which line a row gives: its type, its right side, or the entry of a variable's column.
@@ -36,7 +37,7 @@ fn term_in(t: Term, v: usize) -> i64
 
 // The coefficients of a variable in a row, added together.
 pub fn coefficient_in(terms: Terms, v: usize) -> i64
-    ensures { λ r. ⌜ (r ≡ coefficient v (termsOf terms)) × (natAbs r ≤ 384) ⌝ }
+    ensures { λ r. ⌜ (r ≡ coefficient v (termsOf terms)) × (natAbs r ≤ 3 * 128) ⌝ }
 {
     match terms {
         Terms::Single(a) => term_in(a, v),
@@ -57,8 +58,8 @@ fn letter(relation: Relation) -> u8
 
 // A line with the number c of row i, unless it is 0.
 fn put_unless_zero(out: &mut [u8], at: usize, name: Name, i: usize, c: i64) -> usize
-    requires { ⌜ (at ≤ 1099511627776) × NameFits name × (i < 1000000) × (natAbs c ≤ 384) ⌝ }
-    ensures { λ r. ⌜ Emitted at (numberUnlessZero (nameText name) i c) (now (out .entry)) (now (out .exit)) r × (r ≤ at + 40) ⌝ }
+    requires { ⌜ LinesFit at 1 × NameFits name × (i < numberLimit) × (natAbs c ≤ 3 * 128) ⌝ }
+    ensures { λ r. ⌜ Lines 1 at (numberUnlessZero (nameText name) i c) (now (out .entry)) (now (out .exit)) r ⌝ }
 {
     if text::magnitude(c) == 0 {
         return at;
@@ -68,8 +69,8 @@ fn put_unless_zero(out: &mut [u8], at: usize, name: Name, i: usize, c: i64) -> u
 
 // The line of row i.
 pub fn put_row(out: &mut [u8], at: usize, text: Text, i: usize, row: Row) -> usize
-    requires { ⌜ (at ≤ 1099511627776) × TextFits text × (i < 1000000) ⌝ }
-    ensures { λ r. ⌜ Emitted at (lineOf text i (rowOf row)) (now (out .entry)) (now (out .exit)) r × (r ≤ at + 40) ⌝ }
+    requires { ⌜ LinesFit at 1 × TextFits text × (i < numberLimit) ⌝ }
+    ensures { λ r. ⌜ Lines 1 at (lineOf text i (rowOf row)) (now (out .entry)) (now (out .exit)) r ⌝ }
 {
     let relation = row.relation;
     let right = row.right;

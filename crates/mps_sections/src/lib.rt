@@ -5,13 +5,14 @@ ghost use Prim.Native.Nat.{_+_, _≤_, _<_};
 ghost use Rattle.rules.specs.Rows.{rowsOf};
 ghost use Rattle.rules.specs.TableTest.{nodesIn};
 ghost use Rattle.table.specs.Checks.{Ready};
-ghost use Rattle.mps_line.specs.Emitted.{Emitted};
+ghost use Rattle.mps_line.specs.Bounds.{numberLimit, LinesFit, tableLines};
+ghost use Rattle.mps_line.specs.Emitted.{Lines};
 ghost use Rattle.mps.specs.Page.{rowSection, rightSection, boundLine, boundSection};
 
 // NAME and ROWS: the free row, and a line for each row.
 pub fn put_rows(out: &mut [u8], at: usize, table: &[u8], t: usize, m: usize, l: usize) -> usize
-    requires { ⌜ (at ≤ 1099300000000) × Ready t m l (now table) ⌝ }
-    ensures { λ r. ⌜ Emitted at (rowSection (rowsOf t m l (nodesIn (now (table .entry))))) (now (out .entry)) (now (out .exit)) r × (r ≤ at + 42700000) ⌝ }
+    requires { ⌜ LinesFit at (3 + tableLines) × Ready t m l (now table) ⌝ }
+    ensures { λ r. ⌜ Lines (3 + tableLines) at (rowSection (rowsOf t m l (nodesIn (now (table .entry))))) (now (out .entry)) (now (out .exit)) r ⌝ }
 {
     let rows = mps_line::put_text(out, at, b"NAME\n");
     let free = mps_line::put_text(out, rows, b"ROWS\n");
@@ -21,8 +22,8 @@ pub fn put_rows(out: &mut [u8], at: usize, table: &[u8], t: usize, m: usize, l: 
 
 // RHS: the right sides that are not 0.
 pub fn put_rights(out: &mut [u8], at: usize, table: &[u8], t: usize, m: usize, l: usize) -> usize
-    requires { ⌜ (at ≤ 1099300000000) × Ready t m l (now table) ⌝ }
-    ensures { λ r. ⌜ Emitted at (rightSection (rowsOf t m l (nodesIn (now (table .entry))))) (now (out .entry)) (now (out .exit)) r × (r ≤ at + 42700000) ⌝ }
+    requires { ⌜ LinesFit at (1 + tableLines) × Ready t m l (now table) ⌝ }
+    ensures { λ r. ⌜ Lines (1 + tableLines) at (rightSection (rowsOf t m l (nodesIn (now (table .entry))))) (now (out .entry)) (now (out .exit)) r ⌝ }
 {
     let first = mps_line::put_text(out, at, b"RHS\n");
     mps_node::put_all(out, first, Text::Right, table, t, m, l)
@@ -30,8 +31,8 @@ pub fn put_rights(out: &mut [u8], at: usize, table: &[u8], t: usize, m: usize, l
 
 // The bound of a variable; the first ones are the atoms'.
 fn put_bound(out: &mut [u8], at: usize, atoms: usize, v: usize) -> usize
-    requires { ⌜ (at ≤ 1099511600000) × (v < 1000000) ⌝ }
-    ensures { λ r. ⌜ Emitted at (boundLine atoms v) (now (out .entry)) (now (out .exit)) r × (r ≤ at + 40) ⌝ }
+    requires { ⌜ LinesFit at 1 × (v < numberLimit) ⌝ }
+    ensures { λ r. ⌜ Lines 1 at (boundLine atoms v) (now (out .entry)) (now (out .exit)) r ⌝ }
 {
     if v < atoms {
         mps_line::put_binary_line(out, at, v)
@@ -42,8 +43,8 @@ fn put_bound(out: &mut [u8], at: usize, atoms: usize, v: usize) -> usize
 
 // BOUNDS and ENDATA: a bound for each variable.
 pub fn put_bounds(out: &mut [u8], at: usize, atoms: usize, variables: usize) -> usize
-    requires { ⌜ (at ≤ 1099480000000) × (variables ≤ 30000) ⌝ }
-    ensures { λ r. ⌜ Emitted at (boundSection atoms variables) (now (out .entry)) (now (out .exit)) r × (r ≤ at + 1300000) ⌝ }
+    requires { ⌜ LinesFit at (variables + 2) × (variables ≤ numberLimit) ⌝ }
+    ensures { λ r. ⌜ Lines (variables + 2) at (boundSection atoms variables) (now (out .entry)) (now (out .exit)) r ⌝ }
 {
     let mut next = mps_line::put_text(out, at, b"BOUNDS\n");
     let mut v: usize = 0;

@@ -1,14 +1,22 @@
 -- A node at a slot, and its rows there.
 use mathlib.Core.Bool.{Bool, true, false}
 use mathlib.Core.List.{List}
+use Prim.Native.Nat.{ℕ, _+_, _≤_}
 use Rattle.rules.specs.Rows.{Row}
 use Rattle.table.specs.declared.Kind.{Kind}
 use Rattle.table.specs.declared.Kind.the-variants.{Atom, Not, And, Or, Implies, Eventually, Always, Until, Within, Throughout}
 use Rattle.window.specs.Slots.{Few, variables}
 use Rattle.row.specs.Kinds.{kindRows}
+use Rattle.mps_line.specs.Bounds.{numberLimit, LinesFit, plainLines}
+use Rattle.mps_row.specs.declared.Text.{Text}
+use Rattle.mps_row.specs.Texts.{TextFits}
 use Rattle.mps_window.specs.declared.Over.{Over}
 use Rattle.mps_window.specs.Places.{PartBelow}
 use Rattle.mps_slot.specs.declared.Spot.{Spot}
+
+-- the lines of its rows, without a window, can be put from `at` on; its first row is i
+abbrev pub RowsFit : (at : ℕ) → Text → (i : ℕ) → Type 0
+RowsFit at text i = LinesFit at plainLines × TextFits text × (i + plainLines ≤ numberLimit)
 
 abbrev pub overOf : Spot → (within : Bool) → Over
 overOf s within = record { within = within; own = s .own; left = s .first; looks = s .looks }

@@ -10,8 +10,9 @@ ghost use Prim.Native.Nat.{_+_, _≤_};
 ghost use Rattle.rules.specs.Rows.{sameRows, notRows, andRows, orRows, impliesRows, untilRows};
 ghost use Rattle.mps.specs.Page.{eachRow};
 ghost use Rattle.row.specs.Meaning.{rowOf};
-ghost use Rattle.mps_slot.specs.Spots.{overOf, spotRows, Seen};
-ghost use Rattle.mps_line.specs.Emitted.{Emitted};
+ghost use Rattle.mps_slot.specs.Spots.{RowsFit, overOf, spotRows, Seen};
+ghost use Rattle.mps_line.specs.Bounds.{numberLimit, LinesFit, plainLines, slotLines};
+ghost use Rattle.mps_line.specs.Emitted.{Lines};
 ghost use Rattle.mps_row.specs.Texts.{lineOf, TextFits};
 
 // A node at a slot: its variable there, its parts', and, where something follows (`inner`), that one's. A window looks at some slots; `first` is its
@@ -42,8 +43,8 @@ fn over(spot: Spot, within: bool) -> Over
 
 // The lines of three rows, from row i on.
 fn put_three(out: &mut [u8], at: usize, text: Text, i: usize, a: Row, b: Row, c: Row) -> usize
-    requires { ⌜ (at ≤ 1099511604000) × TextFits text × (i + 3 ≤ 1000000) ⌝ }
-    ensures { λ r. ⌜ Emitted at (eachRow (lineOf text) i (rowOf a ∷ rowOf b ∷ rowOf c ∷ [])) (now (out .entry)) (now (out .exit)) r × (r ≤ at + 120) ⌝ }
+    requires { ⌜ LinesFit at 3 × TextFits text × (i + 3 ≤ numberLimit) ⌝ }
+    ensures { λ r. ⌜ Lines 3 at (eachRow (lineOf text) i (rowOf a ∷ rowOf b ∷ rowOf c ∷ [])) (now (out .entry)) (now (out .exit)) r ⌝ }
 {
     let second = mps_row::put_row(out, at, text, i, a);
     let third = mps_row::put_row(out, second, text, i + 1, b);
@@ -52,24 +53,24 @@ fn put_three(out: &mut [u8], at: usize, text: Text, i: usize, a: Row, b: Row, c:
 
 // P − p = 0
 fn put_same(out: &mut [u8], at: usize, text: Text, i: usize, node: u16, p: u16) -> usize
-    requires { ⌜ (at ≤ 1099511600000) × TextFits text × (i + 4 ≤ 1000000) ⌝ }
-    ensures { λ r. ⌜ Emitted at (eachRow (lineOf text) i (sameRows node p)) (now (out .entry)) (now (out .exit)) r × (r ≤ at + 160) ⌝ }
+    requires { ⌜ RowsFit at text i ⌝ }
+    ensures { λ r. ⌜ Lines plainLines at (eachRow (lineOf text) i (sameRows node p)) (now (out .entry)) (now (out .exit)) r ⌝ }
 {
     mps_row::put_row(out, at, text, i, row::same(node, p))
 }
 
 // P + p = 1
 fn put_not(out: &mut [u8], at: usize, text: Text, i: usize, node: u16, p: u16) -> usize
-    requires { ⌜ (at ≤ 1099511600000) × TextFits text × (i + 4 ≤ 1000000) ⌝ }
-    ensures { λ r. ⌜ Emitted at (eachRow (lineOf text) i (notRows node p)) (now (out .entry)) (now (out .exit)) r × (r ≤ at + 160) ⌝ }
+    requires { ⌜ RowsFit at text i ⌝ }
+    ensures { λ r. ⌜ Lines plainLines at (eachRow (lineOf text) i (notRows node p)) (now (out .entry)) (now (out .exit)) r ⌝ }
 {
     mps_row::put_row(out, at, text, i, row::opposite(node, p))
 }
 
 // p − P ≥ 0; q − P ≥ 0; P − p − q ≥ −1
 fn put_and(out: &mut [u8], at: usize, text: Text, i: usize, node: u16, p: u16, q: u16) -> usize
-    requires { ⌜ (at ≤ 1099511600000) × TextFits text × (i + 4 ≤ 1000000) ⌝ }
-    ensures { λ r. ⌜ Emitted at (eachRow (lineOf text) i (andRows node p q)) (now (out .entry)) (now (out .exit)) r × (r ≤ at + 160) ⌝ }
+    requires { ⌜ RowsFit at text i ⌝ }
+    ensures { λ r. ⌜ Lines plainLines at (eachRow (lineOf text) i (andRows node p q)) (now (out .entry)) (now (out .exit)) r ⌝ }
 {
     put_three(
         out,
@@ -84,8 +85,8 @@ fn put_and(out: &mut [u8], at: usize, text: Text, i: usize, node: u16, p: u16, q
 
 // P − p ≥ 0; P − q ≥ 0; p + q − P ≥ 0
 fn put_or(out: &mut [u8], at: usize, text: Text, i: usize, node: u16, p: u16, q: u16) -> usize
-    requires { ⌜ (at ≤ 1099511600000) × TextFits text × (i + 4 ≤ 1000000) ⌝ }
-    ensures { λ r. ⌜ Emitted at (eachRow (lineOf text) i (orRows node p q)) (now (out .entry)) (now (out .exit)) r × (r ≤ at + 160) ⌝ }
+    requires { ⌜ RowsFit at text i ⌝ }
+    ensures { λ r. ⌜ Lines plainLines at (eachRow (lineOf text) i (orRows node p q)) (now (out .entry)) (now (out .exit)) r ⌝ }
 {
     put_three(
         out,
@@ -100,8 +101,8 @@ fn put_or(out: &mut [u8], at: usize, text: Text, i: usize, node: u16, p: u16, q:
 
 // P + p ≥ 1; P − q ≥ 0; q − p − P ≥ −1
 fn put_implies(out: &mut [u8], at: usize, text: Text, i: usize, node: u16, p: u16, q: u16) -> usize
-    requires { ⌜ (at ≤ 1099511600000) × TextFits text × (i + 4 ≤ 1000000) ⌝ }
-    ensures { λ r. ⌜ Emitted at (eachRow (lineOf text) i (impliesRows node p q)) (now (out .entry)) (now (out .exit)) r × (r ≤ at + 160) ⌝ }
+    requires { ⌜ RowsFit at text i ⌝ }
+    ensures { λ r. ⌜ Lines plainLines at (eachRow (lineOf text) i (impliesRows node p q)) (now (out .entry)) (now (out .exit)) r ⌝ }
 {
     put_three(
         out,
@@ -116,8 +117,9 @@ fn put_implies(out: &mut [u8], at: usize, text: Text, i: usize, node: u16, p: u1
 
 // P − q ≥ 0; p + q − P ≥ 0; q + P' − P ≥ 0; P − p − P' ≥ −1
 fn put_until(out: &mut [u8], at: usize, text: Text, i: usize, spot: Spot) -> usize
-    requires { ⌜ (at ≤ 1099511600000) × TextFits text × (i + 4 ≤ 1000000) ⌝ }
-    ensures { λ r. ⌜ Emitted at (eachRow (lineOf text) i (untilRows (spot .own) (spot .left) (spot .right) (spot .next))) (now (out .entry)) (now (out .exit)) r × (r ≤ at + 160) ⌝ }
+    requires { ⌜ RowsFit at text i ⌝ }
+    ensures { λ r. ⌜ Lines plainLines at (eachRow (lineOf text) i (untilRows (spot .own) (spot .left) (spot .right) (spot .next)))
+        (now (out .entry)) (now (out .exit)) r ⌝ }
 {
     let own = spot.own;
     let right = spot.right;
@@ -136,8 +138,8 @@ fn put_until(out: &mut [u8], at: usize, text: Text, i: usize, spot: Spot) -> usi
 
 // The lines of the rows of a node at a slot, from row i on.
 pub fn put_slot(out: &mut [u8], at: usize, text: Text, i: usize, spot: Spot) -> usize
-    requires { ⌜ (at ≤ 1099511600000) × TextFits text × (i + 65 ≤ 1000000) × Seen spot ⌝ }
-    ensures { λ r. ⌜ Emitted at (eachRow (lineOf text) i (spotRows spot)) (now (out .entry)) (now (out .exit)) r × (r ≤ at + 2600) ⌝ }
+    requires { ⌜ LinesFit at slotLines × TextFits text × (i + slotLines ≤ numberLimit) × Seen spot ⌝ }
+    ensures { λ r. ⌜ Lines slotLines at (eachRow (lineOf text) i (spotRows spot)) (now (out .entry)) (now (out .exit)) r ⌝ }
 {
     let kind = spot.kind;
     let own = spot.own;

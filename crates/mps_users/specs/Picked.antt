@@ -1,15 +1,13 @@
 -- A text that is mostly empty parts: the parts that are not.
 use mathlib.Core.Path.{_≡_, refl, sym, ap, ap₂, _∙_}
 use mathlib.Core.Bool.{Bool, true, false, cond}
-use mathlib.Core.List.{List, [], _∷_, _++_, append-assoc, append-nil}
+use mathlib.Core.List.{List, [], _∷_, _++_, append-assoc, append-nil, flatMap}
 use Prim.Native.Nat.{ℕ, zero, suc, _+_, _*_, _<_}
 use native.Mathlib.Decide.{decLt}
 use native.Mathlib.Nat.{suc-mul}
 use native.Mathlib.Omega.{arith}
 use lib.ListN.{length, getD}
-use Rattle.lists.specs.Flat.{flat, flat-zero, flat-first}
-use Rattle.mps.specs.Reading.{gather}
-use Rattle.mps.specs.Gathered.{gather-append}
+use Rattle.lists.specs.Flat.{flat, flat-zero, flat-first, flatMap-append}
 
 -- ---- parts one after the other, most of them empty
 
@@ -55,25 +53,25 @@ module _ {A : Type 0} (f : ℕ → List A) where
 
 -- ---- the parts of a list of numbers
 
-pub gather-listed : (f : ℕ → List ℕ) (us : List ℕ) → gather f us ≡ flat (λ j. f (getD us j 0)) (length us)
-unfolding gather
+pub gather-listed : (f : ℕ → List ℕ) (us : List ℕ) → flatMap f us ≡ flat (λ j. f (getD us j 0)) (length us)
+unfolding flatMap
 gather-listed f [] = sym (flat-zero _)
 gather-listed f (n ∷ us) = ap (λ (l : List ℕ). f n ++ l) (gather-listed f us) ∙ sym (flat-first (λ j. f (getD (n ∷ us) j 0)) (length us))
 
 -- parts that are empty where a test fails: those of the numbers that pass it
 module _ (f : ℕ → List ℕ) (test : ℕ → Bool) where
-  gather-one : (n : ℕ) (b : Bool) → (b ≡ false → f n ≡ []) → f n ≡ gather f (cond b (n ∷ []) [])
-  unfolding gather
+  gather-one : (n : ℕ) (b : Bool) → (b ≡ false → f n ≡ []) → f n ≡ flatMap f (cond b (n ∷ []) [])
+  unfolding flatMap
   gather-one n true e = sym (append-nil (f n))
   gather-one n false e = e refl
 
-  pub gather-picked : (k : ℕ) → ((n : ℕ) → n < k → test n ≡ false → f n ≡ []) → flat f k ≡ gather f (flat (λ n. cond (test n) (n ∷ []) []) k)
-  unfolding flat gather
+  pub gather-picked : (k : ℕ) → ((n : ℕ) → n < k → test n ≡ false → f n ≡ []) → flat f k ≡ flatMap f (flat (λ n. cond (test n) (n ∷ []) []) k)
+  unfolding flat flatMap
   gather-picked zero e = refl
   gather-picked (suc k) e =
       let picked : ℕ → List ℕ = λ n. cond (test n) (n ∷ []) [] in
       ap₂ _++_ (gather-picked k (λ n h. e n (omega arith))) (gather-one k (test k) (e k (omega arith)))
-      ∙ sym (gather-append f (flat picked k) (picked k))
+      ∙ sym (flatMap-append f (flat picked k) (picked k))
 
 -- ---- parts of equal length
 

@@ -1,7 +1,7 @@
 -- The rows in which a variable stands: those of its own node and of its parents; a V's, those of its node.
 use mathlib.Core.Path.{_≡_}
 use mathlib.Core.Bool.{Bool, cond, _||_, _&&_}
-use mathlib.Core.List.{List, [], _∷_, _++_}
+use mathlib.Core.List.{List, [], _∷_, _++_, flatMap}
 use Prim.Native.Nat.{ℕ, _+_, _*_}
 use lib.Dec.{eqb}
 use lib.ListN.{length, take}
@@ -12,7 +12,6 @@ use Rattle.rules.specs.Rows.{loops, looping, slackRows, goalRow}
 use Rattle.table.specs.Nodes.{nodeBy}
 use Rattle.table.specs.declared.Kind.{Kind}
 use Rattle.mps.specs.Page.{entryLine}
-use Rattle.mps.specs.Reading.{gather}
 use Rattle.mps_row.specs.Laws.{nodeText}
 
 -- The variables come in parts of T: the M atoms', then the nodes', then their V's. Whether part x is node n's own, or one of its parts.
@@ -48,4 +47,4 @@ module _ (T M L : ℕ) (ns : List Node) where
 
   -- the lines of the variable of part x at slot s + 1
   unfoldable pub variableText : (x s : ℕ) → List ℕ
-  variableText x s = gather (userText (x * T + s)) (users M ns x) ++ entryLine (x * T + s) (length (slackRows T M L ns)) (goalRow T M ns)
+  variableText x s = flatMap (userText (x * T + s)) (users M ns x) ++ entryLine (x * T + s) (length (slackRows T M L ns)) (goalRow T M ns)

@@ -1,4 +1,4 @@
-// Where the rows of each node begin and where its V does, and in which nodes' rows a block of variables stands.
+// Where the rows of each node begin and where its V does, and in which nodes' rows a part of the variables stands.
 use table::Kind;
 ghost use mathlib.Core.Path.{_≡_};
 ghost use Prim.Native.Nat.{_+_, _≤_, _<_};
@@ -6,10 +6,11 @@ ghost use lib.ListN.{length, set};
 ghost use Rattle.rules.specs.TableTest.{recordCount, nodesIn};
 ghost use Rattle.table.specs.Checks.{Ready};
 ghost use Rattle.rules.specs.Rows.{slackRows};
+ghost use Rattle.mps_line.specs.Bounds.{rowLimit};
 ghost use Rattle.mps_users.specs.Users.{UsedBy};
 ghost use Rattle.mps_users.specs.Found.{Layout, Found};
 
-// Whether block x is node n's own, or one of its parts'.
+// Whether part x of the variables is node n's own, or that of one of its parts.
 fn is_used(kind: Kind, left: usize, right: usize, m: usize, n: usize, x: usize) -> bool
     requires { ⌜ (m ≤ 16) × (n ≤ 128) × (left < 256) × (right < 256) ⌝ }
     ensures { λ r. ⌜ UsedBy kind left right m n x r ⌝ }
@@ -42,7 +43,8 @@ fn put_number(list: &mut [usize], at: usize, number: usize)
 // Writes the number of the first row of each node of a checked table and, 128 places on, the first variable of its V; returns how many rows they have.
 pub fn find_layout(table: &[u8], t: usize, m: usize, l: usize, layout: &mut [usize; 256]) -> usize
     requires { ⌜ Ready t m l (now table) × (length (now layout) ≡ 256) ⌝ }
-    ensures { λ r. ⌜ Layout t m l (nodesIn (now (table .entry))) (recordCount (now (table .entry))) (now (layout .exit)) × (r ≡ length (slackRows t m l (nodesIn (now (table .entry))))) × (r ≤ 589824) ⌝ }
+    ensures { λ r. ⌜ Layout t m l (nodesIn (now (table .entry))) (recordCount (now (table .entry))) (now (layout .exit))
+        × (r ≡ length (slackRows t m l (nodesIn (now (table .entry))))) × (r ≤ rowLimit) ⌝ }
 {
     let n = table::count(table);
     let mut sum: usize = 0;

@@ -51,7 +51,8 @@ minuses-other v [] h = tt
 minuses-other v (u ∷ vs) h = (h .0, minuses-other v vs (h .1))
 
 -- a term of v before terms of others
-first-term : (v : ℕ) (c : ℤ) (ts : List Term) → Every (λ (t : Term). t .variable ≡ v → ⊥) ts → c +ℤ pos 0 ≡ c → coefficient v (record { coefficient = c; variable = v } ∷ ts) ≡ c
+first-term : (v : ℕ) (c : ℤ) (ts : List Term) → Every (λ (t : Term). t .variable ≡ v → ⊥) ts → c +ℤ pos 0 ≡ c →
+    coefficient v (record { coefficient = c; variable = v } ∷ ts) ≡ c
 unfolding coefficient
 first-term v c ts h e = rw (eq-eqb v v refl, coefficient-none v ts h) e
 
@@ -98,7 +99,8 @@ long-lacks throughout P v vs a h = (a, minuses-other v vs h)
 
 pub over-lacks : (w : Window) (P v : ℕ) (vs : List ℕ) → (P ≡ v → ⊥) → Others v vs → Every (Lacks v) (overRows w P vs)
 over-lacks within P v vs a h = every-append (Lacks v) (map (pairRow within P) vs) _ .1 (pairs-lack within P v vs a h, (long-lacks within P v vs a h, tt))
-over-lacks throughout P v vs a h = every-append (Lacks v) (map (pairRow throughout P) vs) _ .1 (pairs-lack throughout P v vs a h, (long-lacks throughout P v vs a h, tt))
+over-lacks throughout P v vs a h = every-append (Lacks v) (map (pairRow throughout P) vs) _ .1
+    (pairs-lack throughout P v vs a h, (long-lacks throughout P v vs a h, tt))
 
 pub other-text : (i : ℕ) (w : Window) (P k : ℕ) (f : ℕ → ℕ) (v : ℕ) → (P ≡ v → ⊥) → ((j : ℕ) → j < k → f j ≡ v → ⊥) →
     [] ≡ eachRow (entryLine v) i (overRows w P (tabulate k f))
@@ -127,7 +129,8 @@ module _ (w : Window) (P v : ℕ) (a : P ≡ v → ⊥) where
             ap (λ (l : List Term). coefficient v (l ++ (minus P ∷ []))) (map-append plus before (v ∷ after))
             ∙ ap (coefficient v) (assoc (map plus before) (plus v ∷ map plus after) (minus P ∷ []))
             ∙ coefficient-append v (map plus before) _ (pluses-other v before b)
-            ∙ first-term v (pos 1) (map plus after ++ (minus P ∷ [])) (every-append (λ (t : Term). t .variable ≡ v → ⊥) (map plus after) (minus P ∷ []) .1 (pluses-other v after c, (a, tt))) refl
+            ∙ first-term v (pos 1) (map plus after ++ (minus P ∷ []))
+            (every-append (λ (t : Term). t .variable ≡ v → ⊥) (map plus after) (minus P ∷ []) .1 (pluses-other v after c, (a, tt))) refl
           where
             assoc : (x y z : List Term) → (x ++ y) ++ z ≡ x ++ (y ++ z)
             assoc [] y z = refl
@@ -143,10 +146,12 @@ module _ (w : Window) (P v : ℕ) (a : P ≡ v → ⊥) where
         let f : ℕ → Row = pairRow w P in
         ap (eachRow (entryLine v) i) (map-append f before (v ∷ after)) ∙ each-append (entryLine v) i (map f before) (f v ∷ map f after)
         ∙ ap₂ _++_ (absent v i (map f before) (pairs-lack w P v before a b))
-        (ap₂ _++_ (unit-line v _ (downs w) _ part-pair ∙ ap (λ (n : ℕ). unitLine v (i + n) (downs w)) (length-map before f)) (absent v _ (map f after) (pairs-lack w P v after a c))
+        (ap₂ _++_ (unit-line v _ (downs w) _ part-pair ∙ ap (λ (n : ℕ). unitLine v (i + n) (downs w)) (length-map before f))
+        (absent v _ (map f after) (pairs-lack w P v after a c))
         ∙ append-nil _)
 
-    part-lines : (i : ℕ) → eachRow (entryLine v) i (overRows w P (before ++ (v ∷ after))) ≡ unitLine v (i + length before) (downs w) ++ unitLine v (i + length (before ++ (v ∷ after))) (ups w)
+    part-lines : (i : ℕ) → eachRow (entryLine v) i (overRows w P (before ++ (v ∷ after)))
+        ≡ unitLine v (i + length before) (downs w) ++ unitLine v (i + length (before ++ (v ∷ after))) (ups w)
     part-lines i = over-text (entryLine v) i w P (before ++ (v ∷ after)) ∙ ap₂ _++_ (pairs-text i) (unit-line v _ (ups w) _ part-long)
 
 -- the variables about one of them

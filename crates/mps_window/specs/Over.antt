@@ -36,7 +36,8 @@ module _ (line : ℕ → Row → List ℕ) (i : ℕ) (w : Window) (P : ℕ) (vs 
   unfolding eachRow
   over-text =
       ap (eachRow line i) (over-rows w P vs) ∙ each-append line i (map (pairRow w P) vs) (longRow w P vs ∷ [])
-      ∙ ap (λ (l : List ℕ). eachRow line i (map (pairRow w P) vs) ++ l) (append-nil _ ∙ ap (λ (k : ℕ). line (i + k) (longRow w P vs)) (length-map vs (pairRow w P)))
+      ∙ ap (λ (l : List ℕ). eachRow line i (map (pairRow w P) vs) ++ l)
+      (append-nil _ ∙ ap (λ (k : ℕ). line (i + k) (longRow w P vs)) (length-map vs (pairRow w P)))
 
 pub each-tabulate : (line : ℕ → Row → List ℕ) (f : ℕ → Row) (i k : ℕ) → eachRow line i (tabulate k f) ≡ flat (λ j. line (i + j) (f j)) k
 unfolding eachRow

@@ -6,23 +6,23 @@ use window::Looks;
 ghost use mathlib.Core.Path.{_≡_};
 ghost use mathlib.Core.Bool.{not};
 ghost use mathlib.Core.List.{_++_};
-ghost use Prim.Native.Nat.{_+_, _-_, _*_, _≤_, _<_};
+ghost use Prim.Native.Nat.{_+_, _-_, _≤_, _<_};
 ghost use lib.IntN.{pos, negℤ};
 ghost use Rattle.lists.specs.Flat.{flat};
 ghost use Rattle.mps.specs.Words.{G, RHS};
 ghost use Rattle.mps.specs.Page.{rowName, typeLine, numberUnlessZero, entryLine, eachRow};
-ghost use Rattle.row.specs.Kinds.{overRows};
-ghost use Rattle.mps_line.specs.Emitted.{Emitted};
+ghost use Rattle.mps_line.specs.Bounds.{numberLimit, LinesFit, slotLines};
+ghost use Rattle.mps_line.specs.Emitted.{Lines};
 ghost use Rattle.mps_line.specs.Units.{unitLine};
 ghost use Rattle.mps_row.specs.Texts.{lineOf, TextFits};
-ghost use Rattle.window.specs.Slots.{windowBy, variables, Few};
+ghost use Rattle.window.specs.Slots.{windowBy, Few};
 ghost use Rattle.mps_window.specs.Over.{lastRight};
-ghost use Rattle.mps_window.specs.Places.{Placed, PartBelow};
+ghost use Rattle.mps_window.specs.Places.{rowsOver, Placed, PartBelow};
 
 // ROWS: `count` rows of type G from row i on.
 fn put_types(out: &mut [u8], at: usize, i: usize, count: usize) -> usize
-    requires { ⌜ (at ≤ 1099511600000) × (i + count ≤ 1000000) × (count ≤ 65) ⌝ }
-    ensures { λ r. ⌜ Emitted at (flat (λ j. typeLine G (rowName (i + j))) count) (now (out .entry)) (now (out .exit)) r × (r ≤ at + 40 * count) ⌝ }
+    requires { ⌜ LinesFit at count × (i + count ≤ numberLimit) ⌝ }
+    ensures { λ r. ⌜ Lines count at (flat (λ j. typeLine G (rowName (i + j))) count) (now (out .entry)) (now (out .exit)) r ⌝ }
 {
     let mut next = at;
     let mut j: usize = 0;
@@ -43,8 +43,8 @@ fn less(count: usize) -> i64
 
 // RHS: the right side of the last row, −(k − 1) for G, where it is not 0.
 fn put_right(out: &mut [u8], at: usize, i: usize, within: bool, count: usize) -> usize
-    requires { ⌜ (at ≤ 1099511600000) × (i < 1000000) × (1 ≤ count) × (count ≤ 64) ⌝ }
-    ensures { λ r. ⌜ Emitted at (numberUnlessZero RHS i (lastRight (windowBy within) count)) (now (out .entry)) (now (out .exit)) r × (r ≤ at + 40) ⌝ }
+    requires { ⌜ LinesFit at 1 × (i < numberLimit) × (1 ≤ count) × (count ≤ 64) ⌝ }
+    ensures { λ r. ⌜ Lines 1 at (numberUnlessZero RHS i (lastRight (windowBy within) count)) (now (out .entry)) (now (out .exit)) r ⌝ }
 {
     if within {
         return at;
@@ -57,8 +57,8 @@ fn put_right(out: &mut [u8], at: usize, i: usize, within: bool, count: usize) ->
 
 // Entries of the same number in `count` rows from row i on.
 fn put_units(out: &mut [u8], at: usize, v: usize, i: usize, up: bool, count: usize) -> usize
-    requires { ⌜ (at ≤ 1099511610000) × (v < 1000000) × (i + count ≤ 1000000) × (count ≤ 64) ⌝ }
-    ensures { λ r. ⌜ Emitted at (flat (λ j. unitLine v (i + j) up) count) (now (out .entry)) (now (out .exit)) r × (r ≤ at + 40 * count) ⌝ }
+    requires { ⌜ LinesFit at count × (v < numberLimit) × (i + count ≤ numberLimit) ⌝ }
+    ensures { λ r. ⌜ Lines count at (flat (λ j. unitLine v (i + j) up) count) (now (out .entry)) (now (out .exit)) r ⌝ }
 {
     let mut next = at;
     let mut j: usize = 0;
@@ -109,8 +109,9 @@ fn place_of(looks: Looks, left: u16, v: usize) -> Place
 
 // The entries of the node's own variable: in every row.
 fn put_own(out: &mut [u8], at: usize, v: usize, i: usize, within: bool, count: usize) -> usize
-    requires { ⌜ (at ≤ 1099511600000) × (v < 1000000) × (i + 65 ≤ 1000000) × (count ≤ 64) ⌝ }
-    ensures { λ r. ⌜ Emitted at (flat (λ j. unitLine v (i + j) within) count ++ unitLine v (i + count) (not within)) (now (out .entry)) (now (out .exit)) r × (r ≤ at + 2600) ⌝ }
+    requires { ⌜ LinesFit at slotLines × (v < numberLimit) × (i + slotLines ≤ numberLimit) × (count ≤ 64) ⌝ }
+    ensures { λ r. ⌜ Lines slotLines at (flat (λ j. unitLine v (i + j) within) count ++ unitLine v (i + count) (not within))
+        (now (out .entry)) (now (out .exit)) r ⌝ }
 {
     let last = put_units(out, at, v, i, within, count);
     mps_line::put_unit(out, last, v, i + count, !within)
@@ -126,8 +127,8 @@ fn put_part(
     within: bool,
     count: usize,
 ) -> usize
-    requires { ⌜ (at ≤ 1099511600000) × (v < 1000000) × (i + 65 ≤ 1000000) × (j < count) × (count ≤ 64) ⌝ }
-    ensures { λ r. ⌜ Emitted at (unitLine v (i + j) (not within) ++ unitLine v (i + count) within) (now (out .entry)) (now (out .exit)) r × (r ≤ at + 2600) ⌝ }
+    requires { ⌜ LinesFit at slotLines × (v < numberLimit) × (i + slotLines ≤ numberLimit) × (j < count) × (count ≤ 64) ⌝ }
+    ensures { λ r. ⌜ Lines slotLines at (unitLine v (i + j) (not within) ++ unitLine v (i + count) within) (now (out .entry)) (now (out .exit)) r ⌝ }
 {
     let last = mps_line::put_unit(out, at, v, i + j, !within);
     mps_line::put_unit(out, last, v, i + count, within)
@@ -135,8 +136,8 @@ fn put_part(
 
 // The column of variable v: the node's own, the part's at one of the window's slots, or another.
 pub fn put_entries(out: &mut [u8], at: usize, v: usize, i: usize, over: Over) -> usize
-    requires { ⌜ (at ≤ 1099511600000) × (v < 1000000) × (i + 65 ≤ 1000000) × Few (over .looks) × PartBelow over ⌝ }
-    ensures { λ r. ⌜ Emitted at (eachRow (entryLine v) i (overRows (windowBy (over .within)) (over .own) (variables (over .looks) (over .left)))) (now (out .entry)) (now (out .exit)) r × (r ≤ at + 2600) ⌝ }
+    requires { ⌜ LinesFit at slotLines × (v < numberLimit) × (i + slotLines ≤ numberLimit) × Few (over .looks) × PartBelow over ⌝ }
+    ensures { λ r. ⌜ Lines slotLines at (eachRow (entryLine v) i (rowsOver over)) (now (out .entry)) (now (out .exit)) r ⌝ }
 {
     let looks = over.looks;
     let within = over.within;
@@ -153,8 +154,8 @@ pub fn put_entries(out: &mut [u8], at: usize, v: usize, i: usize, over: Over) ->
 
 // The lines of a window's rows from row i on: a row for each slot, and the last row.
 pub fn put_window(out: &mut [u8], at: usize, text: Text, i: usize, over: Over) -> usize
-    requires { ⌜ (at ≤ 1099511600000) × TextFits text × (i + 65 ≤ 1000000) × Few (over .looks) × PartBelow over ⌝ }
-    ensures { λ r. ⌜ Emitted at (eachRow (lineOf text) i (overRows (windowBy (over .within)) (over .own) (variables (over .looks) (over .left)))) (now (out .entry)) (now (out .exit)) r × (r ≤ at + 2600) ⌝ }
+    requires { ⌜ LinesFit at slotLines × TextFits text × (i + slotLines ≤ numberLimit) × Few (over .looks) × PartBelow over ⌝ }
+    ensures { λ r. ⌜ Lines slotLines at (eachRow (lineOf text) i (rowsOver over)) (now (out .entry)) (now (out .exit)) r ⌝ }
 {
     let looks = over.looks;
     let count = scalars::wide(looks.count);

@@ -1,2 +1,3 @@
-pub mod Print
+pub mod Page
+pub mod Exact
 pub mod Outcomes

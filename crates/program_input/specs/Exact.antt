@@ -170,7 +170,8 @@ module _ (room t m : ℕ) where
   past-run g l [] r h = record { stage = g; state-is = ap (at g t m) (sym (ap (take room) (append-nil l) ∙ take-all room l h)); shape = reading-shaped r }
   past-run g l (b ∷ x) r h = go (eqb b 10) refl (past-run Rule (kept room l b) x in-rule (kept-short l b h))
     where
-      go : (c : Bool) → eqb b 10 ≡ c → Past (take room (kept room l b ++ line x)) (steps room (at Rule t m (kept room l b)) x) → Past (take room (l ++ cond c [] (b ∷ line x))) (steps room (stepped room (at g t m l) b) x)
+      go : (c : Bool) → eqb b 10 ≡ c → Past (take room (kept room l b ++ line x)) (steps room (at Rule t m (kept room l b)) x) →
+          Past (take room (l ++ cond c [] (b ∷ line x))) (steps room (stepped room (at g t m l) b) x)
       go true e p = record {
         stage = Done;
         state-is =
@@ -190,14 +191,17 @@ break-step room t m = refl
 
 -- ---- what the scan of an input whose first line has the shape ends in
 
-pub scanned : (room : ℕ) (input : List ℕ) {T M : ℕ} → FirstLine (line input) T M → Past room (min 1000 T) (min 1000 M) (take room (line (afterLine input))) (steps room begin input)
+pub scanned : (room : ℕ) (input : List ℕ) {T M : ℕ} → FirstLine (line input) T M →
+    Past room (min 1000 T) (min 1000 M) (take room (line (afterLine input))) (steps room begin input)
 unfolding steps line
 scanned room input {T} {M} f = go (split input)
   where
     go : Split input → Past room (min 1000 T) (min 1000 M) (take room (line (afterLine input))) (steps room begin input)
     go (whole p q) = record {
       stage = Atoms;
-      state-is = ap (steps room begin) (sym p) ∙ first-run room f ∙ ap (at Atoms (min 1000 T) (min 1000 M)) (sym (ap (λ (l : List ℕ). take room (line l)) q ∙ take-nil room));
+      state-is =
+          ap (steps room begin) (sym p) ∙ first-run room f
+          ∙ ap (at Atoms (min 1000 T) (min 1000 M)) (sym (ap (λ (l : List ℕ). take room (line l)) q ∙ take-nil room));
       shape = refl;
     }
     go (broken p) =
@@ -303,7 +307,8 @@ reached-all : (room : ℕ) (s : State) (pre x : List ℕ) → Reached (s .stage)
 unfolding steps
 reached-all room s pre [] r = rw append-nil r
 reached-all room s pre (b ∷ x) r =
-    subst (Reached (steps room (stepped room s b) x .stage)) (append-assoc pre (b ∷ []) x) (reached-all room (stepped room s b) (pre ++ (b ∷ [])) x (reached-step room s pre b r))
+    subst (Reached (steps room (stepped room s b) x .stage)) (append-assoc pre (b ∷ []) x)
+    (reached-all room (stepped room s b) (pre ++ (b ∷ [])) x (reached-step room s pre b r))
 
 first-over : (pre : List ℕ) → Over pre → (T : ℕ) × (M : ℕ) × FirstLine (line pre) T M
 unfolding line
@@ -342,7 +347,9 @@ isAtoms Done = false
 isAtoms Bad = false
 
 others : (s : List ℕ) → isAtoms (steps 0 begin s .stage) ≡ false → Dec (Shaped s)
-others s e = no (λ p. let a : isAtoms (steps 0 begin s .stage) ≡ true = ap (λ (x : State). isAtoms (x .stage)) (first-run 0 (p .2)) in let z : _≡_ {A = ℕ} 0 1 = cc in absurd (omega arith))
+others s e =
+    no (λ p. let a : isAtoms (steps 0 begin s .stage) ≡ true = ap (λ (x : State). isAtoms (x .stage)) (first-run 0 (p .2)) in
+    let z : _≡_ {A = ℕ} 0 1 = cc in absurd (omega arith))
 
 decided : (s : List ℕ) (g : Stage) → steps 0 begin s .stage ≡ g → Reached g s → Dec (Shaped s)
 decided s Start e r = others s (ap isAtoms e)

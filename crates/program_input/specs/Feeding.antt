@@ -34,7 +34,8 @@ fedText s text = s .rule ++ drop (length (s .rule)) text
 pub feeding-start : (s : Scan) (text chunk : List ℕ) → Feeding s text chunk 0 s text
 feeding-start s text chunk = record { leads = refl; beyond = refl; same-length = refl }
 
-pub feeding-next : {s₀ s r : Scan} {text₀ text text′ chunk : List ℕ} (i : ℕ) → i < length chunk → Feeding s₀ text₀ chunk i s text → Stepped s text (getD chunk i 0) r text′ → Feeding s₀ text₀ chunk (i + 1) r text′
+pub feeding-next : {s₀ s r : Scan} {text₀ text text′ chunk : List ℕ} (i : ℕ) → i < length chunk → Feeding s₀ text₀ chunk i s text →
+    Stepped s text (getD chunk i 0) r text′ → Feeding s₀ text₀ chunk (i + 1) r text′
 unfolding steps
 feeding-next {s₀} {s} {r} {text₀} {text} {text′} {chunk} i h f p = record {
   leads =
@@ -76,7 +77,8 @@ keep-full text count b h = record {
 
 -- the text after a byte, by whether the stage keeps it
 module _ (text : List ℕ) (count b : ℕ) (g : Stage) (t : Bool) (test : t ≡ keeps g) where
-  pub rule-kept : {text′ : List ℕ} {r : ℕ} → t ≡ true → Kept (kept (length text) (take count text) b) text count text′ r → Kept (ruleAfter (length text) g (take count text) b) text count text′ r
+  pub rule-kept : {text′ : List ℕ} {r : ℕ} → t ≡ true → Kept (kept (length text) (take count text) b) text count text′ r →
+      Kept (ruleAfter (length text) g (take count text) b) text count text′ r
   rule-kept e p = let h : keeps g ≡ true = sym test ∙ e in rw h p
 
   pub rule-passed : t ≡ false → Kept (ruleAfter (length text) g (take count text) b) text count text count
@@ -99,7 +101,8 @@ all-stepped s text b k g t m n text′ kind-is stage-is slots-is atoms-is p = re
 
 -- ---- the whole chunk
 
-pub fed-state : {s₀ s : Scan} {text₀ text chunk : List ℕ} (i : ℕ) → length chunk ≤ i → Feeding s₀ text₀ chunk i s text → state s text ≡ steps (length text₀) (state s₀ text₀) chunk
+pub fed-state : {s₀ s : Scan} {text₀ text chunk : List ℕ} (i : ℕ) → length chunk ≤ i → Feeding s₀ text₀ chunk i s text →
+    state s text ≡ steps (length text₀) (state s₀ text₀) chunk
 unfolding steps
 fed-state {s₀} {s} {text₀} {text} {chunk} i h f =
     let e : drop i chunk ≡ [] = drop-of-length-le chunk h in
@@ -116,6 +119,7 @@ kept-drop n l l₀ e d = go (leb n (length l)) refl
         let a : take n l ≡ l = take-all n l (omega arith) in
         rw (a, drop-of-length-le l₀ {i = length l} (omega arith)) (sym (append-nil l))
 
-pub fed-text : {s₀ s : Scan} {text₀ text chunk : List ℕ} (i : ℕ) → length chunk ≤ i → Feeding s₀ text₀ chunk i s text → text ≡ fedText (steps (length text₀) (state s₀ text₀) chunk) text₀
+pub fed-text : {s₀ s : Scan} {text₀ text chunk : List ℕ} (i : ℕ) → length chunk ≤ i → Feeding s₀ text₀ chunk i s text →
+    text ≡ fedText (steps (length text₀) (state s₀ text₀) chunk) text₀
 fed-text {s₀} {s} {text₀} {text} {chunk} i h f =
     kept-drop (s .kept) text text₀ (f .same-length) (f .beyond) ∙ ap (λ (x : State). fedText x text₀) (fed-state i h f)

@@ -1,4 +1,4 @@
--- The input of program rowlist: its lines, and the shape of the first.
+-- The input of programs rowlist and mpspage: its lines, and the shape of the first.
 use mathlib.Core.Bool.{cond}
 use mathlib.Core.List.{List, [], _∷_, _++_}
 use Prim.Native.Nat.{ℕ, _+_, _*_, _<_}

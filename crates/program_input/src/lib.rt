@@ -2,7 +2,8 @@
 ghost use mathlib.Core.Path.{_≡_};
 ghost use Prim.Native.Nat.{_+_, _-_, _*_, _≤_};
 ghost use lib.ListN.{length, take};
-ghost use Rattle.program_input.specs.Scanning.{state, kindOf, picked, advanced, grown as grownBy, slotsAfter, atomsAfter, kept, keeps, ruleAfter, steps, shaped};
+ghost use Rattle.program_input.specs.Scanning.{state, kindOf, picked, advanced, grown as grownBy, slotsAfter, atomsAfter};
+ghost use Rattle.program_input.specs.Scanning.{kept, keeps, ruleAfter, steps, shaped};
 ghost use Rattle.program_input.specs.Feeding.{Stepped, Kept, fedText};
 
 // How far the input is read: T, the space, M, the line feed, line 2, past line 2; or line 1 is of another shape.
@@ -200,7 +201,8 @@ fn step(scan: Scan, b: u8, text: &mut [u8]) -> Scan
 // The next bytes of the input.
 pub fn feed(scan: Scan, chunk: &[u8], text: &mut [u8]) -> Scan
     ensures { λ r. ⌜ state r (now (text .exit)) ≡ steps (length (now (text .entry))) (state scan (now (text .entry))) (now (chunk .entry)) ⌝ }
-    ensures { λ _. ⌜ now (text .exit) ≡ fedText (steps (length (now (text .entry))) (state scan (now (text .entry))) (now (chunk .entry))) (now (text .entry)) ⌝ }
+    ensures { λ _. ⌜ now (text .exit) ≡
+        fedText (steps (length (now (text .entry))) (state scan (now (text .entry))) (now (chunk .entry))) (now (text .entry)) ⌝ }
 {
     let mut s = scan;
     let mut i: usize = 0;

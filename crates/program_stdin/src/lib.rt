@@ -21,7 +21,8 @@ fn read_some(scan: program_input::Scan, text: &mut [u8]) -> Turn
     Turn::More(program_input::feed(scan, &buffer[..n], text))
 }
 
-// Reads the input to its end. The scan and the text that it keeps stand for some bytes, scanned from the start; that these are the input's is not in the contract, which knows nothing of it.
+// Reads the input to its end. The scan and the text that it keeps stand for some bytes, scanned from the start;
+// that these are the input's is not in the contract, which knows nothing of it.
 pub fn read_all(text: &mut [u8]) -> program_input::Scan
     ensures { λ r. ⌜ Scanned (length (now (text .entry))) r (now (text .exit)) ⌝ }
 {

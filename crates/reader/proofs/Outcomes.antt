@@ -29,7 +29,7 @@ use Rattle.answers.specs.Meaning.{numberOf, answerOf}
 use Rattle.reader_levels.specs.declared.Step.{Step}
 use Rattle.reader_levels.specs.declared.Step.the-variants.{Fail, Part}
 use Rattle.reader_levels.specs.Records.{top, flaw, records, length-records}
-use Rattle.reader_levels.specs.Steps.{Told}
+use Rattle.reader_levels.specs.Steps.{Yields}
 use Rattle.reader_levels.specs.Parts.{Got, got, failed}
 use Rattle.reader.proofs.Records.{records-table, below-top, top-below, good-flaw}
 
@@ -60,7 +60,7 @@ module _ (m : ℕ) (s out : List ℕ) where
         unfolding readOutcome
         outcome-of x e = rw (le-leb 1 m low, le-leb m 16 high, le-leb (length s) 1024 short) (ap (ruleChecked m (length out)) e)
 
-        module _ (scratch scratch₁ : List ℕ) (r : Step) (told-is : Told s (parsed (of implies) s 0) 0 scratch scratch₁ r) where
+        module _ (scratch scratch₁ : List ℕ) (r : Step) (told-is : Yields s (parsed (of implies) s 0) 0 scratch scratch₁ r) where
           pub no-rule : r ≡ Fail → Kept m s out out (Refused Grammar)
           unfolding reading
           no-rule e = refuses Grammar (outcome-of none (ap (whole s) (failed s (parsed (of implies) s 0) 0 scratch scratch₁ r told-is e)))
@@ -72,12 +72,15 @@ module _ (m : ℕ) (s out : List ℕ) where
             pub more-text : next < length s → Kept m s out out (Refused Grammar)
             unfolding reading
             more-text h =
-                refuses Grammar (outcome-of none (ap (whole s) (first .is) ∙ ap (λ (b : Bool). cond b none (some (first .rule))) (lt-ltb (start s (first .end)) (length s) (omega (arith, first .skipped)))))
+                refuses Grammar (outcome-of none (ap (whole s) (first .is)
+                ∙ ap (λ (b : Bool). cond b none (some (first .rule))) (lt-ltb (start s (first .end)) (length s) (omega (arith, first .skipped)))))
 
             module _ (to-end : length s ≤ next) where
               reading-is : reading s ≡ some (first .rule)
               unfolding reading
-              reading-is = ap (whole s) (first .is) ∙ ap (λ (b : Bool). cond b none (some (first .rule))) (le-ltb (start s (first .end)) (length s) (omega (arith, first .skipped)))
+              reading-is =
+                  ap (whole s) (first .is)
+                  ∙ ap (λ (b : Bool). cond b none (some (first .rule))) (le-ltb (start s (first .end)) (length s) (omega (arith, first .skipped)))
 
               pub atom-too-high : m ≤ high-atom → Kept m s out out (Refused AtomNumber)
               atom-too-high h =
@@ -89,7 +92,12 @@ module _ (m : ℕ) (s out : List ℕ) where
                 window-refused h =
                     let p = first .rule in
                     refuses Window (outcome-of (some p) reading-is
-                    ∙ rw (below-top m p (omega arith), lt-ltb (top p) m (omega (arith, first .highest)), good-flaw p, ne-eqb (flaw p) 0 (λ z. omega (arith, first .faulty))) refl)
+                    ∙ rw (
+                      below-top m p (omega arith),
+                      lt-ltb (top p) m (omega (arith, first .highest)),
+                      good-flaw p,
+                      ne-eqb (flaw p) 0 (λ z. omega (arith, first .faulty)),
+                    ) refl)
 
                 module _ (allowed : fault ≤ 0) where
                   no-flaw : eqb (flaw (first .rule)) 0 ≡ true
@@ -99,21 +107,41 @@ module _ (m : ℕ) (s out : List ℕ) where
                   many-nodes h =
                       let p = first .rule in
                       refuses Nodes (outcome-of (some p) reading-is
-                      ∙ rw (below-top m p (omega arith), lt-ltb (top p) m (omega (arith, first .highest)), good-flaw p, no-flaw, lt-leb (size p) 128 (omega (arith, first .count))) refl)
+                      ∙ rw (
+                        below-top m p (omega arith),
+                        lt-ltb (top p) m (omega (arith, first .highest)),
+                        good-flaw p,
+                        no-flaw,
+                        lt-leb (size p) 128 (omega (arith, first .count)),
+                      ) refl)
 
                   module _ (few : nodes ≤ 128) where
                     pub small-buffer : length out < 8 * nodes → Kept m s out out (Refused Room)
                     small-buffer h =
                         let p = first .rule in
                         refuses Room (outcome-of (some p) reading-is
-                        ∙ rw (below-top m p (omega arith), lt-ltb (top p) m (omega (arith, first .highest)), good-flaw p, no-flaw, le-leb (size p) 128 (omega (arith, first .count)), lt-leb (8 * size p) (length out) (omega (arith, first .count))) refl)
+                        ∙ rw (
+                          below-top m p (omega arith),
+                          lt-ltb (top p) m (omega (arith, first .highest)),
+                          good-flaw p,
+                          no-flaw,
+                          le-leb (size p) 128 (omega (arith, first .count)),
+                          lt-leb (8 * size p) (length out) (omega (arith, first .count)),
+                        ) refl)
 
                     module _ (room : 8 * nodes ≤ length out) (wide : length scratch ≡ 1024) where
                       outcome-is : readOutcome m s (length out) ≡ answered (wrote (size (first .rule)) (tableBytes (nodesOf (first .rule))))
                       outcome-is =
                           let p = first .rule in
                           outcome-of (some p) reading-is
-                          ∙ rw (below-top m p (omega arith), lt-ltb (top p) m (omega (arith, first .highest)), good-flaw p, no-flaw, le-leb (size p) 128 (omega (arith, first .count)), le-leb (8 * size p) (length out) (omega (arith, first .count))) refl
+                          ∙ rw (
+                            below-top m p (omega arith),
+                            lt-ltb (top p) m (omega (arith, first .highest)),
+                            good-flaw p,
+                            no-flaw,
+                            le-leb (size p) 128 (omega (arith, first .count)),
+                            le-leb (8 * size p) (length out) (omega (arith, first .count)),
+                          ) refl
 
                       -- the first records of the scratch
                       scratch-is : take (8 * nodes) scratch₁ ≡ records 0 (first .rule)
@@ -126,7 +154,8 @@ module _ (m : ℕ) (s out : List ℕ) where
                       table-is : take (8 * nodes) scratch₁ ≡ tableBytes (nodesOf (first .rule))
                       table-is =
                           let p = first .rule in
-                          scratch-is ∙ records-table p (top-below m p (omega arith) (omega (arith, first .highest))) (omega (arith, first .faulty)) (omega (arith, first .count))
+                          scratch-is ∙ records-table p (top-below m p (omega arith) (omega (arith, first .highest))) (omega (arith, first .faulty))
+                          (omega (arith, first .count))
 
                       pub part-length : 8 * nodes ≡ length (take (8 * nodes) scratch₁)
                       part-length = omega (arith, ap length scratch-is, length-records 0 (first .rule), first .count)
@@ -134,7 +163,9 @@ module _ (m : ℕ) (s out : List ℕ) where
                       pub part-fits : 8 * nodes ≤ length scratch₁
                       part-fits = omega (arith, ap length (first .wrote wide), length-sets scratch (8 * 0) (records 0 (first .rule)))
 
-                      pub all-read : (out₁ : List ℕ) → out₁ ≡ take (length (take (8 * nodes) scratch₁)) (take (8 * nodes) scratch₁) ++ drop (length (take (8 * nodes) scratch₁)) out → Kept m s out out₁ (Value nodes)
+                      pub all-read : (out₁ : List ℕ) →
+                          out₁ ≡ take (length (take (8 * nodes) scratch₁)) (take (8 * nodes) scratch₁) ++ drop (length (take (8 * nodes) scratch₁)) out →
+                          Kept m s out out₁ (Value nodes)
                       all-read out₁ e =
                           let t = take (8 * nodes) scratch₁ in
                           let c : nodes ≡ size (first .rule) = omega (arith, first .count) in (

@@ -1,4 +1,5 @@
--- The records that the levels write are the node table where numbers fit a byte, their highest atom number tells refusal 5, and the mark of a window that is not allowed refusal 12.
+-- The records that the levels write are the node table where numbers fit a byte, their highest atom number tells refusal 5, and the mark of
+-- a window that is not allowed refusal 12.
 use mathlib.Core.Path.{_≡_, refl, sym, ap, _∙_}
 use mathlib.Core.Bool.{Bool, true, false, cond, _&&_, and-false}
 use mathlib.Core.List.{[], _∷_}
@@ -14,17 +15,17 @@ use Rattle.rules.specs.Table.{unaryKind, binaryKind, windowKind, tableBytes, no
 use Rattle.rules.specs.RuleRecords.{recordsFrom, rule-records}
 use Rattle.rules.specs.TableTest.{windowGood}
 use Rattle.rules.specs.Outcome.{atomsBelow, windowsGood}
-use Rattle.reader_levels.specs.Records.{top, bad, flaw, height-less, entry, records}
+use Rattle.reader_levels.specs.Records.{top, windowFlaw, flaw, height-less, entry, records}
 
 -- ---- a window that is not allowed
 
-bad-cases : (a b : ℕ) (x y : Bool) → leb a b ≡ x → leb b 63 ≡ y → _≡_ {A = ℕ} (cond (x && y) 0 1) 0 → (a ≤ b) × (b ≤ 63)
-bad-cases a b true true e f h = (leb-true a b e, leb-true b 63 f)
-bad-cases a b true false e f h = absurd (omega arith)
-bad-cases a b false y e f h = absurd (omega arith)
+window-flaw-cases : (a b : ℕ) (x y : Bool) → leb a b ≡ x → leb b 63 ≡ y → _≡_ {A = ℕ} (cond (x && y) 0 1) 0 → (a ≤ b) × (b ≤ 63)
+window-flaw-cases a b true true e f h = (leb-true a b e, leb-true b 63 f)
+window-flaw-cases a b true false e f h = absurd (omega arith)
+window-flaw-cases a b false y e f h = absurd (omega arith)
 
-bad-none : (a b : ℕ) → bad a b ≡ 0 → (a ≤ b) × (b ≤ 63)
-bad-none a b h = bad-cases a b (leb a b) (leb b 63) refl refl h
+bad-none : (a b : ℕ) → windowFlaw a b ≡ 0 → (a ≤ b) × (b ≤ 63)
+bad-none a b h = window-flaw-cases a b (leb a b) (leb b 63) refl refl h
 
 -- numbers up to 255 decide it
 cut-cases : (a b : ℕ) (x y : Bool) → leb a b ≡ x → leb b 63 ≡ y → (x && y) ≡ windowGood (min 255 a) (min 255 b)
@@ -60,7 +61,8 @@ records-from : (n : ℕ) (p : Rule) → AtomsBelow 256 p → flaw p ≡ 0 → n 
 unfolding records
 records-from n (atom a) low good few =
     let e : min 255 a ≡ a = omega arith in
-    entry-fits 1 (min 255 a) 0 0 0 0 (omega arith) (omega arith) (omega arith) (omega arith) (omega arith) ∙ ap (λ (x : ℕ). 0x4E ∷ 0x44 ∷ 1 ∷ x ∷ 0 ∷ 0 ∷ 0 ∷ 0 ∷ []) e
+    entry-fits 1 (min 255 a) 0 0 0 0 (omega arith) (omega arith) (omega arith) (omega arith) (omega arith)
+    ∙ ap (λ (x : ℕ). 0x4E ∷ 0x44 ∷ 1 ∷ x ∷ 0 ∷ 0 ∷ 0 ∷ 0 ∷ []) e
 records-from n (unary u p) low good few =
     let h = records-from n p low good (omega arith) in
     let s = size-positive p in
@@ -74,7 +76,9 @@ records-from n (binary o p q) low good few =
     let t = size-positive q in
     let y = height-less p in
     let z = height-less q in
-    let e = entry-fits (binaryKind o) (n + size p - 1) (n + size p + size q - 1) 0 0 (max (height p) (height q) + 1) (omega arith) (omega arith) (omega arith) (omega arith) (omega arith) in
+    let e =
+    entry-fits (binaryKind o) (n + size p - 1) (n + size p + size q - 1) 0 0 (max (height p) (height q) + 1) (omega arith) (omega arith) (omega arith)
+    (omega arith) (omega arith) in
     rw (h, k, e) refl
 records-from n (windowed w a b p) low good few =
     let h = records-from n p low (omega arith) (omega arith) in
@@ -83,7 +87,9 @@ records-from n (windowed w a b p) low good few =
     let g = bad-none (min 255 a) (min 255 b) (omega arith) in
     let i : min 255 a ≡ a = omega (arith, g) in
     let j : min 255 b ≡ b = omega (arith, g) in
-    let e = entry-fits (windowKind w) (n + size p - 1) 0 (min 255 a) (min 255 b) (height p + 1) (omega arith) (omega arith) (omega arith) (omega arith) (omega arith) in
+    let e =
+    entry-fits (windowKind w) (n + size p - 1) 0 (min 255 a) (min 255 b) (height p + 1) (omega arith) (omega arith) (omega arith) (omega arith)
+    (omega arith) in
     rw (h, e, i, j) refl
 
 allowed : (p : Rule) → flaw p ≡ 0 → WindowsAllowed p
@@ -139,7 +145,7 @@ good-flaw (atom a) = refl
 good-flaw (unary u p) = good-flaw p
 good-flaw (binary o p q) = rw (good-flaw p, good-flaw q) (either (flaw p) (flaw q))
 good-flaw (windowed w a b p) =
-    let x = bad (min 255 a) (min 255 b) in
+    let x = windowFlaw (min 255 a) (min 255 b) in
     let e : windowGood a b ≡ eqb x 0 = good-cut a b ∙ mark-is (windowGood (min 255 a) (min 255 b)) in
     rw (e, good-flaw p) (turned (eqb x 0) (eqb (flaw p) 0) ∙ either (flaw p) x)
 

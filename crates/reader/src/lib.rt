@@ -26,8 +26,8 @@ pub fn read(text: &[u8], m: usize, out: &mut [u8]) -> answers::Answer
             next,
             nodes,
             top,
-            bad,
-            high: _,
+            flaw,
+            height: _,
         } => {
             if next < text.len() {
                 return answers::Answer::Refused(answers::Refusal::Grammar);
@@ -35,7 +35,7 @@ pub fn read(text: &[u8], m: usize, out: &mut [u8]) -> answers::Answer
             if m <= top {
                 return answers::Answer::Refused(answers::Refusal::AtomNumber);
             }
-            if 0 < bad {
+            if 0 < flaw {
                 return answers::Answer::Refused(answers::Refusal::Window);
             }
             if 128 < nodes {

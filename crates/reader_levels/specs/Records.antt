@@ -24,27 +24,27 @@ top-le (binary o p q) = let h = top-le p in let k = top-le q in omega arith
 top-le (windowed w a b p) = top-le p
 
 -- 1 where a window is not allowed, and else 0; 1 where a rule has such a window
-abbrev pub bad : (a b : ℕ) → ℕ
-bad a b = cond (windowGood a b) 0 1
+abbrev pub windowFlaw : (a b : ℕ) → ℕ
+windowFlaw a b = cond (windowGood a b) 0 1
 
 abbrev pub flaw : Rule → ℕ
 flaw (atom a) = 0
 flaw (unary u p) = flaw p
 flaw (binary o p q) = max (flaw p) (flaw q)
-flaw (windowed w a b p) = max (flaw p) (bad (min 255 a) (min 255 b))
+flaw (windowed w a b p) = max (flaw p) (windowFlaw (min 255 a) (min 255 b))
 
-bad-cases : (x : Bool) → cond x 0 1 ≤ 1
-bad-cases true = omega arith
-bad-cases false = omega arith
+window-flaw-cases : (x : Bool) → cond x 0 1 ≤ 1
+window-flaw-cases true = omega arith
+window-flaw-cases false = omega arith
 
-pub bad-le : (a b : ℕ) → bad a b ≤ 1
-bad-le a b = bad-cases (windowGood a b)
+pub window-flaw-le : (a b : ℕ) → windowFlaw a b ≤ 1
+window-flaw-le a b = window-flaw-cases (windowGood a b)
 
 pub flaw-le : (p : Rule) → flaw p ≤ 1
 flaw-le (atom a) = omega arith
 flaw-le (unary u p) = flaw-le p
 flaw-le (binary o p q) = let h = flaw-le p in let k = flaw-le q in omega arith
-flaw-le (windowed w a b p) = let h = flaw-le p in let k = bad-le (min 255 a) (min 255 b) in omega arith
+flaw-le (windowed w a b p) = let h = flaw-le p in let k = window-flaw-le (min 255 a) (min 255 b) in omega arith
 
 -- a node's height is below its count of nodes
 pub height-less : (p : Rule) → height p < size p

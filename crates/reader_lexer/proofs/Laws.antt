@@ -8,7 +8,8 @@ use lib.ListN.{length, getD, drop}
 use lib.Dec.{ltb, eqb}
 use borrow.Author.Tests.{lt-ltb, le-ltb, eq-eqb, ne-eqb}
 use Rattle.rules.specs.Reading.Lexer
-use Rattle.rules.specs.Reading.Lexer.{start, digits, value, isDigit, isNumeral, Numeric, atomAt, tokenAt, numberAt, signAt, pastSign, token-none, token-sign, token-letter, numeral-is, numeral-empty, numeral-zero}
+use Rattle.rules.specs.Reading.Lexer.{start, digits, value, isDigit, isNumeral, Numeric, atomAt, tokenAt, numberAt, signAt, pastSign, token-none}
+use Rattle.rules.specs.Reading.Lexer.{token-sign, token-letter, numeral-is, numeral-empty, numeral-zero}
 use Rattle.reader_lexer.specs.declared.Token.{Token}
 use Rattle.reader_lexer.specs.declared.Token.the-variants.{Other, Sign, Atom}
 use Rattle.reader_lexer.specs.Capped.{capped, none-of, sign-of, atom-of}
@@ -25,7 +26,8 @@ pub value-capped : (s : List ℕ) (v w : ℕ) → min 255 v ≡ min 255 w → mi
 unfolding value
 value-capped [] v w h = h
 value-capped (c ∷ s) v w h =
-    cap-step (isDigit c) (value (10 * v + (c - 48)) s) (value (10 * w + (c - 48)) s) v w (value-capped s (10 * v + (c - 48)) (10 * w + (c - 48)) (omega arith)) h
+    cap-step (isDigit c) (value (10 * v + (c - 48)) s) (value (10 * w + (c - 48)) s) v w
+    (value-capped s (10 * v + (c - 48)) (10 * w + (c - 48)) (omega arith)) h
 
 -- ---- digits as a number, by the tests of `numeral`
 
@@ -81,7 +83,8 @@ module _ (s : List ℕ) (b : ℕ) (t : Lexer.Token) (x : Token) (token-is : x �
   bound-sign c next e = let f = sign-of t x c next token-is e in record { value = sym (ap valueOf f); behind = sym (ap (nextOf s b) f) }
 
   pub bound-found : (a next q : ℕ) → x ≡ Atom a next → q ≡ signAt s next b → BoundIs a q
-  bound-found a next q e f = let g = atom-of t x a next token-is e in record { value = g .cut ∙ sym (ap valueOf (g .is)); behind = f ∙ sym (ap (nextOf s b) (g .is)) }
+  bound-found a next q e f =
+      let g = atom-of t x a next token-is e in record { value = g .cut ∙ sym (ap valueOf (g .is)); behind = f ∙ sym (ap (nextOf s b) (g .is)) }
 
 -- ---- a sign, by the byte where its token begins
 
@@ -101,7 +104,8 @@ module _ (s : List ℕ) (p byte : ℕ) where
       let atom = Lexer.Token.atom (value 0 d) (p + 1 + digits d) in
       let sign = Lexer.Token.sign (getD s p 0) (p + 1) in
       sym (past-cond byte (ltb p (length s)) (cond (eqb (getD s p 0) 97) (atomAt s (p + 1)) sign) Lexer.Token.none
-      (past-cond byte (eqb (getD s p 0) 97) (atomAt s (p + 1)) sign (past-cond byte (isNumeral (digits d) (getD s (p + 1) 0)) atom Lexer.Token.none refl refl) (rw (ne-eqb (getD s p 0) byte ne) refl)) refl)
+      (past-cond byte (eqb (getD s p 0) 97) (atomAt s (p + 1)) sign
+      (past-cond byte (isNumeral (digits d) (getD s (p + 1) 0)) atom Lexer.Token.none refl refl) (rw (ne-eqb (getD s p 0) byte ne) refl)) refl)
 
   pub byte-none : length s ≤ p → 0 ≡ signFrom s p byte
   unfolding signFrom

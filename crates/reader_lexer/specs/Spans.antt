@@ -1,4 +1,4 @@
--- A window of a text, with its numbers up to 255: "b above 63" and "a above b" are decided there.
+-- A window of a text, with its numbers up to 255: that is enough to tell whether "a is above b or b above 63".
 use mathlib.Core.Path.{_≡_, refl, sym, ap, _∙_}
 use mathlib.Core.List.{List}
 use Prim.Native.Nat.{ℕ, zero, suc, min}
@@ -68,7 +68,8 @@ module _ (s : List ℕ) where
       Window (valueOf t) (valueOf (numberAt s (nextOf s 44 t))) (nextOf s 93 (numberAt s (nextOf s 44 t))) ≡ cut (firstNumber s t)
   then-found Lexer.Token.none ne nf = absurd (ne refl)
   then-found (Lexer.Token.sign c next) ne nf = absurd (ne refl)
-  then-found (Lexer.Token.atom a next) ne nf = second-found a (numberAt s (signAt s next 44)) (min 255 a) nf refl ∙ sym (ap cut (comma-second a (signAt s next 44) ne))
+  then-found (Lexer.Token.atom a next) ne nf =
+      second-found a (numberAt s (signAt s next 44)) (min 255 a) nf refl ∙ sym (ap cut (comma-second a (signAt s next 44) ne))
 
   module _ (at comma : ℕ) (comma-is : comma ≡ nextOf s 44 (numberAt s at)) where
     pub no-first : comma ≡ 0 → None ≡ cut (spanAt s at)

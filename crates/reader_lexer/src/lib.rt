@@ -21,9 +21,10 @@ pub enum Span {
     Window { from: usize, to: usize, next: usize },
 }
 
-pub struct Run {
-    pub end: usize,
-    pub value: usize,
+// The number that digits stand for, and the position past them.
+struct Number {
+    value: usize,
+    end: usize,
 }
 
 // A number of a window, and the position past the sign behind it, or 0.
@@ -56,31 +57,32 @@ fn more(v: usize, x: usize) -> usize
 }
 
 // The digits from `from` on: where they end, and their number, or 255 for all from there on.
-fn digits(text: &[u8], from: usize) -> Run
-    ensures { λ r. ⌜ (r .end ≡ from + digitCount (drop from (now (text .entry)))) × (r .value ≡ min 255 (value 0 (drop from (now (text .entry))))) ⌝ }
+fn digits(text: &[u8], from: usize) -> Number
+    ensures { λ r. ⌜ (r .end ≡ from + digitCount (drop from (now (text .entry)))) ×
+        (r .value ≡ min 255 (value 0 (drop from (now (text .entry))))) ⌝ }
 {
     let mut i = from;
     let mut v: usize = 0;
     while i < text.len() {
         let x = scalars::wide_byte(text[i]);
         if x < 48 {
-            return Run { end: i, value: v };
+            return Number { value: v, end: i };
         }
         if 57 < x {
-            return Run { end: i, value: v };
+            return Number { value: v, end: i };
         }
         v = more(v, x);
         i += 1;
     }
-    Run { end: i, value: v }
+    Number { value: v, end: i }
 }
 
 // The digits from `d` on, as an atom's, where they are a decimal number without leading zeros.
 fn numeral(text: &[u8], d: usize) -> Token
     ensures { λ r. ⌜ r ≡ capped (atomAt (now (text .entry)) d) ⌝ }
 {
-    let run = digits(text, d);
-    let end = run.end;
+    let read = digits(text, d);
+    let end = read.end;
     if end == d {
         return Token::Other;
     }
@@ -88,13 +90,9 @@ fn numeral(text: &[u8], d: usize) -> Token
         if text[d] == b'0' {
             return Token::Other;
         }
-        return Token::Atom {
-            number: run.value,
-            next: end,
-        };
     }
     Token::Atom {
-        number: run.value,
+        number: read.value,
         next: end,
     }
 }
@@ -150,7 +148,8 @@ pub fn past(text: &[u8], at: usize, byte: u8) -> usize
 // The number at `at`, with the sign `byte` behind it.
 fn bound_at(text: &[u8], at: usize, byte: u8) -> Bound
     requires { ⌜ (byte ≡ 97 → ⊥) ⌝ }
-    ensures { λ r. ⌜ (r .value ≡ valueOf (numberAt (now (text .entry)) at)) × (r .next ≡ nextOf (now (text .entry)) byte (numberAt (now (text .entry)) at)) ⌝ }
+    ensures { λ r. ⌜ (r .value ≡ valueOf (numberAt (now (text .entry)) at)) ×
+        (r .next ≡ nextOf (now (text .entry)) byte (numberAt (now (text .entry)) at)) ⌝ }
 {
     match number_at(text, at) {
         Token::Atom { number, next } => {

@@ -12,8 +12,8 @@ ghost use Rattle.rules.specs.Rows.{ge, eq, plus, minus};
 ghost use Rattle.table.specs.Looping.{loopsBy};
 ghost use Rattle.row.specs.Kinds.{slotCount, leftBlock, Allowed, blockCount};
 ghost use Rattle.row.specs.NodeRows.{Own, Kept, nodeCount};
-ghost use Rattle.row.specs.Placed.{Small, Placed};
-ghost use Rattle.row.specs.Meaning.{rowOf};
+ghost use Rattle.row.specs.Placed.{blockLimit, firstLimit, slotRowLimit, Small, Placed};
+ghost use Rattle.row.specs.Meaning.{termOf, rowOf};
 
 pub enum Relation {
     AtLeast,
@@ -23,6 +23,26 @@ pub enum Relation {
 pub struct Term {
     pub coefficient: i8,
     pub variable: u16,
+}
+
+impl Term {
+    pub fn plus(variable: u16) -> Self
+        ensures { λ r. ⌜ termOf r ≡ plus variable ⌝ }
+    {
+        Self {
+            coefficient: 1,
+            variable: variable,
+        }
+    }
+
+    pub fn minus(variable: u16) -> Self
+        ensures { λ r. ⌜ termOf r ≡ minus variable ⌝ }
+    {
+        Self {
+            coefficient: -1,
+            variable: variable,
+        }
+    }
 }
 
 pub enum Terms {
@@ -54,8 +74,8 @@ pub struct Block {
 // The first variable of a block: the variables stand in blocks of t, one for each slot; the atoms' come first, then the nodes' and
 // then the V's.
 pub fn first_variable(block: usize, t: usize) -> u16
-    requires { ⌜ (block ≤ 400) × (t ≤ 64) ⌝ }
-    ensures { λ r. ⌜ (r ≡ block * t) × (r ≤ 25600) ⌝ }
+    requires { ⌜ (block ≤ blockLimit) × (t ≤ 64) ⌝ }
+    ensures { λ r. ⌜ (r ≡ block * t) × (r ≤ firstLimit) ⌝ }
 {
     (block * t) as u16
 }
@@ -71,7 +91,7 @@ pub fn slack(t: usize, m: usize, n: usize, slot: usize) -> u16
 // The block of a node's left part: an atom's own, or a node's after the m atoms'.
 pub fn left_block(kind: Kind, m: usize, left: usize) -> usize
     requires { ⌜ (m ≤ 16) × (left < 256) ⌝ }
-    ensures { λ r. ⌜ (r ≡ leftBlock kind m left) × (r ≤ 400) ⌝ }
+    ensures { λ r. ⌜ (r ≡ leftBlock kind m left) × (r ≤ blockLimit) ⌝ }
 {
     match kind {
         Kind::Atom => left,
@@ -94,16 +114,7 @@ pub fn same(a: u16, b: u16) -> Row
     Row {
         relation: Relation::Equal,
         right: 0,
-        terms: Terms::Pair(
-            Term {
-                coefficient: 1,
-                variable: a,
-            },
-            Term {
-                coefficient: -1,
-                variable: b,
-            },
-        ),
+        terms: Terms::Pair(Term::plus(a), Term::minus(b)),
     }
 }
 
@@ -114,16 +125,7 @@ pub fn opposite(a: u16, b: u16) -> Row
     Row {
         relation: Relation::Equal,
         right: 1,
-        terms: Terms::Pair(
-            Term {
-                coefficient: 1,
-                variable: a,
-            },
-            Term {
-                coefficient: 1,
-                variable: b,
-            },
-        ),
+        terms: Terms::Pair(Term::plus(a), Term::plus(b)),
     }
 }
 
@@ -134,16 +136,7 @@ pub fn above(a: u16, b: u16) -> Row
     Row {
         relation: Relation::AtLeast,
         right: 0,
-        terms: Terms::Pair(
-            Term {
-                coefficient: 1,
-                variable: a,
-            },
-            Term {
-                coefficient: -1,
-                variable: b,
-            },
-        ),
+        terms: Terms::Pair(Term::plus(a), Term::minus(b)),
     }
 }
 
@@ -154,16 +147,7 @@ pub fn either(a: u16, b: u16) -> Row
     Row {
         relation: Relation::AtLeast,
         right: 1,
-        terms: Terms::Pair(
-            Term {
-                coefficient: 1,
-                variable: a,
-            },
-            Term {
-                coefficient: 1,
-                variable: b,
-            },
-        ),
+        terms: Terms::Pair(Term::plus(a), Term::plus(b)),
     }
 }
 
@@ -174,20 +158,7 @@ pub fn covered(a: u16, b: u16, c: u16) -> Row
     Row {
         relation: Relation::AtLeast,
         right: 0,
-        terms: Terms::Triple(
-            Term {
-                coefficient: 1,
-                variable: a,
-            },
-            Term {
-                coefficient: 1,
-                variable: b,
-            },
-            Term {
-                coefficient: -1,
-                variable: c,
-            },
-        ),
+        terms: Terms::Triple(Term::plus(a), Term::plus(b), Term::minus(c)),
     }
 }
 
@@ -198,20 +169,7 @@ pub fn forced(a: u16, b: u16, c: u16) -> Row
     Row {
         relation: Relation::AtLeast,
         right: -1,
-        terms: Terms::Triple(
-            Term {
-                coefficient: 1,
-                variable: a,
-            },
-            Term {
-                coefficient: -1,
-                variable: b,
-            },
-            Term {
-                coefficient: -1,
-                variable: c,
-            },
-        ),
+        terms: Terms::Triple(Term::plus(a), Term::minus(b), Term::minus(c)),
     }
 }
 
@@ -222,10 +180,7 @@ pub fn goal(a: u16) -> Row
     Row {
         relation: Relation::Equal,
         right: 1,
-        terms: Terms::Single(Term {
-            coefficient: 1,
-            variable: a,
-        }),
+        terms: Terms::Single(Term::plus(a)),
     }
 }
 
@@ -240,7 +195,7 @@ pub fn less_one(k: u16) -> i8
 // How many rows a node of this kind has at a slot; `inner` is whether a slot follows, and `looks` how many slots its window has.
 pub fn slot_count(kind: Kind, inner: bool, looks: usize) -> usize
     requires { ⌜ looks ≤ 64 ⌝ }
-    ensures { λ r. ⌜ (r ≡ slotCount kind inner looks) × (r ≤ 65) ⌝ }
+    ensures { λ r. ⌜ (r ≡ slotCount kind inner looks) × (r ≤ slotRowLimit) ⌝ }
 {
     match kind {
         Kind::Atom => 1,
@@ -258,15 +213,15 @@ pub fn slot_count(kind: Kind, inner: bool, looks: usize) -> usize
 
 // How many rows stand before a slot, counted from 0, with as many at each slot.
 pub fn rows_before(slot: usize, rows: usize) -> usize
-    requires { ⌜ (slot ≤ 63) × (rows ≤ 65) ⌝ }
-    ensures { λ r. ⌜ (r ≡ slot * rows) × (r ≤ 4095) ⌝ }
+    requires { ⌜ (slot ≤ 63) × (rows ≤ slotRowLimit) ⌝ }
+    ensures { λ r. ⌜ (r ≡ slot * rows) × (r ≤ 63 * slotRowLimit) ⌝ }
 {
     slot * rows
 }
 
 // The block of node n, whose V has the first variable v.
 pub fn own_block(node: Node, t: usize, m: usize, l: usize, n: usize, v: u16) -> Block
-    requires { ⌜ (1 ≤ l) × (l ≤ t) × (t ≤ 64) × (m ≤ 16) × (n < 128) × (v ≤ 25600) × Small node ⌝ }
+    requires { ⌜ (1 ≤ l) × (l ≤ t) × (t ≤ 64) × (m ≤ 16) × (n < 128) × (v ≤ firstLimit) × Small node ⌝ }
     ensures { λ r. ⌜ Own t m l n v node r × Placed r ⌝ }
 {
     let kind = node.kind;
@@ -285,7 +240,7 @@ pub fn own_block(node: Node, t: usize, m: usize, l: usize, n: usize, v: u16) -> 
 
 // The block of its V.
 pub fn kept_block(block: Block, v: u16) -> Block
-    requires { ⌜ Placed block × (v ≤ 25600) ⌝ }
+    requires { ⌜ Placed block × (v ≤ firstLimit) ⌝ }
     ensures { λ r. ⌜ Kept v block r × Placed r ⌝ }
 {
     let kind = block.kind;
@@ -319,7 +274,7 @@ fn last_count(loops: bool, inner: usize) -> usize
 // How many rows a block of this kind and with this window has at t slots that loop to slot l.
 pub fn block_count(kind: Kind, loops: bool, t: u16, l: u16, a: u16, b: u16) -> usize
     requires { ⌜ (1 ≤ l) × (l ≤ t) × (t ≤ 64) × Allowed kind a b ⌝ }
-    ensures { λ r. ⌜ (r ≡ blockCount kind loops t l a b) × (t ≤ r) × (r ≤ 65 * t) ⌝ }
+    ensures { λ r. ⌜ (r ≡ blockCount kind loops t l a b) × (t ≤ r) × (r ≤ slotRowLimit * t) ⌝ }
 {
     let slots = t as usize;
     match kind {
@@ -339,7 +294,7 @@ pub fn block_count(kind: Kind, loops: bool, t: u16, l: u16, a: u16, b: u16) -> u
 // How many rows a node has, its V's with them.
 pub fn node_count(kind: Kind, t: u16, l: u16, a: u16, b: u16) -> usize
     requires { ⌜ (1 ≤ l) × (l ≤ t) × (t ≤ 64) × Allowed kind a b ⌝ }
-    ensures { λ r. ⌜ (r ≡ nodeCount kind t l a b) × (r ≤ 130 * t) ⌝ }
+    ensures { λ r. ⌜ (r ≡ nodeCount kind t l a b) × (r ≤ 2 * (slotRowLimit * t)) ⌝ }
 {
     let own = block_count(kind, l < t, t, l, a, b);
     if has_kept(kind, t as usize, l as usize) {

@@ -2,9 +2,9 @@
 use libc::STDOUT_FILENO;
 
 fn main() {
-    let mut text = [0u8; 1025];
+    let mut text = [0u8; program_rule::TEXT];
     let scan = program_stdin::read_all(&mut text);
-    let mut page = [0u8; 184000];
+    let mut page = [0u8; rowlist_text::LISTING];
     let n = rowlist_page::print(scan, &text, &mut page);
     io::write_all(STDOUT_FILENO, &page[..n]);
 }

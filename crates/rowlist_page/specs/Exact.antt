@@ -1,69 +1,54 @@
--- The page in terms of the lines alone, and that the scan of an input stands for its page.
-use mathlib.Core.Path.{_≡_, refl, sym, ap, _∙_}
-use mathlib.Core.Bool.{Bool, true, false, cond}
-use mathlib.Core.List.{List, _++_}
-use Prim.Native.Nat.{ℕ, _+_, min, _≤_, _<_}
-use native.Mathlib.Omega.{arith}
-use lib.ListN.{length, take, drop}
-use lib.Seq.{sets, sets-eq, length-sets}
-use Rattle.program_input.specs.Lines.{line, afterLine, FirstLine}
-use Rattle.program_input.specs.declared.Stage.the-variants.{Start}
-use Rattle.program_input.specs.declared.Scan.{Scan}
-use Rattle.program_input.specs.Scanning.{state, begin, steps, shaped}
-use Rattle.program_input.specs.Exact.{scanned, shaped-first, firstLine?, started}
-use Rattle.rowlist_page.specs.Page.{listing, badInput, pageOf, page, shown}
-use Rattle.rowlist_page.specs.Cut.{listing-cut}
+-- What program rowlist prints is exact.
+use mathlib.Core.Path.{_≡_, refl, ap, _∙_}
+use mathlib.Core.Bool.{Bool, true, false}
+use mathlib.Core.List.{List}
+use Prim.Native.Nat.{ℕ, _+_, _*_}
+use lib.Dec.{leb}
+use lib.ListN.{length}
+use Rattle.rules.specs.Quantities.{SlotsAllowed, AtomsAllowed}
+use Rattle.rules.specs.Rule.{size}
+use Rattle.rules.specs.Table.{Node, Good, tableBytes, nodesOf}
+use Rattle.rules.specs.TableTest.{good-nodes}
+use Rattle.rules.specs.Rows.{Row, rowsOf, rowsBytes}
+use Rattle.rules.specs.RowRecords.{rows-back, rows-recordable}
+use Rattle.rules.specs.Demands.Answer.{answered}
+use Rattle.rules.specs.Demands.Written.{wrote}
+use Rattle.rules.specs.Outcome.{require, rowsOutcome}
+use Rattle.rowlist_text.specs.Sizes.{rowsRoom}
+use Rattle.program_rule.specs.Output.{OutputExact}
+use Rattle.program_rule.specs.Cut.{Cut, printed-cut}
+use Rattle.program_rule.specs.Whole.{output-exact}
+use Rattle.program_rule.specs.Refusing.{good-passes, rule-exact}
+use Rattle.rowlist_page.specs.Page.{listingText, ListExact, rowsThen, listWork, listed, listing, page}
 
--- an input whose first line has the shape, scanned with room for a text that is too long
-shown-listing : (room : ℕ) (input : List ℕ) {T M : ℕ} → 1024 < room → FirstLine (line input) T M → shown (steps room begin input) ≡ listing T M (line (afterLine input))
-unfolding shown
-shown-listing room input {T} {M} h f =
-    let p = scanned room input f in
-    ap shown (p .state-is)
-    ∙ ap (λ (b : Bool). cond b (listing (min 1000 T) (min 1000 M) (take room (line (afterLine input)))) badInput) (p .shape)
-    ∙ listing-cut T M room (line (afterLine input)) h
+-- ---- "Of the refusals of reader and row writer, the lowest is printed", and else the rows of the rule
 
-shown-bad : (room : ℕ) (input : List ℕ) → ((T M : ℕ) → FirstLine (line input) T M → ⊥) → shown (steps room begin input) ≡ badInput
-unfolding shown
-shown-bad room input n = go (shaped (steps room begin input .stage)) refl
-  where
-    go : (b : Bool) → shaped (steps room begin input .stage) ≡ b → shown (steps room begin input) ≡ badInput
-    go true e = let p = shaped-first room input e in absurd (n (p .0) (p .1) (p .2))
-    go false e = rw e refl
+-- the work on a good table, whose nodes are ns
+module _ (T M N : ℕ) (table : List ℕ) (ns : List Node) (slots : SlotsAllowed T) (atoms : AtomsAllowed M) (good : Good M table ns) where
+  rows-outcome : rowsOutcome T M T table rowsRoom ≡
+      require (leb (length (rowsBytes (rowsOf T M T ns))) rowsRoom) 11 (answered (wrote (length (rowsOf T M T ns)) (rowsBytes (rowsOf T M T ns))))
+  unfolding rowsOutcome
+  rows-outcome = good-passes T M table ns _ slots atoms good ∙ rw (good-nodes M table ns good) refl
 
--- The scan of an input stands for its page.
-pub shown-page : (room : ℕ) (input : List ℕ) → 1024 < room → shown (steps room begin input) ≡ page input
-unfolding page
-shown-page room input h = go (firstLine? (line input))
-  where
-    go : (d : Dec ((T : ℕ) × (M : ℕ) × FirstLine (line input) T M)) → shown (steps room begin input) ≡ pageOf d (line (afterLine input))
-    go (yes p) = shown-listing room input h (p .2)
-    go (no p) = shown-bad room input (λ T M f. p (T, M, f))
+  rows-listed : listWork T M N table ≡
+      require (leb (length (rowsBytes (rowsOf T M T ns))) rowsRoom) 11 (answered (record { variables = (M + N) * T; rows = rowsOf T M T ns }))
+  rows-listed = ap (rowsThen T M N) rows-outcome ∙ go (leb (length (rowsBytes (rowsOf T M T ns))) rowsRoom)
+    where
+      go : (b : Bool) → rowsThen T M N (require b 11 (answered (wrote (length (rowsOf T M T ns)) (rowsBytes (rowsOf T M T ns))))) ≡
+          require b 11 (answered (record { variables = (M + N) * T; rows = rowsOf T M T ns }))
+      go true =
+          ap (λ (rs : List Row). answered (record { variables = (M + N) * T; rows = rs }))
+          (rows-back (rowsOf T M T ns) (rows-recordable T M T (slots .1) ns))
+      go false = refl
 
--- a started scan, fed an input with a text of 1,025 bytes
-pub fed-page : (s r : Scan) (text text′ input : List ℕ) → length text ≡ 1025 → (s .stage ≡ Start) × (s .slots ≡ 0) × (s .atoms ≡ 0) × (s .kept ≡ 0) → state r text′ ≡ steps (length text) (state s text) input → shown (state r text′) ≡ page input
-fed-page s r text text′ input l b e = ap shown e ∙ rw (l, started s text b) (shown-page 1025 input (omega arith))
+pub list-exact : ListExact listed
+list-exact = rule-exact listWork rowsRoom _ _ (λ T M p s m g. rows-listed T M (size p) (tableBytes (nodesOf p)) (nodesOf p) s m g)
 
--- The page of an input whose first line is T and M, and of every other.
-pub record PageExact (input : List ℕ) : Type 0 where
-  pub lists : {T M : ℕ} → FirstLine (line input) T M → page input ≡ listing T M (line (afterLine input))
-  pub bad : ((T M : ℕ) → FirstLine (line input) T M → ⊥) → page input ≡ badInput
+-- ---- the output of the whole input
 
-pub page-exact : (input : List ℕ) → PageExact input
-page-exact input = record {
-  lists = λ f. sym (shown-page 1025 input (omega arith)) ∙ shown-listing 1025 input (omega arith) f;
-  bad = λ n. sym (shown-page 1025 input (omega arith)) ∙ shown-bad 1025 input n;
-}
+pub listing-cut : Cut listing
+unfolding listing
+listing-cut = printed-cut listWork listingText
 
--- ---- a page buffer of 184,000 bytes
-
--- it keeps its length
-pub page-length : (xs l l′ : List ℕ) → length l ≡ 184000 → l′ ≡ sets l 0 xs → length l′ ≡ 184000
-page-length xs l l′ e f = ap length f ∙ length-sets l 0 xs ∙ e
-
--- a page that fits it stands at its start, and what stood behind is kept
-pub page-front : (xs l : List ℕ) → length l ≡ 184000 → length xs ≤ 184000 → sets l 0 xs ≡ xs ++ drop (length xs) l
-page-front xs l e h =
-    let f : 0 + length xs ≤ length l = omega arith in
-    let z : 0 + length xs ≡ length xs = omega arith in
-    sets-eq xs l 0 f ∙ ap (λ (n : ℕ). xs ++ drop n l) z
+pub page-exact : OutputExact listing page
+page-exact = output-exact listing listing-cut

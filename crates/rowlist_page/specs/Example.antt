@@ -12,8 +12,12 @@ use Rattle.rules.specs.Outcome.{readOutcome, tableChecked, rowsOutcome}
 use Rattle.text.specs.Decimal.{digitsTo, decimal}
 use Rattle.rowlist_text.specs.RowText.{termsText, rowText, rowsText, headText}
 use Rattle.program_input.specs.Scanning.{begin, stepped, steps}
-use Rattle.rowlist_page.specs.Page.{ruleOutcome, listed, listing, page, shown}
-use Rattle.rowlist_page.specs.Exact.{shown-page}
+use Rattle.program_rule.specs.Sizes.{textRoom}
+use Rattle.program_rule.specs.Outcome.{ruleOutcome, ruleThen}
+use Rattle.program_rule.specs.Shown.{shown}
+use Rattle.program_rule.specs.Whole.{shown-output}
+use Rattle.rowlist_page.specs.Page.{listing, page}
+use Rattle.rowlist_page.specs.Exact.{listing-cut}
 
 abbrev pub exampleInput : List ℕ
 exampleInput = 50 ∷ 32 ∷ 50 ∷ 10 ∷ 97 ∷ 48 ∷ 85 ∷ 97 ∷ 49 ∷ 10 ∷ []
@@ -32,9 +36,10 @@ examplePage =
     ((56 ∷ 32 ∷ 61 ∷ 32 ∷ 48 ∷ 32 ∷ 43 ∷ 57 ∷ 32 ∷ 45 ∷ 55 ∷ 10 ∷ []) ++
     ((57 ∷ 32 ∷ 61 ∷ 32 ∷ 49 ∷ 32 ∷ 43 ∷ 56 ∷ 10 ∷ [])))))))))))
 
-computed : shown (steps 1025 begin exampleInput) ≡ examplePage
-unfolding shown listing listed ruleOutcome steps stepped readOutcome reading parsed parse tokenAt signAt spaces digits value isNumeral rowsOutcome tableChecked good recordGood nodeIn nodesIn all headText rowsText rowText termsText decimal digitsTo
+computed : shown listing (steps textRoom begin exampleInput) ≡ examplePage
+unfolding shown listing ruleThen ruleOutcome steps stepped readOutcome reading parsed parse tokenAt signAt spaces digits value isNumeral rowsOutcome
+    tableChecked good recordGood nodeIn nodesIn all headText rowsText rowText termsText decimal digitsTo
 computed = refl
 
 pub example : page exampleInput ≡ examplePage
-example = sym (shown-page 1025 exampleInput (omega arith)) ∙ computed
+example = sym (shown-output listing listing-cut textRoom exampleInput (omega arith)) ∙ computed

@@ -18,7 +18,8 @@ unfolding termsText
 terms-none zero b e = refl
 terms-none (suc k) b e = absurd (omega arith)
 
-pub terms-more : (k p v : ℕ) (b : List ℕ) → (k ≡ 0 → ⊥) → v ≡ getD b (p + 1) 0 + 256 * getD b (p + 2) 0 → termsText (termsIn k (drop p b)) ≡ (32 ∷ signOf (signedIn (getD b p 0)) ∷ decimal v) ++ termsText (termsIn (k - 1) (drop (p + 3) b))
+pub terms-more : (k p v : ℕ) (b : List ℕ) → (k ≡ 0 → ⊥) → v ≡ getD b (p + 1) 0 + 256 * getD b (p + 2) 0 →
+    termsText (termsIn k (drop p b)) ≡ (32 ∷ signOf (signedIn (getD b p 0)) ∷ decimal v) ++ termsText (termsIn (k - 1) (drop (p + 3) b))
 unfolding termsText
 terms-more zero p v b h e = absurd (h refl)
 terms-more (suc k) p v b h e = let z : suc k - 1 ≡ k = omega arith in rw (z, e, ← drop-drop 3 p b, ← getD-drop p b 1 0, ← getD-drop p b 2 0, ← first) refl
@@ -46,7 +47,8 @@ rest-done r = record { content = r .content; ends = omega (arith, r .ends) }
 
 -- a row by its record from byte p on
 pub row-at : (i p : ℕ) (b : List ℕ) →
-    decimal i ++ (32 ∷ (relationText (relationIn (getD b (p + 2) 0)) ++ (32 ∷ (signedText (signedIn (getD b (p + 4) 0)) ++ (termsText (termsIn (getD b (p + 3) 0) (drop (p + 5) b)) ++ (10 ∷ [])))))) ≡ rowText i (rowIn (drop p b))
+    decimal i ++ (32 ∷ (relationText (relationIn (getD b (p + 2) 0)) ++ (32 ∷
+    (signedText (signedIn (getD b (p + 4) 0)) ++ (termsText (termsIn (getD b (p + 3) 0) (drop (p + 5) b)) ++ (10 ∷ [])))))) ≡ rowText i (rowIn (drop p b))
 unfolding rowText
 row-at i p b = rw (getD-drop p b 2 0, getD-drop p b 3 0, getD-drop p b 4 0, drop-drop 5 p b) refl
 
@@ -79,7 +81,8 @@ module _ (i start count : ℕ) (b : List ℕ) (h : i < count) where
   lines-next = rw (one-more, ← drop-drop (5 + 3 * getD b (start + 3) 0) start b, ← terms-here) refl
 
   -- a turn of the loop
-  pub lines-turn : {at k at₀ : ℕ} {l m xs₀ l₀ : List ℕ} → Rest at (linesFrom i start count b) l at₀ xs₀ l₀ → Put at (rowText i (rowIn (drop start b))) l m k → Rest k (linesFrom (i + 1) next count b) m at₀ xs₀ l₀
+  pub lines-turn : {at k at₀ : ℕ} {l m xs₀ l₀ : List ℕ} → Rest at (linesFrom i start count b) l at₀ xs₀ l₀ → Put at (rowText i (rowIn (drop start b))) l m k →
+      Rest k (linesFrom (i + 1) next count b) m at₀ xs₀ l₀
   lines-turn r p = rest-next (rw lines-next at r) p
 
 lines-done : (i start count : ℕ) (b : List ℕ) → count ≤ i → linesFrom i start count b ≡ []
@@ -92,5 +95,6 @@ lines-start count at b l = let e : count - 0 ≡ count = omega arith in rw e (re
 pub whole-start : (count : ℕ) (b : List ℕ) → Whole count b → WholeFrom 0 0 count b
 whole-start count b w = let e : count - 0 ≡ count = omega arith in rw e w
 
-pub lines-end : {at at₀ : ℕ} {l xs₀ l₀ : List ℕ} (i start count : ℕ) (b : List ℕ) → count ≤ i → Rest at (linesFrom i start count b) l at₀ xs₀ l₀ → Put at₀ xs₀ l₀ l at
+pub lines-end : {at at₀ : ℕ} {l xs₀ l₀ : List ℕ} (i start count : ℕ) (b : List ℕ) → count ≤ i → Rest at (linesFrom i start count b) l at₀ xs₀ l₀ →
+    Put at₀ xs₀ l₀ l at
 lines-end i start count b h r = rest-done (rw (lines-done i start count b h) at r)

@@ -5,12 +5,18 @@ ghost use Prim.Native.Nat.{_+_, _*_, _≤_, _<_};
 ghost use lib.ListN.{length, getD, drop};
 ghost use Rattle.rules.specs.Rows.{signedIn, relationIn, termsIn, rowIn, rowsIn};
 ghost use Rattle.text.specs.Decimal.{decimal, signedText};
+ghost use Rattle.rowlist_text.specs.Sizes.{rowsRoom, listingRoom};
 ghost use Rattle.rowlist_text.specs.RowText.{relationText, signOf, termsText, rowText, rowsText, headText, Whole};
 ghost use Rattle.text.specs.Put.{Put};
 
+// The bytes of rows that program rowlist holds, and of their text. Contracts call them `rowsRoom` and `listingRoom`.
+pub const ROWS: usize = 65536;
+
+pub const LISTING: usize = 184000;
+
 // `>=` and `=`, by the relation byte of a record.
-fn put_relation(out: &mut [u8; 184000], at: usize, relation: u8) -> usize
-    requires { ⌜ at + 2 ≤ 184000 ⌝ }
+fn put_relation(out: &mut [u8; LISTING], at: usize, relation: u8) -> usize
+    requires { ⌜ at + 2 ≤ listingRoom ⌝ }
     ensures { λ r. ⌜ Put at (relationText (relationIn relation)) (now (out .entry)) (now (out .exit)) r × (r ≤ at + 2) ⌝ }
 {
     if relation == 1 {
@@ -20,8 +26,8 @@ fn put_relation(out: &mut [u8; 184000], at: usize, relation: u8) -> usize
 }
 
 // A signed byte as a whole number.
-fn put_signed(out: &mut [u8; 184000], at: usize, b: u8) -> usize
-    requires { ⌜ at + 4 ≤ 184000 ⌝ }
+fn put_signed(out: &mut [u8; LISTING], at: usize, b: u8) -> usize
+    requires { ⌜ at + 4 ≤ listingRoom ⌝ }
     ensures { λ r. ⌜ Put at (signedText (signedIn b)) (now (out .entry)) (now (out .exit)) r × (r ≤ at + 4) ⌝ }
 {
     if b < 128 {
@@ -45,8 +51,8 @@ fn variable(low: u8, high: u8) -> usize
 }
 
 // A space, the sign and the variable.
-fn put_term(out: &mut [u8; 184000], at: usize, coefficient: u8, v: usize) -> usize
-    requires { ⌜ (at + 7 ≤ 184000) × (v < 100000) ⌝ }
+fn put_term(out: &mut [u8; LISTING], at: usize, coefficient: u8, v: usize) -> usize
+    requires { ⌜ (at + 7 ≤ listingRoom) × (v < 100000) ⌝ }
     ensures { λ r. ⌜ Put at (32 ∷ signOf (signedIn coefficient) ∷ decimal v) (now (out .entry)) (now (out .exit)) r × (r ≤ at + 7) ⌝ }
 {
     let space = text::put_byte(out, at, b' ');
@@ -55,8 +61,8 @@ fn put_term(out: &mut [u8; 184000], at: usize, coefficient: u8, v: usize) -> usi
 }
 
 // The `k` terms of a record from its byte `p` on.
-fn put_terms(out: &mut [u8; 184000], at: usize, bytes: &[u8], p: usize, k: usize) -> usize
-    requires { ⌜ (p + 3 * k ≤ length (now bytes)) × (at + 7 * k ≤ 184000) ⌝ }
+fn put_terms(out: &mut [u8; LISTING], at: usize, bytes: &[u8], p: usize, k: usize) -> usize
+    requires { ⌜ (p + 3 * k ≤ length (now bytes)) × (at + 7 * k ≤ listingRoom) ⌝ }
     ensures { λ r. ⌜ Put at (termsText (termsIn k (drop p (now (bytes .entry))))) (now (out .entry)) (now (out .exit)) r × (r ≤ at + 7 * k) ⌝ }
 {
     if k == 0 {
@@ -68,9 +74,10 @@ fn put_terms(out: &mut [u8; 184000], at: usize, bytes: &[u8], p: usize, k: usize
 }
 
 // The line of row `i`, by its record from byte `p` on.
-fn put_row(out: &mut [u8; 184000], at: usize, i: usize, bytes: &[u8], p: usize) -> usize
-    requires { ⌜ (at + 14 + 7 * getD (now bytes) (p + 3) 0 ≤ 184000) × (i < 100000) × (p + 5 + 3 * getD (now bytes) (p + 3) 0 ≤ length (now bytes)) ⌝ }
-    ensures { λ r. ⌜ Put at (rowText i (rowIn (drop p (now (bytes .entry))))) (now (out .entry)) (now (out .exit)) r × (r ≤ at + 14 + 7 * getD (now (bytes .entry)) (p + 3) 0) ⌝ }
+fn put_row(out: &mut [u8; LISTING], at: usize, i: usize, bytes: &[u8], p: usize) -> usize
+    requires { ⌜ (at + 14 + 7 * getD (now bytes) (p + 3) 0 ≤ listingRoom) × (i < 100000) × (p + 5 + 3 * getD (now bytes) (p + 3) 0 ≤ length (now bytes)) ⌝ }
+    ensures { λ r. ⌜ Put at (rowText i (rowIn (drop p (now (bytes .entry))))) (now (out .entry)) (now (out .exit)) r ⌝ }
+    ensures { λ r. ⌜ r ≤ at + 14 + 7 * getD (now (bytes .entry)) (p + 3) 0 ⌝ }
 {
     let a = text::put_decimal(out, at, i);
     let b = text::put_byte(out, a, b' ');
@@ -82,10 +89,11 @@ fn put_row(out: &mut [u8; 184000], at: usize, i: usize, bytes: &[u8], p: usize) 
 }
 
 // The lines of `count` records. "a row is 5 bytes and 3 per term"
-pub fn put_rows(out: &mut [u8; 184000], from: usize, count: usize, rows: &[u8]) -> usize
-    requires { ⌜ (5 * from + 14 * length (now rows) ≤ 920000) × (length (now rows) ≤ 65536) ⌝ }
+pub fn put_rows(out: &mut [u8; LISTING], from: usize, count: usize, rows: &[u8]) -> usize
+    requires { ⌜ (5 * from + 14 * length (now rows) ≤ 5 * listingRoom) × (length (now rows) ≤ rowsRoom) ⌝ }
     requires { ⌜ Whole count (now rows) ⌝ }
-    ensures { λ r. ⌜ Put from (rowsText 0 (rowsIn count (now (rows .entry)))) (now (out .entry)) (now (out .exit)) r × (5 * r ≤ 5 * from + 14 * length (now (rows .entry))) ⌝ }
+    ensures { λ r. ⌜ Put from (rowsText 0 (rowsIn count (now (rows .entry)))) (now (out .entry)) (now (out .exit)) r ⌝ }
+    ensures { λ r. ⌜ 5 * r ≤ 5 * from + 14 * length (now (rows .entry)) ⌝ }
 {
     let mut at = from;
     let mut start: usize = 0;
@@ -99,7 +107,7 @@ pub fn put_rows(out: &mut [u8; 184000], from: usize, count: usize, rows: &[u8]) 
 }
 
 // The first line.
-pub fn put_head(out: &mut [u8; 184000], count: usize, variables: usize) -> usize
+pub fn put_head(out: &mut [u8; LISTING], count: usize, variables: usize) -> usize
     requires { ⌜ (count < 100000) × (variables < 100000) ⌝ }
     ensures { λ r. ⌜ Put 0 (headText count variables) (now (out .entry)) (now (out .exit)) r × (r ≤ 22) ⌝ }
 {

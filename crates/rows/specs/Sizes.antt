@@ -22,6 +22,10 @@ use Rattle.row.specs.declared.Block.{Block}
 use Rattle.row.specs.Kinds.{kindRows, windowAt, followed, following, length-even, length-last, blockCount}
 use Rattle.row.specs.NodeRows.{blockOn, blockRows, hasKept, countBy, partRows, ownBlock, keptBlock, part-blocks}
 
+-- no node has more bytes: 14 for each row, of at most 8320
+abbrev pub nodeByteLimit : ℕ
+nodeByteLimit = 116480
+
 -- at a slot; n is how many slots the window has
 abbrev slotLength : Kind → (inner : Bool) → (n : ℕ) → ℕ
 slotLength Atom inner n = 11

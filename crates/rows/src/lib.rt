@@ -7,6 +7,7 @@ ghost use mathlib.Core.Path.{_≡_};
 ghost use Prim.Native.Nat.{_+_, _*_, _≤_, _<_};
 ghost use lib.ListN.{length};
 ghost use Rattle.lists.specs.Splice.{splice};
+ghost use Rattle.rules.specs.Quantities.{nodeLimit};
 ghost use Rattle.rules.specs.Rows.{rowsOf, rowsBytes};
 ghost use Rattle.rules.specs.TableTest.{recordCount, nodesIn};
 ghost use Rattle.rules.specs.Outcome.{result, buffer, rowsOutcome};
@@ -14,9 +15,10 @@ ghost use Rattle.answers.specs.Meaning.{answerOf};
 ghost use Rattle.table.specs.Checks.{Ready};
 ghost use Rattle.table.specs.Looping.{loopingTo};
 ghost use Rattle.rows_family.specs.Put.{Wrote};
+ghost use Rattle.row.specs.Placed.{nodeRowLimit};
 ghost use Rattle.row.specs.Kinds.{Allowed};
 ghost use Rattle.row.specs.NodeRows.{nodeCount};
-ghost use Rattle.rows.specs.Sizes.{innerSlacks, nodeLength};
+ghost use Rattle.rows.specs.Sizes.{nodeByteLimit, innerSlacks, nodeLength};
 ghost use Rattle.rows.specs.Parts.{partBytes, nodesBytes, lengthTo, countTo};
 ghost use Rattle.rows.specs.Answers.{rowsAnswer};
 
@@ -79,7 +81,7 @@ fn sized(rows: usize, bytes: usize) -> Size
 
 // A node with a window, which looks at `total` slots from all slots together.
 fn window_size(total: usize, slots: usize) -> Size
-    requires { ⌜ (total ≤ 4096) × (slots ≤ 64) ⌝ }
+    requires { ⌜ (total ≤ 64 * 64) × (slots ≤ 64) ⌝ }
     ensures { λ r. ⌜ (r .rows ≡ total + slots) × (r .bytes ≡ 14 * total + 8 * slots) ⌝ }
 {
     sized(total + slots, 14 * total + 8 * slots)
@@ -97,8 +99,8 @@ fn inner_slacks(loops: bool, slots: usize) -> usize
 // 36 bytes, or four, 53 bytes, for each inner slack, and one of 11 bytes at the slot that nothing follows.
 fn node_size(kind: Kind, t: u16, l: u16, a: u16, b: u16) -> Size
     requires { ⌜ (1 ≤ l) × (l ≤ t) × (t ≤ 64) × Allowed kind a b ⌝ }
-    ensures { λ r. ⌜ (r .rows ≡ nodeCount kind t l a b) × (r .rows ≤ 8320) ⌝ }
-    ensures { λ r. ⌜ (r .bytes ≡ nodeLength kind t l a b) × (r .bytes ≤ 116480) ⌝ }
+    ensures { λ r. ⌜ (r .rows ≡ nodeCount kind t l a b) × (r .rows ≤ nodeRowLimit) ⌝ }
+    ensures { λ r. ⌜ (r .bytes ≡ nodeLength kind t l a b) × (r .bytes ≤ nodeByteLimit) ⌝ }
 {
     let slots = t as usize;
     let inner = inner_slacks(l < t, slots);
@@ -119,8 +121,8 @@ fn node_size(kind: Kind, t: u16, l: u16, a: u16, b: u16) -> Size
 // How many rows the first n nodes have, and how many bytes.
 fn measure(table: &[u8], n: usize, t: usize, m: usize, l: usize) -> Size
     requires { ⌜ Ready t m l (now table) × (n ≤ recordCount (now table)) ⌝ }
-    ensures { λ r. ⌜ (r .rows ≡ countTo t m l (nodesIn (now (table .entry))) n) × (r .rows ≤ 1064960) ⌝ }
-    ensures { λ r. ⌜ (r .bytes ≡ lengthTo t m l (nodesIn (now (table .entry))) n) × (r .bytes ≤ 14909440) ⌝ }
+    ensures { λ r. ⌜ (r .rows ≡ countTo t m l (nodesIn (now (table .entry))) n) × (r .rows ≤ nodeLimit * nodeRowLimit) ⌝ }
+    ensures { λ r. ⌜ (r .bytes ≡ lengthTo t m l (nodesIn (now (table .entry))) n) × (r .bytes ≤ nodeLimit * nodeByteLimit) ⌝ }
 {
     let mut rows: usize = 0;
     let mut bytes: usize = 0;

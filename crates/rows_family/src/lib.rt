@@ -5,6 +5,7 @@ use window::Looks;
 ghost use Prim.Native.Nat.{_+_, _≤_};
 ghost use lib.ListN.{length};
 ghost use Rattle.rules.specs.Rule.Window.{within, throughout};
+ghost use Rattle.row.specs.Placed.{firstLimit, variableLimit};
 ghost use Rattle.row.specs.Kinds.{overRows};
 ghost use Rattle.window.specs.Slots.{Few, variables};
 ghost use Rattle.rows_family.specs.Windows.{aboveOf, belowOf, termOf, range, aboves, belows, terms};
@@ -72,7 +73,7 @@ pub fn put_until(out: &mut [u8], at: usize, node: u16, p: u16, q: u16, next: u16
 
 // P − p(s) ≥ 0 at n slots one after the other; p is the part's variable at the first of them.
 fn put_above_range(out: &mut [u8], at: usize, node: u16, p: u16, n: u16) -> usize
-    requires { ⌜ (p ≤ 25663) × (n ≤ 64) ⌝ }
+    requires { ⌜ (p ≤ variableLimit) × (n ≤ 64) ⌝ }
     requires { ⌜ at + length (range (aboveOf node) p n) ≤ length (now out) ⌝ }
     ensures { λ r. ⌜ Wrote at (range (aboveOf node) p n) (now (out .entry)) (now (out .exit)) r ⌝ }
 {
@@ -87,7 +88,7 @@ fn put_above_range(out: &mut [u8], at: usize, node: u16, p: u16, n: u16) -> usiz
 
 // P − p(s) ≥ 0 for each slot s of a window; p is the part's variable at the first slot of all.
 fn put_above_each(out: &mut [u8], at: usize, node: u16, p: u16, looks: Looks) -> usize
-    requires { ⌜ Few looks × (p ≤ 25600) ⌝ }
+    requires { ⌜ Few looks × (p ≤ firstLimit) ⌝ }
     requires { ⌜ at + length (aboves node looks p) ≤ length (now out) ⌝ }
     ensures { λ r. ⌜ Wrote at (aboves node looks p) (now (out .entry)) (now (out .exit)) r ⌝ }
 {
@@ -103,7 +104,7 @@ fn put_above_each(out: &mut [u8], at: usize, node: u16, p: u16, looks: Looks) ->
 
 // p(s) − P ≥ 0 at n slots one after the other; p is the part's variable at the first of them.
 fn put_below_range(out: &mut [u8], at: usize, node: u16, p: u16, n: u16) -> usize
-    requires { ⌜ (p ≤ 25663) × (n ≤ 64) ⌝ }
+    requires { ⌜ (p ≤ variableLimit) × (n ≤ 64) ⌝ }
     requires { ⌜ at + length (range (belowOf node) p n) ≤ length (now out) ⌝ }
     ensures { λ r. ⌜ Wrote at (range (belowOf node) p n) (now (out .entry)) (now (out .exit)) r ⌝ }
 {
@@ -118,7 +119,7 @@ fn put_below_range(out: &mut [u8], at: usize, node: u16, p: u16, n: u16) -> usiz
 
 // p(s) − P ≥ 0 for each slot s of a window; p is the part's variable at the first slot of all.
 fn put_below_each(out: &mut [u8], at: usize, node: u16, p: u16, looks: Looks) -> usize
-    requires { ⌜ Few looks × (p ≤ 25600) ⌝ }
+    requires { ⌜ Few looks × (p ≤ firstLimit) ⌝ }
     requires { ⌜ at + length (belows node looks p) ≤ length (now out) ⌝ }
     ensures { λ r. ⌜ Wrote at (belows node looks p) (now (out .entry)) (now (out .exit)) r ⌝ }
 {
@@ -134,7 +135,7 @@ fn put_below_each(out: &mut [u8], at: usize, node: u16, p: u16, looks: Looks) ->
 
 // The terms of a row at n slots one after the other; p is the part's variable at the first of them.
 fn put_terms_range(out: &mut [u8], at: usize, coefficient: i8, p: u16, n: u16) -> usize
-    requires { ⌜ (p ≤ 25663) × (n ≤ 64) ⌝ }
+    requires { ⌜ (p ≤ variableLimit) × (n ≤ 64) ⌝ }
     requires { ⌜ at + length (range (termOf coefficient) p n) ≤ length (now out) ⌝ }
     ensures { λ r. ⌜ Wrote at (range (termOf coefficient) p n) (now (out .entry)) (now (out .exit)) r ⌝ }
 {
@@ -153,7 +154,7 @@ fn put_terms_range(out: &mut [u8], at: usize, coefficient: i8, p: u16, n: u16) -
 
 // The terms of a row over the slots of a window; p is the part's variable at the first slot of all.
 fn put_terms(out: &mut [u8], at: usize, coefficient: i8, p: u16, looks: Looks) -> usize
-    requires { ⌜ Few looks × (p ≤ 25600) ⌝ }
+    requires { ⌜ Few looks × (p ≤ firstLimit) ⌝ }
     requires { ⌜ at + length (terms coefficient looks p) ≤ length (now out) ⌝ }
     ensures { λ r. ⌜ Wrote at (terms coefficient looks p) (now (out .entry)) (now (out .exit)) r ⌝ }
 {
@@ -169,7 +170,7 @@ fn put_terms(out: &mut [u8], at: usize, coefficient: i8, p: u16, looks: Looks) -
 
 // P − p(s) ≥ 0 for each slot s of a window; the sum of all p(s), less P, ≥ 0
 pub fn put_within(out: &mut [u8], at: usize, node: u16, p: u16, looks: Looks) -> usize
-    requires { ⌜ Few looks × (p ≤ 25600) ⌝ }
+    requires { ⌜ Few looks × (p ≤ firstLimit) ⌝ }
     requires { ⌜ at + length (rowsBytes (overRows within node (variables looks p))) ≤ length (now out) ⌝ }
     ensures { λ r. ⌜ Put at (overRows within node (variables looks p)) (now (out .entry)) (now (out .exit)) r ⌝ }
 {
@@ -185,7 +186,7 @@ pub fn put_within(out: &mut [u8], at: usize, node: u16, p: u16, looks: Looks) ->
 
 // p(s) − P ≥ 0 for each slot s of a window; P less all p(s) ≥ −(k − 1)
 pub fn put_throughout(out: &mut [u8], at: usize, node: u16, p: u16, looks: Looks) -> usize
-    requires { ⌜ Few looks × (p ≤ 25600) ⌝ }
+    requires { ⌜ Few looks × (p ≤ firstLimit) ⌝ }
     requires { ⌜ at + length (rowsBytes (overRows throughout node (variables looks p))) ≤ length (now out) ⌝ }
     ensures { λ r. ⌜ Put at (overRows throughout node (variables looks p)) (now (out .entry)) (now (out .exit)) r ⌝ }
 {

@@ -9,14 +9,14 @@ ghost use lib.ListN.{length};
 ghost use Rattle.rules.specs.Rows.{rowsBytes, sameRows, notRows, andRows, orRows, impliesRows};
 ghost use Rattle.window.specs.Slots.{windowBy, variables, Few};
 ghost use Rattle.row.specs.Kinds.{Allowed, overRows};
-ghost use Rattle.row.specs.Placed.{Placed};
+ghost use Rattle.row.specs.Placed.{firstLimit, Placed};
 ghost use Rattle.rows_family.specs.Put.{Wrote, Put};
 ghost use Rattle.rows_node.specs.Slots.{pairs, triples, untilNext, windows};
 ghost use Rattle.rows_node.specs.Blocks.{blockReach, eventually, always, until, loopedBytes, keptBytes, keptPart, nodeBytes};
 
 // P − p = 0 at t slots, from the place `at` on; the result is the next place. The variables are those of the first slot.
 fn write_same(out: &mut [u8], at: usize, t: u16, node: u16, p: u16) -> usize
-    requires { ⌜ (t ≤ 64) × (node ≤ 25600) × (p ≤ 25600) ⌝ }
+    requires { ⌜ (t ≤ 64) × (node ≤ firstLimit) × (p ≤ firstLimit) ⌝ }
     requires { ⌜ at + length (pairs sameRows node p t) ≤ length (now out) ⌝ }
     ensures { λ r. ⌜ Wrote at (pairs sameRows node p t) (now (out .entry)) (now (out .exit)) r ⌝ }
 {
@@ -31,7 +31,7 @@ fn write_same(out: &mut [u8], at: usize, t: u16, node: u16, p: u16) -> usize
 
 // The rows of not, at t slots, from the place `at` on; the result is the next place. The variables are those of the first slot.
 fn write_not(out: &mut [u8], at: usize, t: u16, node: u16, p: u16) -> usize
-    requires { ⌜ (t ≤ 64) × (node ≤ 25600) × (p ≤ 25600) ⌝ }
+    requires { ⌜ (t ≤ 64) × (node ≤ firstLimit) × (p ≤ firstLimit) ⌝ }
     requires { ⌜ at + length (pairs notRows node p t) ≤ length (now out) ⌝ }
     ensures { λ r. ⌜ Wrote at (pairs notRows node p t) (now (out .entry)) (now (out .exit)) r ⌝ }
 {
@@ -46,7 +46,7 @@ fn write_not(out: &mut [u8], at: usize, t: u16, node: u16, p: u16) -> usize
 
 // The rows of and, at t slots, from the place `at` on; the result is the next place. The variables are those of the first slot.
 fn write_and(out: &mut [u8], at: usize, t: u16, node: u16, p: u16, q: u16) -> usize
-    requires { ⌜ (t ≤ 64) × (node ≤ 25600) × (p ≤ 25600) × (q ≤ 25601) ⌝ }
+    requires { ⌜ (t ≤ 64) × (node ≤ firstLimit) × (p ≤ firstLimit) × (q ≤ firstLimit + 1) ⌝ }
     requires { ⌜ at + length (triples andRows node p q t) ≤ length (now out) ⌝ }
     ensures { λ r. ⌜ Wrote at (triples andRows node p q t) (now (out .entry)) (now (out .exit)) r ⌝ }
 {
@@ -61,7 +61,7 @@ fn write_and(out: &mut [u8], at: usize, t: u16, node: u16, p: u16, q: u16) -> us
 
 // The rows of or, at t slots, from the place `at` on; the result is the next place. The variables are those of the first slot.
 fn write_or(out: &mut [u8], at: usize, t: u16, node: u16, p: u16, q: u16) -> usize
-    requires { ⌜ (t ≤ 64) × (node ≤ 25600) × (p ≤ 25600) × (q ≤ 25601) ⌝ }
+    requires { ⌜ (t ≤ 64) × (node ≤ firstLimit) × (p ≤ firstLimit) × (q ≤ firstLimit + 1) ⌝ }
     requires { ⌜ at + length (triples orRows node p q t) ≤ length (now out) ⌝ }
     ensures { λ r. ⌜ Wrote at (triples orRows node p q t) (now (out .entry)) (now (out .exit)) r ⌝ }
 {
@@ -76,7 +76,7 @@ fn write_or(out: &mut [u8], at: usize, t: u16, node: u16, p: u16, q: u16) -> usi
 
 // The rows of implies, at t slots, from the place `at` on; the result is the next place. The variables are those of the first slot.
 fn write_implies(out: &mut [u8], at: usize, t: u16, node: u16, p: u16, q: u16) -> usize
-    requires { ⌜ (t ≤ 64) × (node ≤ 25600) × (p ≤ 25600) × (q ≤ 25601) ⌝ }
+    requires { ⌜ (t ≤ 64) × (node ≤ firstLimit) × (p ≤ firstLimit) × (q ≤ firstLimit + 1) ⌝ }
     requires { ⌜ at + length (triples impliesRows node p q t) ≤ length (now out) ⌝ }
     ensures { λ r. ⌜ Wrote at (triples impliesRows node p q t) (now (out .entry)) (now (out .exit)) r ⌝ }
 {
@@ -92,7 +92,7 @@ fn write_implies(out: &mut [u8], at: usize, t: u16, node: u16, p: u16, q: u16) -
 // The rows of until where the next slot follows, at t slots, from the place `at` on; the result is the next place. The
 // variables are those of the first slot.
 fn write_until_next(out: &mut [u8], at: usize, t: u16, node: u16, p: u16, q: u16) -> usize
-    requires { ⌜ (t ≤ 64) × (node ≤ 25600) × (p ≤ 25600) × (q ≤ 25601) ⌝ }
+    requires { ⌜ (t ≤ 64) × (node ≤ firstLimit) × (p ≤ firstLimit) × (q ≤ firstLimit + 1) ⌝ }
     requires { ⌜ at + length (triples untilNext node p q t) ≤ length (now out) ⌝ }
     ensures { λ r. ⌜ Wrote at (triples untilNext node p q t) (now (out .entry)) (now (out .exit)) r ⌝ }
 {
@@ -127,7 +127,7 @@ fn reach_of(block: Block, t: u16, l: u16) -> Reach
 
 // The rows of F[a,b], where it is `within`, or of G[a,b] at a slot, from the place `at` on; the result is the next place.
 fn put_window(out: &mut [u8], at: usize, within: bool, node: u16, p: u16, looks: Looks) -> usize
-    requires { ⌜ Few looks × (p ≤ 25600) ⌝ }
+    requires { ⌜ Few looks × (p ≤ firstLimit) ⌝ }
     requires { ⌜ at + length (rowsBytes (overRows (windowBy within) node (variables looks p))) ≤ length (now out) ⌝ }
     ensures { λ r. ⌜ Put at (overRows (windowBy within) node (variables looks p)) (now (out .entry)) (now (out .exit)) r ⌝ }
 {
@@ -140,7 +140,8 @@ fn put_window(out: &mut [u8], at: usize, within: bool, node: u16, p: u16, looks:
 // The rows of F[a,b] or G[a,b], at all slots, from the place `at` on; the result is the next place. The variables are those
 // of the first slot.
 fn write_windows(out: &mut [u8], at: usize, within: bool, node: u16, p: u16, reach: Reach) -> usize
-    requires { ⌜ (1 ≤ reach .l) × (reach .l ≤ reach .t) × (reach .t ≤ 64) × (node ≤ 25600) × (p ≤ 25600) × (reach .from ≤ reach .to) × (reach .to ≤ 63) ⌝ }
+    requires { ⌜ (1 ≤ reach .l) × (reach .l ≤ reach .t) × (reach .t ≤ 64) × (node ≤ firstLimit) × (p ≤ firstLimit) ×
+        (reach .from ≤ reach .to) × (reach .to ≤ 63) ⌝ }
     requires { ⌜ at + length (windows (windowBy within) reach node p) ≤ length (now out) ⌝ }
     ensures { λ r. ⌜ Wrote at (windows (windowBy within) reach node p) (now (out .entry)) (now (out .exit)) r ⌝ }
 {
@@ -194,7 +195,7 @@ fn write_kept(out: &mut [u8], at: usize, t: u16, block: Block) -> usize
 // V, whose first variable is v, come first, and its own at the last slot are those of or with what follows it;
 // else P − p = 0.
 fn write_eventually(out: &mut [u8], at: usize, t: u16, own: Block, v: u16) -> usize
-    requires { ⌜ (1 ≤ t) × (t ≤ 64) × Placed own × (v ≤ 25600) ⌝ }
+    requires { ⌜ (1 ≤ t) × (t ≤ 64) × Placed own × (v ≤ firstLimit) ⌝ }
     requires { ⌜ at + length (loopedBytes (eventually own t) (keptPart t v own)) ≤ length (now out) ⌝ }
     ensures { λ r. ⌜ Wrote at (loopedBytes (eventually own t) (keptPart t v own)) (now (out .entry)) (now (out .exit)) r ⌝ }
 {
@@ -216,7 +217,7 @@ fn write_eventually(out: &mut [u8], at: usize, t: u16, own: Block, v: u16) -> us
 // V, whose first variable is v, come first, and its own at the last slot are those of and with what follows it;
 // else P − p = 0.
 fn write_always(out: &mut [u8], at: usize, t: u16, own: Block, v: u16) -> usize
-    requires { ⌜ (1 ≤ t) × (t ≤ 64) × Placed own × (v ≤ 25600) ⌝ }
+    requires { ⌜ (1 ≤ t) × (t ≤ 64) × Placed own × (v ≤ firstLimit) ⌝ }
     requires { ⌜ at + length (loopedBytes (always own t) (keptPart t v own)) ≤ length (now out) ⌝ }
     ensures { λ r. ⌜ Wrote at (loopedBytes (always own t) (keptPart t v own)) (now (out .entry)) (now (out .exit)) r ⌝ }
 {
@@ -238,7 +239,7 @@ fn write_always(out: &mut [u8], at: usize, t: u16, own: Block, v: u16) -> usize
 // V, whose first variable is v, come first, and its own at the last slot are those with what follows it as P';
 // else P − q = 0.
 fn write_until(out: &mut [u8], at: usize, t: u16, own: Block, v: u16) -> usize
-    requires { ⌜ (1 ≤ t) × (t ≤ 64) × Placed own × (v ≤ 25600) ⌝ }
+    requires { ⌜ (1 ≤ t) × (t ≤ 64) × Placed own × (v ≤ firstLimit) ⌝ }
     requires { ⌜ at + length (loopedBytes (until own t) (keptPart t v own)) ≤ length (now out) ⌝ }
     ensures { λ r. ⌜ Wrote at (loopedBytes (until own t) (keptPart t v own)) (now (out .entry)) (now (out .exit)) r ⌝ }
 {
@@ -260,7 +261,7 @@ fn write_until(out: &mut [u8], at: usize, t: u16, own: Block, v: u16) -> usize
 // Writes the rows of a node at t slots that loop to slot l from the place `at` on, and returns the next place. `own` is its
 // own block, and v the first variable of its V, whose rows come first.
 pub fn write_node(out: &mut [u8], at: usize, t: u16, l: u16, own: Block, v: u16) -> usize
-    requires { ⌜ (1 ≤ l) × (l ≤ t) × (t ≤ 64) × Placed own × Allowed (own .kind) (own .from) (own .to) × (v ≤ 25600) ⌝ }
+    requires { ⌜ (1 ≤ l) × (l ≤ t) × (t ≤ 64) × Placed own × Allowed (own .kind) (own .from) (own .to) × (v ≤ firstLimit) ⌝ }
     requires { ⌜ at + length (nodeBytes t l v own) ≤ length (now out) ⌝ }
     ensures { λ r. ⌜ Wrote at (nodeBytes t l v own) (now (out .entry)) (now (out .exit)) r ⌝ }
 {

@@ -24,7 +24,8 @@ headBytes relation count right = 0x52 ∷ 0x57 ∷ relation ∷ count ∷ right 
 unfoldable pub headOf : (relation : Relation) (count : ℕ) (right : ℤ) → List ℕ
 headOf relation count right = headBytes (relationByte (relationOf relation)) count (signedByte right)
 
-pub head-is : (relation : Relation) (count : ℕ) (right : ℤ) {a b : ℕ} → a ≡ relationByte (relationOf relation) → b ≡ signedByte right → headBytes a count b ≡ headOf relation count right
+pub head-is : (relation : Relation) (count : ℕ) (right : ℤ) {a b : ℕ} → a ≡ relationByte (relationOf relation) → b ≡ signedByte right →
+    headBytes a count b ≡ headOf relation count right
 unfolding headOf
 head-is relation count right e f = cc
 
@@ -48,7 +49,8 @@ module _ (row : Row) {relation right : ℕ} (e : relation ≡ relationByte (rela
   unfolding recordOf
   pair-bytes x y t p q = rw t (cc)
 
-  pub triple-bytes : (x y z : Packed) {a b c : Term} → row .terms ≡ Triple a b c → bytesOf x ≡ termBytes (termOf a) → bytesOf y ≡ termBytes (termOf b) → bytesOf z ≡ termBytes (termOf c) →
+  pub triple-bytes : (x y z : Packed) {a b c : Term} → row .terms ≡ Triple a b c → bytesOf x ≡ termBytes (termOf a) →
+      bytesOf y ≡ termBytes (termOf b) → bytesOf z ≡ termBytes (termOf c) →
       headBytes relation 3 right ++ (bytesOf x ++ (bytesOf y ++ bytesOf z)) ≡ recordOf row
   unfolding recordOf
   triple-bytes x y z t p q r = rw t (cc)

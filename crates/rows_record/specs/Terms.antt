@@ -6,7 +6,8 @@ use native.Mathlib.Omega.{arith}
 use Rattle.endian.specs.Words.{littleEndian, twoBytes, next-bytes, two-bytes}
 
 -- of two terms: s and t are sign bytes, v and x variables
-two-terms : (s v t x : ℕ) → s < 256 → v < 65536 → t < 256 → x < 65536 → littleEndian 6 (s + 256 * v + 16777216 * t + 4294967296 * x) ≡ (s ∷ twoBytes v) ++ (t ∷ twoBytes x)
+two-terms : (s v t x : ℕ) → s < 256 → v < 65536 → t < 256 → x < 65536 →
+    littleEndian 6 (s + 256 * v + 16777216 * t + 4294967296 * x) ≡ (s ∷ twoBytes v) ++ (t ∷ twoBytes x)
 two-terms s v t x hs hv ht hx =
     let a : s + 256 * v + 16777216 * t + 4294967296 * x ≡ (v + 65536 * t + 16777216 * x) * 256 + s = omega arith in
     let b : v + 65536 * t + 16777216 * x ≡ (v / 256 + 256 * t + 65536 * x) * 256 + v % 256 = omega arith in
@@ -17,15 +18,17 @@ two-terms s v t x hs hv ht hx =
 pub pair-word-bytes : (r s v t x : ℕ) → r < 256 → s < 256 → v < 65536 → t < 256 → x < 65536 →
     littleEndian 8 (2 + 256 * r + 65536 * s + 16777216 * v + 1099511627776 * t + 281474976710656 * x) ≡ 2 ∷ r ∷ ((s ∷ twoBytes v) ++ (t ∷ twoBytes x))
 pair-word-bytes r s v t x hr hs hv ht hx =
-    let a : 2 + 256 * r + 65536 * s + 16777216 * v + 1099511627776 * t + 281474976710656 * x ≡ (r + 256 * (s + 256 * v + 16777216 * t + 4294967296 * x)) * 256 + 2 = omega arith in
-    let b : r + 256 * (s + 256 * v + 16777216 * t + 4294967296 * x) ≡ (s + 256 * v + 16777216 * t + 4294967296 * x) * 256 + r = omega arith in
+    let terms = s + 256 * v + 16777216 * t + 4294967296 * x in
+    let a : 2 + 256 * r + 65536 * s + 16777216 * v + 1099511627776 * t + 281474976710656 * x ≡ (r + 256 * terms) * 256 + 2 = omega arith in
+    let b : r + 256 * terms ≡ terms * 256 + r = omega arith in
     next-bytes 7 _ a (omega arith) (next-bytes 6 _ b hr (two-terms s v t x hs hv ht hx))
 
 pub triple-word-bytes : (u s v t x : ℕ) → u < 65536 → s < 256 → v < 65536 → t < 256 → x < 65536 →
     littleEndian 8 (u + 65536 * s + 16777216 * v + 1099511627776 * t + 281474976710656 * x) ≡ twoBytes u ++ ((s ∷ twoBytes v) ++ (t ∷ twoBytes x))
 triple-word-bytes u s v t x hu hs hv ht hx =
-    let a : u + 65536 * s + 16777216 * v + 1099511627776 * t + 281474976710656 * x ≡ (u / 256 + 256 * (s + 256 * v + 16777216 * t + 4294967296 * x)) * 256 + u % 256 = omega arith in
-    let b : u / 256 + 256 * (s + 256 * v + 16777216 * t + 4294967296 * x) ≡ (s + 256 * v + 16777216 * t + 4294967296 * x) * 256 + u / 256 = omega arith in
+    let terms = s + 256 * v + 16777216 * t + 4294967296 * x in
+    let a : u + 65536 * s + 16777216 * v + 1099511627776 * t + 281474976710656 * x ≡ (u / 256 + 256 * terms) * 256 + u % 256 = omega arith in
+    let b : u / 256 + 256 * terms ≡ terms * 256 + u / 256 = omega arith in
     next-bytes 7 _ a (omega arith) (next-bytes 6 _ b (omega arith) (two-terms s v t x hs hv ht hx))
 
 pub head-word-bytes : (o : ℕ) → o < 256 → littleEndian 4 (82 + 256 * 87 + 65536 * o + 50331648) ≡ 0x52 ∷ 0x57 ∷ o ∷ 3 ∷ []

@@ -169,7 +169,8 @@ fn put_triple(
     c: Packed,
 ) -> usize
     requires { ⌜ at + 14 ≤ length (now out) ⌝ }
-    ensures { λ r. ⌜ (r ≡ at + 14) × (now (out .exit) ≡ splice at (headBytes relation 3 right ++ (bytesOf a ++ (bytesOf b ++ bytesOf c))) (now (out .entry))) ⌝ }
+    ensures { λ r. ⌜ (r ≡ at + 14) ×
+        (now (out .exit) ≡ splice at (headBytes relation 3 right ++ (bytesOf a ++ (bytesOf b ++ bytesOf c))) (now (out .entry))) ⌝ }
 {
     let second = endian::put_four(out, at, head_word(relation));
     let third = endian::put_two(out, second, right_word(right, a));

@@ -15,9 +15,10 @@ use Rattle.rules.specs.Quantities.{bitAt, one, SlotsAllowed, AtomsAllowe
 use Rattle.rules.specs.Table.{Node, Good, nodeAt, ruleAt, root}
 use Rattle.rules.specs.Table.Node.{atom, unary, binary, windowed}
 use Rattle.rules.specs.Truth.{Endless, Holds, endless, TruthBit, slotBit}
-use Rattle.rules.specs.Rows.{Row, valueAt, atomVariable, slack, sameRows, unaryRows, binaryRows, windowRows, slotsRows, goalRow, rowsOf, rowsBytes}
+use Rattle.rules.specs.Rows.{Row, sumOf, atomVariable, slack, sameRows, unaryRows, binaryRows, windowRows, slotsRows, goalRow, rowsOf, rowsBytes}
 use Rattle.rules.specs.ErrorFigure.{others}
-use Rattle.rules.specs.Judge.{Outside, NotBinary, Broken, shortfall, Lowest, None, OutsideAt, NotBinaryAt, BrokenAt}
+use Rattle.rules.specs.Judge.{None, VerdictWith, JudgedBy, RootFigure}
+use Rattle.rules.specs.Judge.VerdictWith.{outside, not-binary, broken, passed}
 use Rattle.rules.specs.Judge as Now
 use Rattle.rules.specs.Refusals.{placeIn, RunGood}
 use Rattle.rules.specs.Demands.{Answer, Written}
@@ -29,25 +30,19 @@ pub record TruthBytes (T L : ℕ) (run : List ℕ) (ns : List Node) (bytes : Lis
   pub count : length bytes ≡ length ns * T
   pub at : (n t : ℕ) → n < length ns → 1 ≤ t → t ≤ T → TruthBit (Holds (endless T L run) (ruleAt ns n) t) (getD bytes (n * T + (t - 1)) 0)
 
-pub data Verdict : Type 0 where
-  outside not-binary broken passed : ℕ → Verdict
+-- broken and passed carried nothing but row number and row count
+abbrev pub Verdict : Type 0
+Verdict = VerdictWith (Unit {0}) (Unit {0})
 
-module _ (T M L e : ℕ) (ns : List Node) (xs : List ℤ) where
-  -- "Its verdict is the first of: outside, with the lowest variable ..; not binary, with the lowest atom variable ..;
-  -- broken, with the lowest row number; passed, with the row count."
-  pub data Judged : Verdict → Type 0 where
-    is-outside : {v : ℕ} → Lowest (OutsideAt T M L e ns xs) v → Judged (Verdict.outside v)
-    is-not-binary : {v : ℕ} → None (OutsideAt T M L e ns xs) → Lowest (NotBinaryAt T M L e ns xs) v → Judged (Verdict.not-binary v)
-    is-broken : {i : ℕ} → None (OutsideAt T M L e ns xs) → None (NotBinaryAt T M L e ns xs) → Lowest (BrokenAt T M L e ns xs) i → Judged (Verdict.broken i)
-    is-passed : None (OutsideAt T M L e ns xs) → None (NotBinaryAt T M L e ns xs) → None (BrokenAt T M L e ns xs) →
-        Judged (Verdict.passed (length (rowsOf T M L ns)))
+abbrev pub Judged : (T M L e : ℕ) → List Node → List ℤ → Verdict → Type 0
+Judged T M L e ns xs = JudgedBy (M * T) e xs (rowsOf T M L ns) (λ r. sumOf xs (r .terms)) (λ d. tt) (λ x. Unit {0})
 
 -- a verdict, and what the judge answers, without the shortfall of request N1 and the error figure of request N7
 abbrev pub verdictBefore : Now.Verdict → Verdict
-verdictBefore (Now.Verdict.outside v) = Verdict.outside v
-verdictBefore (Now.Verdict.not-binary v) = Verdict.not-binary v
-verdictBefore (Now.Verdict.broken i d) = Verdict.broken i
-verdictBefore (Now.Verdict.passed n f) = Verdict.passed n
+verdictBefore (outside v) = outside v
+verdictBefore (not-binary v) = not-binary v
+verdictBefore (broken i d) = broken i tt
+verdictBefore (passed n f) = passed n tt
 
 abbrev pub rulingBefore : Answer Now.Verdict → Answer Verdict
 rulingBefore (refused k) = refused k
@@ -96,26 +91,10 @@ pub record ErrorFiguresBefore (T M e : ℕ) (ns : List Node) (error : ℕ → �
   pub nodes : (n t : ℕ) → n < length ns → 1 ≤ t → t ≤ T →
       error (slack T M n t) ≡ min one (e + others error (slack T M n t) (rowsAtBefore T M n (nodeAt ns n) t) (variablesBefore T M ns))
 
-module _ (T M e : ℕ) (ns : List Node) (xs : List ℤ) where
-  abbrev pub rowBefore : ℕ → Row
-  rowBefore i = getD (rowsBefore T M ns) i (goalRow T M ns)
-
-  abbrev pub OutsideBefore : ℕ → Type 0
-  OutsideBefore v = (v < length xs) × Outside e (valueAt xs v)
-
-  abbrev pub NotBinaryBefore : ℕ → Type 0
-  NotBinaryBefore v = (v < M * T) × NotBinary e (valueAt xs v)
-
-  abbrev pub BrokenBefore : ℕ → Type 0
-  BrokenBefore i = (i < length (rowsBefore T M ns)) × Broken e xs (rowBefore i)
-
-  -- with the shortfall of request N1 and the error figure of request N7
-  pub data JudgedBefore : Now.Verdict → Type 0 where
-    is-outside : {v : ℕ} → Lowest OutsideBefore v → JudgedBefore (Now.Verdict.outside v)
-    is-not-binary : {v : ℕ} → None OutsideBefore → Lowest NotBinaryBefore v → JudgedBefore (Now.Verdict.not-binary v)
-    is-broken : {i : ℕ} → None OutsideBefore → None NotBinaryBefore → Lowest BrokenBefore i → JudgedBefore (Now.Verdict.broken i (shortfall xs (rowBefore i)))
-    is-passed : {error : ℕ → ℕ} → None OutsideBefore → None NotBinaryBefore → None BrokenBefore → ErrorFiguresBefore T M e ns error →
-        JudgedBefore (Now.Verdict.passed (length (rowsBefore T M ns)) (error (slack T M (root ns) 1)))
+-- with the shortfall of request N1 and the error figure of request N7
+abbrev pub JudgedBefore : (T M e : ℕ) → List Node → List ℤ → Now.Verdict → Type 0
+JudgedBefore T M e ns xs =
+    JudgedBy (M * T) e xs (rowsBefore T M ns) (λ r. sumOf xs (r .terms)) (λ d. d) (RootFigure T M ns (ErrorFiguresBefore T M e ns))
 
 -- ---- which refusals apply, which of them wins, and the demands on the calls
 

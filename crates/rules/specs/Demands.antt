@@ -1,7 +1,7 @@
 -- The three demands, as statements about any functions that stand for what the calls answer and write.
--- Theorems.antt proves them of the very functions that the calls' contracts cite.
+-- They are proved of the very functions that the calls' contracts cite: Headlines.antt of crate demands names each proof.
 use mathlib.Core.Path.{_≡_}
-use mathlib.Core.Bool.{true, cond}
+use mathlib.Core.Bool.{Bool, true, cond}
 use mathlib.Core.Logic.{_↔_}
 use mathlib.Core.List.{List, [], _∷_, _++_}
 use mathlib.Core.Option.{Option, none, some}
@@ -11,14 +11,15 @@ use lib.ListN.{length, getD, take}
 use lib.IntN.{ℤ, pos, _-ℤ_, natAbs}
 use lib.Signed.{_≤ℤ_}
 use Rattle.lists.specs.Every.{Every}
-use Rattle.rules.specs.Quantities.{bitAt, one, SlotsAllowed, LoopAllowed}
+use Rattle.rules.specs.Quantities.{bitAt, zero, one, ofTruth, SlotsAllowed, LoopAllowed}
 use Rattle.rules.specs.Rule.{Rule, size, height}
 use Rattle.rules.specs.Grammar.{Says}
 use Rattle.rules.specs.Table.{Node, Good, tableBytes, nodesOf, nodeAt, ruleAt, root}
-use Rattle.rules.specs.Truth.{Holds, HoldsKept, endless, TruthBit, slotBit, TruthWords, SlotSet}
+use Rattle.rules.specs.Truth.{Holds, HoldsKept, endless, TruthOf, TruthBit, slotBit, TruthWords, SlotSet}
 use Rattle.rules.specs.Rows.{Row, Meets, valueAt, atomVariable, slack, loops, looping, loopSlack, slackCount, variableCount, rowsOf, rowsBytes, rowsIn}
 use Rattle.rules.specs.ErrorFigure.{ErrorFigures}
 use Rattle.rules.specs.Judge.{Lowest, None, Verdict, Judged}
+use Rattle.rules.specs.Judge.VerdictWith.{passed}
 use Rattle.rules.specs.Refusals.{Wins, RunGood, TextRefused, ReadRefused, EvaluateRefused, RowsRefused, JudgeRefused}
 
 -- What a call answers: "A refusal returns its number and changes no byte."
@@ -41,7 +42,7 @@ ReaderExact read =
     (M : ℕ) (text : List ℕ) (room : ℕ) →
     Exact (ReadRefused M text room) (λ w. (p : Rule) × Says text p × (w ≡ wrote (size p) (tableBytes (nodesOf p)))) (read M text room)
 
--- "It accepts exactly the grammar, by one reading."
+-- "exactly the grammar, by one reading": a text says at most one rule
 abbrev pub OneReading : Type 0
 OneReading = (text : List ℕ) (p q : Rule) → Says text p → Says text q → p ≡ q
 
@@ -60,9 +61,11 @@ EvaluatorExact evaluate =
     (evaluate T M L table run room)
 
 -- Request N5: "the first slot with a set bit, or says that there is none", of a 64-bit word
+abbrev pub FirstAnswers : (word : ℕ) (answer : Option ℕ) → Type 0
+FirstAnswers word answer = ((t : ℕ) → (answer ≡ some t) ↔ Lowest (SlotSet word) t) × ((answer ≡ none) ↔ None (SlotSet word))
+
 abbrev pub FirstSlotExact : (ℕ → Option ℕ) → Type 0
-FirstSlotExact firstSlot =
-    (word : ℕ) → word < 2 ^ 64 → ((t : ℕ) → (firstSlot word ≡ some t) ↔ Lowest (SlotSet word) t) × ((firstSlot word ≡ none) ↔ None (SlotSet word))
+FirstSlotExact firstSlot = (word : ℕ) → word < 2 ^ 64 → FirstAnswers word (firstSlot word)
 
 -- "The result is the row count."
 abbrev pub RowsExact : ((T M L : ℕ) (table : List ℕ) (room : ℕ) → Answer Written) → Type 0
@@ -92,8 +95,8 @@ pub record Fits (D count : ℕ) (atoms : List ℤ) (rows : List Row) (slacks : L
   pub limits : (v : ℕ) → v < length slacks → (pos 0 ≤ℤ valueAt slacks v) × (valueAt slacks v ≤ℤ pos D)
   pub meets : Every (Meets D (atoms ++ slacks)) rows
 
--- Of the nodes ns, all rows but the goal row, and the goal row: "exactly one meets the limits and every row but the goal row; in it each part
--- of the rule has 1 where it holds and 0 where not; it meets the goal row exactly when the rule holds at slot 1".
+-- "For every common denominator D ≥ 1, of all ways to give each slack a whole numerator, exactly one meets the limits and every row but the goal row;
+-- in it each part has 1 where it holds and 0 where not; it meets the goal row exactly when the rule holds at slot 1."
 -- "A part has 1 at a slot when its numerator there is D, and 0 when it is 0." Request N8: "about the run that loops to L, with V among the slacks".
 pub record OnlyTheTruth (T M L D : ℕ) (run : List ℕ) (ns : List Node) (rows : List Row) (goal : Row) : Type 0 where
   pub atoms : List ℤ
@@ -109,7 +112,7 @@ pub record OnlyTheTruth (T M L D : ℕ) (run : List ℕ) (ns : List Node) (rows 
       valueAt slacks ((length ns + looping (take n ns)) * T + (t - 1)) ≡ pos 0
   pub goal-met : Meets D (atoms ++ slacks) goal ↔ Holds (endless T L run) (ruleAt ns (root ns)) 1
 
--- The bytes that the three calls write, for the rule p: the table is p's, its rows are read back from the row writer's bytes,
+-- "About the very bytes that reader and row writer write." For the rule p: the table is p's, its rows are read back from the row writer's bytes,
 -- and the evaluator's words have the numerators over D.
 pub record Demand3At (T M L D : ℕ) (run : List ℕ) (p : Rule) (table : List ℕ) (count : ℕ) (written : List ℕ) (answer : ℕ) (truth : List ℕ) : Type 0 where
   pub table-is : table ≡ tableBytes (nodesOf p)
@@ -144,7 +147,7 @@ Demand3 read rows evaluate =
 pub record Rounded (T M : ℕ) (figures : List ℤ) (run : List ℕ) : Type 0 where
   pub run-good : RunGood T M run
   pub at : (a t : ℕ) → a < M → 1 ≤ t → t ≤ T →
-      let x = valueAt figures (atomVariable T a t) in bitAt run t a ≡ cond (ltb (natAbs (x -ℤ pos one)) (natAbs (x -ℤ pos 0))) 1 0
+      let x = valueAt figures (atomVariable T a t) in bitAt run t a ≡ cond (ltb (natAbs (x -ℤ pos one)) (natAbs (x -ℤ pos zero))) 1 0
 
 abbrev pub trustLimit : ℕ
 trustLimit = 500000
@@ -152,12 +155,12 @@ trustLimit = 500000
 -- `error` gives the error figures, `carried` is the one that passed carries, and `run` is the rounded run
 pub record NearTruth (T M L : ℕ) (ns : List Node) (figures : List ℤ) (error : ℕ → ℕ) (carried : ℕ) (run : List ℕ) : Type 0 where
   -- "Each slack is within its own figure of the truth, wherever that figure is below 1,000,000."
-  pub within : (n t b : ℕ) → n < length ns → 1 ≤ t → t ≤ T → error (slack T M n t) < one →
-      TruthBit (Holds (endless T L run) (ruleAt ns n) t) b → natAbs (valueAt figures (slack T M n t) -ℤ pos (b * one)) ≤ error (slack T M n t)
+  pub within : (n t : ℕ) (b : Bool) → n < length ns → 1 ≤ t → t ≤ T → error (slack T M n t) < one →
+      TruthOf (Holds (endless T L run) (ruleAt ns n) t) b → natAbs (valueAt figures (slack T M n t) -ℤ pos (ofTruth b)) ≤ error (slack T M n t)
   -- Request N8: "The truth of a V slack at t, there and in N7, is that of its F, G or U with k kept to the slots t to T"
-  pub kept-within : (n t b : ℕ) → n < length ns → loops (nodeAt ns n) ≡ true → L < T → 1 ≤ t → t ≤ T → error (loopSlack T M ns n t) < one →
-      TruthBit (HoldsKept T (endless T L run) (ruleAt ns n) t) b →
-      natAbs (valueAt figures (loopSlack T M ns n t) -ℤ pos (b * one)) ≤ error (loopSlack T M ns n t)
+  pub kept-within : (n t : ℕ) (b : Bool) → n < length ns → loops (nodeAt ns n) ≡ true → L < T → 1 ≤ t → t ≤ T → error (loopSlack T M ns n t) < one →
+      TruthOf (HoldsKept T (endless T L run) (ruleAt ns n) t) b →
+      natAbs (valueAt figures (loopSlack T M ns n t) -ℤ pos (ofTruth b)) ≤ error (loopSlack T M ns n t)
   -- "Passed carries the root's figure at slot 1. When it is below 500,000, the run .. must satisfy the rule at slot 1."
   pub satisfied : carried < trustLimit → Holds (endless T L run) (ruleAt ns (root ns)) 1
 
@@ -166,7 +169,7 @@ abbrev pub PassedIsNear : Type 0
 PassedIsNear =
     (T M L e count carried : ℕ) (table : List ℕ) (ns : List Node) (figures : List ℤ) (error : ℕ → ℕ) (run : List ℕ) → LoopAllowed T L → Good M table ns →
     length figures ≡ variableCount T M L ns → ErrorFigures T M L e ns error → Rounded T M figures run →
-    Judged T M L e ns figures (Verdict.passed count carried) → NearTruth T M L ns figures error carried run
+    Judged T M L e ns figures (passed count carried) → NearTruth T M L ns figures error carried run
 
 -- any figures can be rounded
 abbrev pub RoundedRun : Type 0

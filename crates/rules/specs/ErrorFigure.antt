@@ -25,7 +25,7 @@ abbrev pub others : (error : ℕ → ℕ) (P : ℕ) → List Row → (k : ℕ) �
 others error P rs zero = 0
 others error P rs (suc v) = others error P rs v + cond (eqb v P) 0 (most v rs * error v)
 
--- `error` gives the error figure of each variable. That a good table has them, and one of each, is `one-figure-each` in Theorems.antt.
+-- `error` gives the error figure of each variable. That a good table has them, and one of each, is OneFigureEach in Demands.antt.
 pub record ErrorFigures (T M L e : ℕ) (ns : List Node) (error : ℕ → ℕ) : Type 0 where
   -- "An atom variable has e."
   pub atoms : (v : ℕ) → v < M * T → error v ≡ e

@@ -1,4 +1,4 @@
--- Each call's outcome is exact: refused with the lowest number that applies, and else answered with what document 01 says.
+-- Each call's outcome is exact: refused with the first refusal that applies, in the order of request N4, and else answered with what the papers say.
 pub mod Tests
 pub mod Tables
 pub mod Read

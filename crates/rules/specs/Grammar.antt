@@ -12,7 +12,7 @@ pub data Level : Type 0 where
   of : Binary → Level
   single : Level
 
--- "Rule: Or, or Or > Rule. Or: And, or And | Or. And: Until, or Until & And. Until: Single, or Single U Until.":
+-- "Rule: Or, or Or > Rule." "Or: And, or And | Or." "And: Until, or Until & And." "Until: Single, or Single U Until.":
 -- the level to the left of each operator. To its right stands its own level, so each groups to the right.
 abbrev pub tighter : Binary → Level
 tighter implies = of or

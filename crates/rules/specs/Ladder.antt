@@ -54,7 +54,8 @@ module _ {A : Type 0} (Refused : ℕ → Type 0) (Is : A → Type 0) where
   }
 
   -- a rung: the test decides the refusal k, and no earlier one applies
-  pub rung : (b : Bool) (k : ℕ) (rest : Answer A) → From (place k) → (b ≡ false → Refused k) → (b ≡ true → Exact Refused Is rest) → Exact Refused Is (require b k rest)
+  pub rung : (b : Bool) (k : ℕ) (rest : Answer A) → From (place k) → (b ≡ false → Refused k) → (b ≡ true → Exact Refused Is rest) →
+      Exact Refused Is (require b k rest)
   rung true k rest f r g = g refl
   rung false k rest f r g = exact-refused k (r refl) f
 

@@ -15,7 +15,7 @@ use Rattle.rules.specs.Demands.{Answer, Written}
 use Rattle.rules.specs.Demands.Answer.{refused, answered}
 use Rattle.rules.specs.Demands.Written.{wrote}
 use Rattle.rules.specs.Outcome.{readOutcome, tableChecked, runGood, truthWords, evaluateOutcome, rowsOutcome}
-use Rattle.rules.specs.Starred.{written, table}
+use Rattle.rules.specs.WindowExamples.{written, table}
 
 -- A line: a text, a run and the truth words; or a text and what the row writer answers.
 pub data Line : Type 0 where

@@ -20,15 +20,16 @@ use Rattle.rules.specs.Rule.Binary.{and, or, implies, until}
 use Rattle.rules.specs.Table.{Node, nodeAt, ruleAt, root}
 use Rattle.rules.specs.Table.Node.{atom, unary, binary, windowed}
 use Rattle.rules.specs.Truth.{endless, Holds, TruthBit, slotBit, TruthWords}
-use Rattle.rules.specs.Rows.{Row, slack, looping, loopSlack, slackCount, variableCount, unaryRows, binaryRows, windowRows, windowSlots, slotsRows}
+use Rattle.rules.specs.Rows.{Row, sumOf, slack, looping, loopSlack, slackCount, variableCount, unaryRows, binaryRows, windowRows, windowSlots, slotsRows}
 use Rattle.rules.specs.Rows.{rowsAt, loopRowsAt, nodeRows, nodesRows, goalRow, rowsOf, rowsBytes}
 use Rattle.rules.specs.Slots.{slot-no-loop}
 use Rattle.rules.specs.ErrorFigure.{ErrorFigures, others}
-use Rattle.rules.specs.Judge.{Broken, shortfall, Lowest, None, Verdict, Judged}
+use Rattle.rules.specs.Judge.{Verdict, JudgedBy, RootFigure, Judged}
 use Rattle.rules.specs.Refusals.{placeIn, place, Wins, TableRefused, EvaluateRefused, RowsRefused, JudgeRefused}
 use Rattle.rules.specs.Demands.{Answer, Exact}
 use Rattle.rules.specs.Demands.Answer.{refused, answered}
 use Rattle.rules.specs.Demands.Written.{wrote}
+use Rattle.rules.specs.Unaltered.{same-judged}
 use Rattle.rules.specs.Outcome.{evaluateOutcome, rowsOutcome, judgeOutcome}
 use Rattle.rules.specs.Ladder.{refuse}
 use Rattle.rules.specs.Exactness.Evaluate.{evaluate-exact}
@@ -128,38 +129,14 @@ module _ (T M : ℕ) (0<T : 1 ≤ T) (e : ℕ) (ns : List Node) where
     λ f. record { atoms = f .atoms; nodes = λ n t h l u. f .nodes n t h l u ∙ sym (same-figure error n t); kept = λ n t h b l. absurd (omega arith) },
   )
 
-  module _ (xs : List ℤ) where
-    abbrev BrokenOf : List Row → ℕ → Type 0
-    BrokenOf rs i = (i < length rs) × Broken e xs (getD rs i (goalRow T M ns))
-
-    -- the verdicts that a row list rs gives
-    abbrev brokenBy : List Row → ℕ → Verdict
-    brokenBy rs i = Verdict.broken i (shortfall xs (getD rs i (goalRow T M ns)))
-
-    abbrev passedBy : List Row → (ℕ → ℕ) → Verdict
-    passedBy rs error = Verdict.passed (length rs) (error (slack T M (root ns) 1))
-
-    to-before : {v : Verdict} → Judged T M T e ns xs v → JudgedBefore T M e ns xs v
-    to-before (Judged.is-outside h) = JudgedBefore.is-outside h
-    to-before (Judged.is-not-binary p h) = JudgedBefore.is-not-binary p h
-    to-before (Judged.is-broken {i} p q h) =
-        subst (λ (rs : List Row). Lowest (BrokenOf rs) i → JudgedBefore T M e ns xs (brokenBy rs i)) (sym (same-rows T M 0<T ns))
-        (λ x. JudgedBefore.is-broken p q x) h
-    to-before (Judged.is-passed {error} p q r f) =
-        subst (λ (rs : List Row). None (BrokenOf rs) → JudgedBefore T M e ns xs (passedBy rs error)) (sym (same-rows T M 0<T ns))
-        (λ x. JudgedBefore.is-passed p q x (same-figures error .0 f)) r
-
-    from-before : {v : Verdict} → JudgedBefore T M e ns xs v → Judged T M T e ns xs v
-    from-before (JudgedBefore.is-outside h) = Judged.is-outside h
-    from-before (JudgedBefore.is-not-binary p h) = Judged.is-not-binary p h
-    from-before (JudgedBefore.is-broken {i} p q h) =
-        subst (λ (rs : List Row). Lowest (BrokenOf rs) i → Judged T M T e ns xs (brokenBy rs i)) (same-rows T M 0<T ns) (λ x. Judged.is-broken p q x) h
-    from-before (JudgedBefore.is-passed {error} p q r f) =
-        subst (λ (rs : List Row). None (BrokenOf rs) → Judged T M T e ns xs (passedBy rs error)) (same-rows T M 0<T ns)
-        (λ x. Judged.is-passed p q x (same-figures error .1 f)) r
-
-    pub same-verdicts : (v : Verdict) → Judged T M T e ns xs v ↔ JudgedBefore T M e ns xs v
-    same-verdicts v = (to-before, from-before)
+  pub same-verdicts : (xs : List ℤ) (v : Verdict) → Judged T M T e ns xs v ↔ JudgedBefore T M e ns xs v
+  same-verdicts xs v =
+      let by : List Row → Type 0 =
+      λ rs. JudgedBy (M * T) e xs rs (λ r. sumOf xs (r .terms)) (λ d. d) (RootFigure T M ns (ErrorFigures T M T e ns)) v in
+      Iff·trans (subst by (same-rows T M 0<T ns), subst by (sym (same-rows T M 0<T ns))) (
+        same-judged (λ r. refl) (λ k (error, f, is). (error, same-figures error .0 f, is)),
+        same-judged (λ r. refl) (λ k (error, f, is). (error, same-figures error .1 f, is)),
+      )
 
 -- ---- what the calls answer: exactly what they were to answer before. Where T is 0 they refuse with 1 before they look at L.
 

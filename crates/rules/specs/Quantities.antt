@@ -1,4 +1,5 @@
 -- "Quantities".
+use mathlib.Core.Bool.{Bool, true, false}
 use mathlib.Core.List.{List}
 use Prim.Native.Nat.{ℕ, _-_, _/_, _%_, _^_, _≤_}
 use lib.ListN.{getD}
@@ -34,6 +35,13 @@ bitAt run t a = getD run (t - 1) 0 / 2 ^ a % 2
 -- (A figure is the value that a solver gives a variable.)
 abbrev pub one : ℕ
 one = 1000000
+
+abbrev pub zero : ℕ
+zero = 0
+
+abbrev pub ofTruth : Bool → ℕ
+ofTruth true = one
+ofTruth false = zero
 
 -- "Tolerance: 0 to 1,000 millionths."
 abbrev pub toleranceLimit : ℕ

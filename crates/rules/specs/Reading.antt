@@ -40,9 +40,11 @@ pub reading-complete : (text : List ℕ) (p : Rule) → Says text p → reading 
 unfolding reading spaces digits
 reading-complete text p d =
     let g = placed d text 0 [] (sym (append-nil text)) refl in
-    let end : start text (g .next) ≡ length text = g .ends ∙ omega (arith, ap spaces (ap (λ (k : ℕ). drop k text) (zero-add (length text)) ∙ drop-length text)) in
+    let end : start text (g .next) ≡ length text =
+    g .ends ∙ omega (arith, ap spaces (ap (λ (k : ℕ). drop k text) (zero-add (length text)) ∙ drop-length text)) in
     let over : length text ≤ start text (g .next) = omega arith in
-    ap (whole text) (complete (g .derives) (stops-at text (of implies) (g .next) (λ b. sign-none text (g .next) b (token-none text (g .next) (start text (g .next)) refl over))))
+    ap (whole text) (complete (g .derives)
+    (stops-at text (of implies) (g .next) (λ b. sign-none text (g .next) b (token-none text (g .next) (start text (g .next)) refl over))))
     ∙ rw (le-ltb (start text (g .next)) (length text) over) refl
 
 phrase-whole : (text : List ℕ) (p : Rule) (next : ℕ) → parsed (of implies) text 0 ≡ Parsed.part p next → length text ≤ start text next → Says text p
@@ -54,7 +56,8 @@ phrase-whole text p next e over =
     let tail : l ≡ replicate k 32 = spaces-split l ∙ ap (λ (x : List ℕ). replicate k 32 ++ x) none-left ∙ append-nil (replicate k 32) in
     subst (λ (x : List ℕ). Says x p) (sym (g .splits ∙ ap (λ (x : List ℕ). g .word ++ x) tail)) (all-after k (g .phrase))
 
-ended-sound : (text : List ℕ) (p q : Rule) (next : ℕ) (b : Bool) → parsed (of implies) text 0 ≡ Parsed.part q next → ltb (start text next) (length text) ≡ b → cond b none (some q) ≡ some p → Says text p
+ended-sound : (text : List ℕ) (p q : Rule) (next : ℕ) (b : Bool) → parsed (of implies) text 0 ≡ Parsed.part q next → ltb (start text next) (length text) ≡ b →
+    cond b none (some q) ≡ some p → Says text p
 ended-sound text p q next true e f h = let z : _≡_ {A = ℕ} 0 1 = cc in absurd (omega arith)
 ended-sound text p q next false e f h =
     let w : q ≡ p = cc in
@@ -68,7 +71,7 @@ pub reading-sound : (text : List ℕ) (p : Rule) → reading text ≡ some p →
 unfolding reading
 reading-sound text p e = whole-sound text p (parsed (of implies) text 0) refl e
 
--- "It accepts exactly the grammar, by one reading."
+-- "exactly the grammar, by one reading"
 pub one-reading : (text : List ℕ) (p q : Rule) → Says text p → Says text q → p ≡ q
 one-reading text p q a b =
     let e = reading-complete text p a in

@@ -62,7 +62,8 @@ terms-back [] rest h = refl
 terms-back (t ∷ ts) rest h =
     ap₂ _∷_ (term-is _ (t .coefficient) _ (t .variable) (signed-back (t .coefficient) (h .0)) (omega arith)) (terms-back ts rest (h .1))
 
-row-is : (r : Row) (o : Relation) (b : ℤ) (ts : List Term) → o ≡ r .relation → b ≡ r .right → ts ≡ r .terms → _≡_ {A = Row} (record { relation = o; terms = ts; right = b }) r
+row-is : (r : Row) (o : Relation) (b : ℤ) (ts : List Term) → o ≡ r .relation → b ≡ r .right → ts ≡ r .terms →
+    _≡_ {A = Row} (record { relation = o; terms = ts; right = b }) r
 row-is r o b ts e f g = λ i. record { relation = e i; terms = g i; right = f i }
 
 -- a record, whatever follows it
@@ -101,7 +102,8 @@ small-less zero h = omega arith
 small-less (suc zero) h = omega arith
 small-less (suc (suc k)) h = let e : suc (suc k) - 1 ≡ suc k = omega arith in rw e (omega arith)
 
-pluses-small : (p : ℕ → ℕ) (ss : List ℕ) (rest : List Term) → Every (λ (t : Term). Small (t .coefficient)) rest → Every (λ (t : Term). Small (t .coefficient)) (map (λ s. plus (p s)) ss ++ rest)
+pluses-small : (p : ℕ → ℕ) (ss : List ℕ) (rest : List Term) → Every (λ (t : Term). Small (t .coefficient)) rest →
+    Every (λ (t : Term). Small (t .coefficient)) (map (λ s. plus (p s)) ss ++ rest)
 pluses-small p [] rest h = h
 pluses-small p (s ∷ ss) rest h = (omega arith, pluses-small p ss rest h)
 
@@ -133,7 +135,14 @@ window-recordable throughout P p ss h =
     let long : Row = ge (plus P ∷ map (λ s. minus (p s)) ss) (negℤ (pos (length ss - 1))) in
     every-append Recordable (map pair ss) (long ∷ []) .1 (
       every-pair pair (λ s. omega arith) ss,
-      (record { few = omega (arith, length-map ss (λ (s : ℕ). minus (p s))); right-small = small-less (length ss) h; small = (omega arith, minuses-small p ss) }, tt),
+      (
+        record {
+          few = omega (arith, length-map ss (λ (s : ℕ). minus (p s)));
+          right-small = small-less (length ss) h;
+          small = (omega arith, minuses-small p ss);
+        },
+        tt,
+      ),
     )
 
 if-recordable : (b : Bool) (rs : List Row) → Every Recordable rs → Every Recordable (cond b rs [])

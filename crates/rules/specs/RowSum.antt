@@ -1,15 +1,13 @@
 -- Request N3: the row sum adds the positive terms first, and gives the sum reached there beside the whole sum.
 use mathlib.Core.Bool.{Bool, cond, not}
 use mathlib.Core.List.{List, [], _∷_}
-use Prim.Native.Nat.{ℕ, _<_}
-use lib.ListN.{length}
+use Prim.Native.Nat.{ℕ, _*_}
 use lib.IntN.{ℤ, pos, _+ℤ_, _*ℤ_}
 use lib.Signed.{ltZ}
-use Rattle.rules.specs.Quantities.{one}
-use Rattle.rules.specs.Table.{Node, root}
-use Rattle.rules.specs.Rows.{Term, Row, valueAt, slack, rowsOf}
+use Rattle.rules.specs.Table.{Node}
+use Rattle.rules.specs.Rows.{Term, Row, valueAt, rowsOf}
 use Rattle.rules.specs.ErrorFigure.{ErrorFigures}
-use Rattle.rules.specs.Judge.{BrokenBy, shortfallBy, Lowest, None, Verdict, rowAt, OutsideAt, NotBinaryAt}
+use Rattle.rules.specs.Judge.{BrokenWith, shortfallWith, JudgedBy, RootFigure, Verdict}
 
 -- "the positive terms (those with a positive coefficient, whatever the figure)"
 abbrev pub isPositive : Term → Bool
@@ -43,19 +41,11 @@ rowSum xs ts =
 -- ---- the judge as in Judge.antt, with the second number of the row sum for a row's sum. Unaltered.antt proves that it gives the same verdicts and shortfalls.
 
 abbrev pub Broken : (e : ℕ) → List ℤ → Row → Type 0
-Broken e xs r = BrokenBy (r .relation) e (r .right *ℤ pos one) (rowSum xs (r .terms) .whole)
+Broken e xs r = BrokenWith e r (rowSum xs (r .terms) .whole)
 
 abbrev pub shortfall : List ℤ → Row → ℤ
-shortfall xs r = shortfallBy (r .relation) (r .right *ℤ pos one) (rowSum xs (r .terms) .whole)
+shortfall xs r = shortfallWith r (rowSum xs (r .terms) .whole)
 
-module _ (T M L e : ℕ) (ns : List Node) (xs : List ℤ) where
-  abbrev pub BrokenAt : ℕ → Type 0
-  BrokenAt i = (i < length (rowsOf T M L ns)) × Broken e xs (rowAt T M L ns i)
-
-  pub data Judged : Verdict → Type 0 where
-    is-outside : {v : ℕ} → Lowest (OutsideAt T M L e ns xs) v → Judged (Verdict.outside v)
-    is-not-binary : {v : ℕ} → None (OutsideAt T M L e ns xs) → Lowest (NotBinaryAt T M L e ns xs) v → Judged (Verdict.not-binary v)
-    is-broken : {i : ℕ} → None (OutsideAt T M L e ns xs) → None (NotBinaryAt T M L e ns xs) → Lowest BrokenAt i →
-        Judged (Verdict.broken i (shortfall xs (rowAt T M L ns i)))
-    is-passed : {error : ℕ → ℕ} → None (OutsideAt T M L e ns xs) → None (NotBinaryAt T M L e ns xs) → None BrokenAt → ErrorFigures T M L e ns error →
-        Judged (Verdict.passed (length (rowsOf T M L ns)) (error (slack T M (root ns) 1)))
+abbrev pub Judged : (T M L e : ℕ) → List Node → List ℤ → Verdict → Type 0
+Judged T M L e ns xs =
+    JudgedBy (M * T) e xs (rowsOf T M L ns) (λ r. rowSum xs (r .terms) .whole) (λ d. d) (RootFigure T M ns (ErrorFigures T M L e ns))

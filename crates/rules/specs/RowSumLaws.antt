@@ -51,7 +51,8 @@ module _ (xs : List ℤ) where
   reordered : (f : Term → Bool) {ts us : List Term} → List·Permᴰ ts us → sumOf xs (termsWhere f ts) ≡ sumOf xs (termsWhere f us)
   reordered f List·Permᴰ·nil = refl
   reordered f (List·Permᴰ·trans p q) = reordered f p ∙ reordered f q
-  reordered f (List·Permᴰ·cons {b = b} {l₁ = ts} {l₂ = us} e p) = ap (λ (t : Term). sumOf xs (termsWhere f (t ∷ ts))) e ∙ go (f b) (termsWhere f ts) (termsWhere f us) (reordered f p)
+  reordered f (List·Permᴰ·cons {b = b} {l₁ = ts} {l₂ = us} e p) =
+      ap (λ (t : Term). sumOf xs (termsWhere f (t ∷ ts))) e ∙ go (f b) (termsWhere f ts) (termsWhere f us) (reordered f p)
     where
       go : (d : Bool) (l m : List Term) → sumOf xs l ≡ sumOf xs m → sumOf xs (cond d (b ∷ l) l) ≡ sumOf xs (cond d (b ∷ m) m)
       go true l m h = ap (λ (z : ℤ). product b +ℤ z) h
@@ -59,7 +60,8 @@ module _ (xs : List ℤ) where
   reordered f (List·Permᴰ·swap {a = a} {b = b} {l = ts} d e) =
       go (f a) (f b) (termsWhere f ts) ∙ ap₂ (λ (t u : Term). sumOf xs (termsWhere f (t ∷ u ∷ ts))) e d
     where
-      go : (i j : Bool) (us : List Term) → sumOf xs (cond i (a ∷ cond j (b ∷ us) us) (cond j (b ∷ us) us)) ≡ sumOf xs (cond j (b ∷ cond i (a ∷ us) us) (cond i (a ∷ us) us))
+      go : (i j : Bool) (us : List Term) →
+          sumOf xs (cond i (a ∷ cond j (b ∷ us) us) (cond j (b ∷ us) us)) ≡ sumOf xs (cond j (b ∷ cond i (a ∷ us) us) (cond i (a ∷ us) us))
       go true true us = swap-first (product a) (product b) (sumOf xs us)
       go true false us = refl
       go false true us = refl

@@ -64,7 +64,7 @@ looping (nd ∷ ns) = cond (loops nd) (suc (looping ns)) (looping ns)
 abbrev pub loopSlack : (T M : ℕ) → List Node → (n t : ℕ) → ℕ
 loopSlack T M ns n t = (M + (length ns + looping (take n ns))) * T + (t - 1)
 
--- "With L equal to T everything is as it was. .. Otherwise": how many slacks there are, and how many variables
+-- "With L equal to T everything is as it was .. Otherwise": how many slacks there are, and how many variables
 abbrev pub slackCount : (T L : ℕ) → List Node → ℕ
 slackCount T L ns = (length ns + cond (ltb L T) (looping ns) 0) * T
 
@@ -108,15 +108,20 @@ impliesRows P p q = ge (plus P ∷ plus p ∷ []) (pos 1) ∷ ge (plus P ∷ min
 
 -- "P − q ≥ 0; p + q − P ≥ 0; q + P' − P ≥ 0; P − p − P' ≥ −1"
 abbrev pub untilRows : (P p q P′ : ℕ) → List Row
-untilRows P p q P′ = ge (plus P ∷ minus q ∷ []) (pos 0) ∷ ge (plus p ∷ plus q ∷ minus P ∷ []) (pos 0) ∷ ge (plus q ∷ plus P′ ∷ minus P ∷ []) (pos 0) ∷ ge (plus P ∷ minus p ∷ minus P′ ∷ []) (negsuc 0) ∷ []
+untilRows P p q P′ =
+    ge (plus P ∷ minus q ∷ []) (pos 0) ∷
+    ge (plus p ∷ plus q ∷ minus P ∷ []) (pos 0) ∷
+    ge (plus q ∷ plus P′ ∷ minus P ∷ []) (pos 0) ∷
+    ge (plus P ∷ minus p ∷ minus P′ ∷ []) (negsuc 0) ∷ []
 
--- Kinds 2, 6 and 7; `inner` is whether t < T. At t < T kind 6 has the rows of "or" over p and P', kind 7 those of "and". "6 and 7, t = T: P − p = 0".
+-- Kinds 2, 6 and 7; `inner` is whether t < T. At t < T kind 6 has the rows of "or" over p and P', kind 7 those of "and".
+-- At "6 and 7, t = T" the row is "P − p = 0".
 abbrev pub unaryRows : Unary → (inner : Bool) → (P p P′ : ℕ) → List Row
 unaryRows not inner P p P′ = notRows P p
 unaryRows eventually inner P p P′ = cond inner (orRows P p P′) (sameRows P p)
 unaryRows always inner P p P′ = cond inner (andRows P p P′) (sameRows P p)
 
--- Kinds 3, 4, 5 and 8. "8, t = T: P − q = 0".
+-- Kinds 3, 4, 5 and 8. At "8, t = T" the row is "P − q = 0".
 abbrev pub binaryRows : Binary → (inner : Bool) → (P p q P′ : ℕ) → List Row
 binaryRows and inner P p q P′ = andRows P p q
 binaryRows or inner P p q P′ = orRows P p q

@@ -20,7 +20,7 @@ pub data Rule : Type 0 where
   binary : Binary → Rule → Rule → Rule
   windowed : Window → (a b : ℕ) → Rule → Rule
 
--- How many nodes a rule has: "brackets make no node"; "equal parts are not shared".
+-- How many nodes a rule has: "brackets make no node"; "Equal parts are not shared."
 abbrev pub size : Rule → ℕ
 size (atom a) = 1
 size (unary u p) = size p + 1

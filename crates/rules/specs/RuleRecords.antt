@@ -21,12 +21,14 @@ from-append : (ns : List Node) (n c : ℕ) (a b : List Node) → length a ≡ c 
 from-append ns n c [] b e = ap (λ (k : ℕ). tableFrom ns k b) (omega arith)
 from-append ns n c (nd ∷ a) b e =
     let f : n + 1 + (c - 1) ≡ n + c = omega arith in
-    ap (λ (l : List ℕ). nodeBytes (heightAt ns n) nd ++ l) (from-append ns (n + 1) (c - 1) a b (omega arith) ∙ ap (λ (k : ℕ). tableFrom ns (n + 1) a ++ tableFrom ns k b) f)
+    ap (λ (l : List ℕ). nodeBytes (heightAt ns n) nd ++ l)
+    (from-append ns (n + 1) (c - 1) a b (omega arith) ∙ ap (λ (k : ℕ). tableFrom ns (n + 1) a ++ tableFrom ns k b) f)
     ∙ sym (append-assoc (nodeBytes (heightAt ns n) nd) (tableFrom ns (n + 1) a) (tableFrom ns (n + c) b))
 
 module _ (M : ℕ) (ns : List Node) (good : NodesGood M ns) where
   -- the record of the top node of a rule
-  top-record : (p : Rule) (k n : ℕ) (nd : Node) → Has ns k (nodesFrom k p) → k + size p ≤ length ns → k + size p - 1 ≡ n → tableFrom ns n (nd ∷ []) ≡ nodeBytes (height p) nd
+  top-record : (p : Rule) (k n : ℕ) (nd : Node) → Has ns k (nodesFrom k p) → k + size p ≤ length ns → k + size p - 1 ≡ n →
+      tableFrom ns n (nd ∷ []) ≡ nodeBytes (height p) nd
   top-record p k n nd h u e =
       append-nil (nodeBytes (heightAt ns n) nd)
       ∙ ap (λ (r : Rule). nodeBytes (height r) nd) (ap (ruleAt ns) (sym e) ∙ stands M ns good p k h u)
@@ -40,7 +42,8 @@ module _ (M : ℕ) (ns : List Node) (good : NodesGood M ns) where
   records-are (windowed w a b p) k h u =
       let top = Node.windowed w a b (k + size p - 1) in
       from-append ns k (size p) (nodesFrom k p) (top ∷ []) (length-nodesFrom k p)
-      ∙ ap₂ _++_ (records-are p k (has-left ns k (nodesFrom k p) (top ∷ []) h) (omega arith)) (top-record (windowed w a b p) k (k + size p) top h u (omega arith))
+      ∙ ap₂ _++_ (records-are p k (has-left ns k (nodesFrom k p) (top ∷ []) h) (omega arith))
+      (top-record (windowed w a b p) k (k + size p) top h u (omega arith))
   records-are (binary o p q) k h u =
       let top = Node.binary o (k + size p - 1) (k + size p + size q - 1) in
       let behind = nodesFrom (k + size p) q ++ (top ∷ []) in

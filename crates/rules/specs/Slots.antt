@@ -78,7 +78,7 @@ module _ (T L : ℕ) (loop : LoopAllowed T L) where
   pub distance-back : (k : ℕ) → T - distance k ≡ slotOf T L k
   distance-back k = omega (arith, slot-le k)
 
--- with L equal to T, "a slot after T has the atoms of slot T"
+-- with L equal to T: "A slot after T has the atoms of slot T."
 pub slot-no-loop : (T k : ℕ) → 1 ≤ T → slotOf T T k ≡ min k T
 slot-no-loop T zero h = omega arith
 slot-no-loop T (suc k) h = ap (slotAfter T T) (slot-no-loop T k h) ∙ go (decLt k T)

@@ -70,7 +70,8 @@ nodes-good-from M (unary u p) h i k =
 nodes-good-from M (binary o p q) h i k =
     good-append M k (size p) (nodesFrom k p) _ (length-nodesFrom k p) (nodes-good-from M p (h .0) (i .0) k)
     (good-append M (k + size p) (size q) (nodesFrom (k + size p) q) _ (length-nodesFrom (k + size p) q) (nodes-good-from M q (h .1) (i .1) (k + size p))
-    (good-one M (k + size p + size q) (Node.binary o (k + size p - 1) (k + size p + size q - 1)) (omega (arith, size-positive p, size-positive q), omega (arith, size-positive p, size-positive q))))
+    (good-one M (k + size p + size q) (Node.binary o (k + size p - 1) (k + size p + size q - 1))
+    (omega (arith, size-positive p, size-positive q), omega (arith, size-positive p, size-positive q))))
 
 pub nodes-good : (M : ℕ) (p : Rule) → AtomsBelow M p → WindowsAllowed p → NodesGood M (nodesOf p)
 nodes-good M p h i n u = subst (λ (j : ℕ). NodeGood M j (nodeAt (nodesOf p) n)) (omega arith) (nodes-good-from M p h i 0 n u)
@@ -118,7 +119,8 @@ module _ (M : ℕ) (ns : List Node) (good : NodesGood M ns) where
       let behind = nodesFrom (k + size p) q ++ (top ∷ []) in
       let right = has-right ns k (size p) (nodesFrom k p) behind (length-nodesFrom k p) h in
       ap (ruleAt ns) (omega arith)
-      ∙ last-is (k + size p + size q) top (has-right ns (k + size p) (size q) (nodesFrom (k + size p) q) (top ∷ []) (length-nodesFrom (k + size p) q) right) (omega arith)
+      ∙ last-is (k + size p + size q) top
+      (has-right ns (k + size p) (size q) (nodesFrom (k + size p) q) (top ∷ []) (length-nodesFrom (k + size p) q) right) (omega arith)
       ∙ ap₂ (binary o) (stands p k (has-left ns k (nodesFrom k p) behind h) (omega arith))
       (stands q (k + size p) (has-left ns (k + size p) (nodesFrom (k + size p) q) (top ∷ []) right) (omega arith))
 

@@ -17,7 +17,8 @@ use Rattle.rules.specs.Rule.{Unary, Binary, Window, Rule, height}
 use Rattle.rules.specs.Rule.Unary.{not, eventually, always}
 use Rattle.rules.specs.Rule.Binary.{and, or, implies, until}
 use Rattle.rules.specs.Rule.Window.{within, throughout}
-use Rattle.rules.specs.Table.{Node, kindOf, leftOf, rightOf, fromOf, toOf, nodeBytes, tableFrom, tableBytes, NodeGood, Good, nodeAt, grow, ruleAt, heightAt}
+use Rattle.rules.specs.Table.{Node, kindOf, leftOf, rightOf, fromOf, toOf, nodeBytes, tableFrom, tableBytes, NodeGood, Good, nodeAt, grow}
+use Rattle.rules.specs.Table.{ruleAt, heightAt}
 use Rattle.rules.specs.Table.Node.{atom, unary, binary, windowed}
 use Rattle.rules.specs.TableRules.{ruleAt-is}
 
@@ -78,7 +79,8 @@ marked bytes n = eqb (byteAt bytes n 0) 0x4E && eqb (byteAt bytes n 1) 0x44
 abbrev pub nodeTest : ℕ → List ℕ → ℕ → Bool
 nodeTest M bytes n =
     marked bytes n &&
-    someGood M n (byteAt bytes n 4) (byteAt bytes n 5) (byteAt bytes n 6) (nodeIn (byteAt bytes n 2) (byteAt bytes n 3) (byteAt bytes n 4) (byteAt bytes n 5) (byteAt bytes n 6))
+    someGood M n (byteAt bytes n 4) (byteAt bytes n 5) (byteAt bytes n 6)
+    (nodeIn (byteAt bytes n 2) (byteAt bytes n 3) (byteAt bytes n 4) (byteAt bytes n 5) (byteAt bytes n 6))
 
 -- the height that the children's records give
 abbrev heightIn : List ℕ → Node → ℕ
@@ -205,7 +207,8 @@ module _ (M n k l r i j : ℕ) where
       }
 
   -- one kind of the ten, or a later one
-  next-kind : (nd : Node) (m : ℕ) (b : Bool) (x : Node) (rest : Option Node) → b ≡ eqb k m → (k ≡ m → From x) → (rest ≡ some nd → From nd) → cond b (some x) rest ≡ some nd → From nd
+  next-kind : (nd : Node) (m : ℕ) (b : Bool) (x : Node) (rest : Option Node) → b ≡ eqb k m → (k ≡ m → From x) → (rest ≡ some nd → From nd) →
+      cond b (some x) rest ≡ some nd → From nd
   next-kind nd m true x rest e f g h =
       let same : x ≡ nd = cc in
       subst From same (f (eqb→eq k m (rw (← e) tt)))
@@ -261,7 +264,8 @@ node-fields M bytes n t =
     let nd = nodeIn (b 2) (b 3) (b 4) (b 5) (b 6) in
     some-fields M n (b 2) (b 3) (b 4) (b 5) (b 6) nd refl (and-right (marked bytes n) (someGood M n (b 4) (b 5) (b 6) nd) t)
 
-record-sound : (M : ℕ) (bytes : List ℕ) (n : ℕ) → Is (recordGood M bytes n) → RecordAt bytes n (heightIn bytes (nodeFrom bytes n)) (nodeFrom bytes n) × NodeGood M n (nodeFrom bytes n)
+record-sound : (M : ℕ) (bytes : List ℕ) (n : ℕ) → Is (recordGood M bytes n) →
+    RecordAt bytes n (heightIn bytes (nodeFrom bytes n)) (nodeFrom bytes n) × NodeGood M n (nodeFrom bytes n)
 unfolding recordGood
 record-sound M bytes n t =
     let b : ℕ → ℕ = byteAt bytes n in
@@ -277,17 +281,21 @@ record-sound M bytes n t =
       f .good-node,
     )
 
-node-read : (bytes : List ℕ) (n h : ℕ) (nd : Node) → RecordAt bytes n h nd → nodeIn (byteAt bytes n 2) (byteAt bytes n 3) (byteAt bytes n 4) (byteAt bytes n 5) (byteAt bytes n 6) ≡ some nd
-node-read bytes n h nd r = rw (r .is 2 (omega arith), r .is 3 (omega arith), r .is 4 (omega arith), r .is 5 (omega arith), r .is 6 (omega arith)) (node-back nd)
+node-read : (bytes : List ℕ) (n h : ℕ) (nd : Node) → RecordAt bytes n h nd →
+    nodeIn (byteAt bytes n 2) (byteAt bytes n 3) (byteAt bytes n 4) (byteAt bytes n 5) (byteAt bytes n 6) ≡ some nd
+node-read bytes n h nd r = rw (r .is 2 (omega arith), r .is 3 (omega arith), r .is 4 (omega arith), r .is 5 (omega arith), r .is 6 (omega arith))
+    (node-back nd)
 
-record-complete : (M : ℕ) (bytes : List ℕ) (n h : ℕ) (nd : Node) → RecordAt bytes n h nd → h ≡ heightIn bytes nd → NodeGood M n nd → Is (recordGood M bytes n) × (nodeFrom bytes n ≡ nd)
+record-complete : (M : ℕ) (bytes : List ℕ) (n h : ℕ) (nd : Node) → RecordAt bytes n h nd → h ≡ heightIn bytes nd → NodeGood M n nd →
+    Is (recordGood M bytes n) × (nodeFrom bytes n ≡ nd)
 unfolding recordGood
 record-complete M bytes n h nd r k g =
     let e = node-read bytes n h nd r in
     let w : byteAt bytes n 7 ≡ heightIn bytes nd = r .is 7 (omega arith) ∙ k in
     let f : ℕ → ℕ = λ c. byteAt bytes c 7 in (
       rw (e, r .is 0 (omega arith), r .is 1 (omega arith), r .is 4 (omega arith), r .is 5 (omega arith), r .is 6 (omega arith), w)
-          (and-both (nodeGood M n (rightOf nd) (fromOf nd) (toOf nd) nd) (eqb (heightNow f nd) (heightNow f nd)) (good-test M n nd g) (eqb-refl (heightNow f nd))),
+          (and-both (nodeGood M n (rightOf nd) (fromOf nd) (toOf nd) nd) (eqb (heightNow f nd) (heightNow f nd)) (good-test M n nd g)
+          (eqb-refl (heightNow f nd))),
       ap orAtom e,
     )
 
@@ -336,7 +344,8 @@ pub length-table : (ns : List Node) → length (tableBytes ns) ≡ 8 * length ns
 length-table ns = length-from ns 0 ns
 
 -- node m + n's record in the bytes of a part of a table
-from-at : (ns : List Node) (m : ℕ) (l : List Node) (n i : ℕ) → n < length l → i < 8 → getD (tableFrom ns m l) (8 * n + i) 0 ≡ getD (nodeBytes (heightAt ns (m + n)) (nodeAt l n)) i 0
+from-at : (ns : List Node) (m : ℕ) (l : List Node) (n i : ℕ) → n < length l → i < 8 →
+    getD (tableFrom ns m l) (8 * n + i) 0 ≡ getD (nodeBytes (heightAt ns (m + n)) (nodeAt l n)) i 0
 from-at ns m [] n i h k = absurd (omega arith)
 from-at ns m (nd ∷ l) zero i h k =
     ap (λ (j : ℕ). getD (tableFrom ns m (nd ∷ l)) j 0) (zero-add i) ∙ first i k ∙ ap (λ (j : ℕ). getD (nodeBytes (heightAt ns j) nd) i 0) (sym (add-zero m))
@@ -359,7 +368,8 @@ pub height-written : (ns : List Node) (n : ℕ) → n < length ns → byteAt (ta
 height-written ns n h = table-at ns n 7 h (omega arith)
 
 -- bytes that have each node's record are the table's
-bytes-are : (bytes : List ℕ) (ns : List Node) → length bytes ≡ 8 * length ns → ((n : ℕ) → n < length ns → RecordAt bytes n (heightAt ns n) (nodeAt ns n)) → bytes ≡ tableBytes ns
+bytes-are : (bytes : List ℕ) (ns : List Node) → length bytes ≡ 8 * length ns → ((n : ℕ) → n < length ns → RecordAt bytes n (heightAt ns n) (nodeAt ns n)) →
+    bytes ≡ tableBytes ns
 bytes-are bytes ns e r = ext-getD 0 bytes (tableBytes ns) (e ∙ sym (length-table ns)) same
   where
     same : (i : ℕ) → i < length bytes → getD bytes i 0 ≡ getD (tableBytes ns) i 0
@@ -394,7 +404,8 @@ module _ (M : ℕ) (bytes : List ℕ) where
         let l = length-nodesIn in
         let f : ℕ → ℕ = λ c. byteAt bytes c 7 in
         sym (each n h .0 .is 7 (omega arith))
-        ∙ heights-are M (nodesIn bytes) nodes-good f (λ i u. let k : i < N = omega arith in rw (node-is i k) (each i k .0 .is 7 (omega arith))) (suc n) n (omega arith) (omega arith)
+        ∙ heights-are M (nodesIn bytes) nodes-good f (λ i u. let k : i < N = omega arith in rw (node-is i k) (each i k .0 .is 7 (omega arith))) (suc n) n
+        (omega arith) (omega arith)
 
     each-record : (n : ℕ) → n < N → RecordAt bytes n (heightAt (nodesIn bytes) n) (nodeFrom bytes n)
     each-record n h = subst (λ (x : ℕ). RecordAt bytes n x (nodeFrom bytes n)) (height-is n h) (each n h .0)

@@ -2,7 +2,7 @@
 use mathlib.Core.Path.{_≡_}
 use mathlib.Core.Logic.{_⊎_}
 use mathlib.Core.List.{List}
-use mathlib.Core.Bool.{cond}
+use mathlib.Core.Bool.{Bool, cond}
 use Prim.Native.Nat.{ℕ, zero, suc, _+_, _-_, _/_, _%_, _^_, _≤_, _<_}
 use lib.Dec.{ltb}
 use lib.ListN.{length, getD}
@@ -72,6 +72,10 @@ HoldsKept T w (atom a) t = ⊥
 HoldsKept T w (unary u p) t = KeptUnary u T (Holds w p) t
 HoldsKept T w (binary o p q) t = KeptBinary o T (Holds w p) (Holds w q) t
 HoldsKept T w (windowed i a b p) t = ⊥
+
+-- b is the truth of P
+abbrev pub TruthOf : Type 0 → (b : Bool) → Type 0
+TruthOf P b = cond b P (P → ⊥)
 
 -- 1 where P holds and 0 where not
 pub data TruthBit (P : Type 0) : ℕ → Type 0 where

@@ -1,16 +1,17 @@
 -- The judge's verdict does not alter, and the evaluator's truth is the one of before.
 use mathlib.Core.Path.{_≡_, refl, sym, ap, ap₂, subst, _∙_}
-use mathlib.Core.Logic.{_↔_, Iff·symm}
+use mathlib.Core.Logic.{_↔_}
 use mathlib.Core.List.{List}
 use Prim.Native.Nat.{ℕ, suc, _+_, _-_, _*_, _/_, _%_, _≤_, _<_}
 use lib.ListN.{length, getD}
-use lib.IntN.{ℤ, pos, _*ℤ_}
+use lib.IntN.{ℤ}
 use Rattle.lists.specs.Tabulate.{tabulate, length-tabulate, getD-tabulate}
-use Rattle.rules.specs.Quantities.{one}
 use Rattle.rules.specs.Table.{Node, ruleAt}
 use Rattle.rules.specs.Truth.{Holds, endless, TruthBit, slotBit, TruthWords}
 use Rattle.rules.specs.Rows.{Row}
-use Rattle.rules.specs.Judge.{BrokenBy, shortfallBy, Lowest, None, rowAt}
+use Rattle.rules.specs.Judge.{BrokenWith, shortfallWith, Lowest, None, VerdictWith, rowAt, BrokenAt, JudgedBy}
+use Rattle.rules.specs.Judge.VerdictWith.{broken}
+use Rattle.rules.specs.Judge.JudgedBy.{is-outside, is-not-binary, is-broken, is-passed}
 use Rattle.rules.specs.ErrorFigure.{ErrorFigures}
 use Rattle.rules.specs.Judge as Now
 use Rattle.rules.specs.Before.{TruthBytes, Verdict, Judged, verdictBefore}
@@ -19,32 +20,7 @@ use Rattle.rules.specs.Solution.Truths.{place-div, place-mod, place-lt}
 use Rattle.rules.specs.RowSum as Summed
 use Rattle.rules.specs.RowSumLaws.{whole-is}
 
--- ---- request N1, "Which verdict is given does not alter": without its shortfall, the verdict is the one of before
-
-module _ {T M L e : ℕ} {ns : List Node} {xs : List ℤ} where
-  pub judged-before : {v : Now.Verdict} → Now.Judged T M L e ns xs v → Judged T M L e ns xs (verdictBefore v)
-  judged-before (Now.Judged.is-outside h) = Judged.is-outside h
-  judged-before (Now.Judged.is-not-binary p h) = Judged.is-not-binary p h
-  judged-before (Now.Judged.is-broken p q h) = Judged.is-broken p q h
-  judged-before (Now.Judged.is-passed p q r f) = Judged.is-passed p q r
-
-  pub judged-now : {error : ℕ → ℕ} → ErrorFigures T M L e ns error → {u : Verdict} → Judged T M L e ns xs u →
-      (v : Now.Verdict) × Now.Judged T M L e ns xs v × (verdictBefore v ≡ u)
-  judged-now f (Judged.is-outside h) = (_, Now.Judged.is-outside h, refl)
-  judged-now f (Judged.is-not-binary p h) = (_, Now.Judged.is-not-binary p h, refl)
-  judged-now f (Judged.is-broken p q h) = (_, Now.Judged.is-broken p q h, refl)
-  judged-now f (Judged.is-passed p q r) = (_, Now.Judged.is-passed p q r f, refl)
-
--- ---- request N3: with the second number of the row sum for a row's sum, the verdict is the same, its shortfall too
-
-pub same-shortfall : (xs : List ℤ) (r : Row) → Summed.shortfall xs r ≡ Now.shortfall xs r
-same-shortfall xs r = ap (λ (z : ℤ). shortfallBy (r .relation) (r .right *ℤ pos one) z) (whole-is xs (r .terms))
-
-pub same-broken : (e : ℕ) (xs : List ℤ) (r : Row) → Summed.Broken e xs r ↔ Now.Broken e xs r
-same-broken e xs r =
-    let same = whole-is xs (r .terms) in
-    let by : ℤ → Type 0 = λ z. BrokenBy (r .relation) e (r .right *ℤ pos one) z in
-    (subst by same, subst by (sym same))
+-- ---- the same sums, and the same things carried, give the same verdicts
 
 module _ {P Q : ℕ → Type 0} where
   lowest-same : ((k : ℕ) → P k ↔ Q k) → {n : ℕ} → Lowest P n → Lowest Q n
@@ -53,28 +29,49 @@ module _ {P Q : ℕ → Type 0} where
   none-same : ((k : ℕ) → P k ↔ Q k) → None P → None Q
   none-same iff h = λ k q. h k (iff k .1 q)
 
-module _ (T M L e : ℕ) (ns : List Node) (xs : List ℤ) where
-  same-at : (i : ℕ) → Summed.BrokenAt T M L e ns xs i ↔ Now.BrokenAt T M L e ns xs i
-  same-at i = let iff = same-broken e xs (rowAt T M L ns i) in (λ h. (h .0, iff .0 (h .1)), λ h. (h .0, iff .1 (h .1)))
+broken-same : (e : ℕ) {sum sum′ : Row → ℤ} → ((r : Row) → sum r ≡ sum′ r) → (rows : List Row) (i : ℕ) →
+    BrokenAt (λ r. BrokenWith e r (sum r)) rows i ↔ BrokenAt (λ r. BrokenWith e r (sum′ r)) rows i
+broken-same e same rows i =
+    let by : ℤ → Type 0 = λ z. (i < length rows) × BrokenWith e (rowAt rows i) z in
+    (subst by (same (rowAt rows i)), subst by (sym (same (rowAt rows i))))
 
-  same-verdict : (i : ℕ) → Now.Verdict.broken i (Summed.shortfall xs (rowAt T M L ns i)) ≡ Now.Verdict.broken i (Now.shortfall xs (rowAt T M L ns i))
-  same-verdict i = ap (Now.Verdict.broken i) (same-shortfall xs (rowAt T M L ns i))
+module _ {B P : Type 0} {A e : ℕ} {xs : List ℤ} {rows : List Row} {sum sum′ : Row → ℤ} {carried : ℤ → B} {Carries Carries′ : P → Type 0}
+    (same : (r : Row) → sum r ≡ sum′ r) (carries : (x : P) → Carries x → Carries′ x) where
+  pub same-judged : {v : VerdictWith B P} → JudgedBy A e xs rows sum carried Carries v → JudgedBy A e xs rows sum′ carried Carries′ v
+  same-judged (is-outside h) = is-outside h
+  same-judged (is-not-binary p h) = is-not-binary p h
+  same-judged (is-broken {i} p q h) =
+      subst (λ (z : ℤ). JudgedBy A e xs rows sum′ carried Carries′ (broken i (carried (shortfallWith (rowAt rows i) z)))) (sym (same (rowAt rows i)))
+      (is-broken p q (lowest-same (broken-same e same rows) h))
+  same-judged (is-passed p q r x) = is-passed p q (none-same (broken-same e same rows) r) (carries _ x)
 
-  summed-now : {v : Now.Verdict} → Summed.Judged T M L e ns xs v → Now.Judged T M L e ns xs v
-  summed-now (Summed.Judged.is-outside h) = Now.Judged.is-outside h
-  summed-now (Summed.Judged.is-not-binary p h) = Now.Judged.is-not-binary p h
-  summed-now (Summed.Judged.is-broken {i} p q h) = subst (Now.Judged T M L e ns xs) (sym (same-verdict i)) (Now.Judged.is-broken p q (lowest-same same-at h))
-  summed-now (Summed.Judged.is-passed p q r f) = Now.Judged.is-passed p q (none-same same-at r) f
+-- ---- request N1, "Which verdict is given does not alter": without its shortfall, the verdict is the one of before
 
-  now-summed : {v : Now.Verdict} → Now.Judged T M L e ns xs v → Summed.Judged T M L e ns xs v
-  now-summed (Now.Judged.is-outside h) = Summed.Judged.is-outside h
-  now-summed (Now.Judged.is-not-binary p h) = Summed.Judged.is-not-binary p h
-  now-summed (Now.Judged.is-broken {i} p q h) =
-      subst (Summed.Judged T M L e ns xs) (same-verdict i) (Summed.Judged.is-broken p q (lowest-same (λ k. Iff·symm (same-at k)) h))
-  now-summed (Now.Judged.is-passed p q r f) = Summed.Judged.is-passed p q (none-same (λ k. Iff·symm (same-at k)) r) f
+module _ {T M L e : ℕ} {ns : List Node} {xs : List ℤ} where
+  pub judged-before : {v : Now.Verdict} → Now.Judged T M L e ns xs v → Judged T M L e ns xs (verdictBefore v)
+  judged-before (is-outside h) = is-outside h
+  judged-before (is-not-binary p h) = is-not-binary p h
+  judged-before (is-broken p q h) = is-broken p q h
+  judged-before (is-passed p q r x) = is-passed p q r tt
 
-  pub judged-summed : (v : Now.Verdict) → Summed.Judged T M L e ns xs v ↔ Now.Judged T M L e ns xs v
-  judged-summed v = (summed-now, now-summed)
+  pub judged-now : {error : ℕ → ℕ} → ErrorFigures T M L e ns error → {u : Verdict} → Judged T M L e ns xs u →
+      (v : Now.Verdict) × Now.Judged T M L e ns xs v × (verdictBefore v ≡ u)
+  judged-now f (is-outside h) = (_, is-outside h, refl)
+  judged-now f (is-not-binary p h) = (_, is-not-binary p h, refl)
+  judged-now f (is-broken p q h) = (_, is-broken p q h, refl)
+  judged-now f (is-passed p q r x) = (_, is-passed p q r (_, f, refl), refl)
+
+-- ---- request N3: with the second number of the row sum for a row's sum, the verdict is the same, its shortfall too
+
+pub same-shortfall : (xs : List ℤ) (r : Row) → Summed.shortfall xs r ≡ Now.shortfall xs r
+same-shortfall xs r = ap (shortfallWith r) (whole-is xs (r .terms))
+
+pub same-broken : (e : ℕ) (xs : List ℤ) (r : Row) → Summed.Broken e xs r ↔ Now.Broken e xs r
+same-broken e xs r = let same = whole-is xs (r .terms) in (subst (BrokenWith e r) same, subst (BrokenWith e r) (sym same))
+
+pub judged-summed : (T M L e : ℕ) (ns : List Node) (xs : List ℤ) (v : Now.Verdict) → Summed.Judged T M L e ns xs v ↔ Now.Judged T M L e ns xs v
+judged-summed T M L e ns xs v =
+    (same-judged (λ r. whole-is xs (r .terms)) (λ k x. x), same-judged (λ r. sym (whole-is xs (r .terms))) (λ k x. x))
 
 -- ---- request N5, "The old bytes and the new words must say the same for every node and slot": the bits of the words, one after the other, are the
 -- bytes; and whatever bytes and words there are, they say the same

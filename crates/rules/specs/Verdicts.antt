@@ -1,5 +1,5 @@
 -- The verdict, computed: the first variable outside, the first atom variable that is not binary, the first broken row. It is the verdict of Judge.antt.
-use mathlib.Core.Path.{_≡_, refl, ap, subst}
+use mathlib.Core.Path.{_≡_, refl, sym, ap, _∙_}
 use mathlib.Core.Bool.{Bool, _&&_, _||_}
 use mathlib.Core.Logic.{_↔_, Iff·trans, inl, inr, ⊎-elim}
 use mathlib.Core.List.{List}
@@ -13,13 +13,13 @@ use lib.IntN.{ℤ, pos, negℤ, _-ℤ_, natAbs}
 use lib.Signed.{ltZ, _<ℤ_}
 use Rattle.lists.specs.Tests.{or-cases, or-left, or-right, and-left, and-right, and-both}
 use Rattle.lists.specs.First.{first, first-found, Found}
-use Rattle.rules.specs.Quantities.{one, LoopAllowed}
+use Rattle.rules.specs.Quantities.{zero, one, LoopAllowed}
 use Rattle.rules.specs.Table.{Node}
 use Rattle.rules.specs.TableRules.{NodesGood}
 use Rattle.rules.specs.Rows.{Row, valueAt, rowsOf}
 use Rattle.rules.specs.Judge.{Apart, Outside, NotBinary, Broken, shortfall, Lowest, None, Verdict, rowAt, OutsideAt, NotBinaryAt, BrokenAt, Judged}
-use Rattle.rules.specs.Judge.Verdict.{outside, not-binary, broken, passed}
-use Rattle.rules.specs.Judge.Judged.{is-outside, is-not-binary, is-broken, is-passed}
+use Rattle.rules.specs.Judge.VerdictWith.{outside, not-binary, broken, passed}
+use Rattle.rules.specs.Judge.JudgedBy.{is-outside, is-not-binary, is-broken, is-passed}
 use Rattle.rules.specs.Shortfalls.{broken-short}
 use Rattle.rules.specs.Errors.Figures.{rootError, figureOf, figures-exist, root-figure}
 
@@ -32,7 +32,7 @@ abbrev pub isOutside : (e : ℕ) → ℤ → Bool
 isOutside e x = ltZ x (negℤ (pos e)) || ltZ (pos (one + e)) x
 
 abbrev pub isNotBinary : (e : ℕ) → ℤ → Bool
-isNotBinary e x = apart e (pos 0) x && apart e (pos one) x
+isNotBinary e x = apart e (pos zero) x && apart e (pos one) x
 
 -- a row is broken where its shortfall is above the tolerance
 abbrev pub isShort : (e : ℕ) → ℤ → Bool
@@ -57,10 +57,10 @@ outside-iff e x =
 
 not-binary-iff : (e : ℕ) (x : ℤ) → NotBinary e x ↔ Is (isNotBinary e x)
 not-binary-iff e x =
-    let a = apart e (pos 0) x in
+    let a = apart e (pos zero) x in
     let b = apart e (pos one) x in (
-      λ h. and-both a b (apart-iff e (pos 0) x .0 (h .0)) (apart-iff e (pos one) x .0 (h .1)),
-      λ t. (apart-iff e (pos 0) x .1 (and-left a b t), apart-iff e (pos one) x .1 (and-right a b t)),
+      λ h. and-both a b (apart-iff e (pos zero) x .0 (h .0)) (apart-iff e (pos one) x .0 (h .1)),
+      λ t. (apart-iff e (pos zero) x .1 (and-left a b t), apart-iff e (pos one) x .1 (and-right a b t)),
     )
 
 broken-iff : (e : ℕ) (xs : List ℤ) (r : Row) → Broken e xs r ↔ Is (isBroken e xs r)
@@ -80,11 +80,11 @@ module _ (T M L e : ℕ) (ns : List Node) (xs : List ℤ) where
   firstNotBinary = first (λ v. isNotBinary e (valueAt xs v)) (M * T) 0
 
   abbrev pub firstBroken : Option ℕ
-  firstBroken = first (λ i. isBroken e xs (rowAt T M L ns i)) (length (rowsOf T M L ns)) 0
+  firstBroken = first (λ i. isBroken e xs (rowAt (rowsOf T M L ns) i)) (length (rowsOf T M L ns)) 0
 
   -- row i and its shortfall
   abbrev pub brokenAt : ℕ → Verdict
-  brokenAt i = broken i (shortfall xs (rowAt T M L ns i))
+  brokenAt i = broken i (shortfall xs (rowAt (rowsOf T M L ns) i))
 
   unfoldable pub verdict : Verdict
   verdict =
@@ -117,13 +117,13 @@ search-none P (some k) s h = absurd (h k (s .holds))
 
 module _ (T M L e : ℕ) (ns : List Node) (xs : List ℤ) where
   abbrev P₁ : ℕ → Type 0
-  P₁ = OutsideAt T M L e ns xs
+  P₁ = OutsideAt e xs
 
   abbrev P₂ : ℕ → Type 0
-  P₂ = NotBinaryAt T M L e ns xs
+  P₂ = NotBinaryAt (M * T) e xs
 
   abbrev P₃ : ℕ → Type 0
-  P₃ = BrokenAt T M L e ns xs
+  P₃ = BrokenAt (Broken e xs) (rowsOf T M L ns)
 
   outside-found : Search P₁ (firstOutside T M L e ns xs)
   outside-found =
@@ -139,9 +139,9 @@ module _ (T M L e : ℕ) (ns : List Node) (xs : List ℤ) where
 
   broken-found : Search P₃ (firstBroken T M L e ns xs)
   broken-found =
-      searched P₃ (λ i. isBroken e xs (rowAt T M L ns i)) (length (rowsOf T M L ns))
-      (λ i. let iff = broken-iff e xs (rowAt T M L ns i) in (λ h. (h .0, iff .0 (h .1)), λ h. (h .0, iff .1 (h .1))))
-      (firstBroken T M L e ns xs) (first-found (λ i. isBroken e xs (rowAt T M L ns i)) (length (rowsOf T M L ns)) 0)
+      searched P₃ (λ i. isBroken e xs (rowAt (rowsOf T M L ns) i)) (length (rowsOf T M L ns))
+      (λ i. let iff = broken-iff e xs (rowAt (rowsOf T M L ns) i) in (λ h. (h .0, iff .0 (h .1)), λ h. (h .0, iff .1 (h .1))))
+      (firstBroken T M L e ns xs) (first-found (λ i. isBroken e xs (rowAt (rowsOf T M L ns) i)) (length (rowsOf T M L ns)) 0)
 
   no-outside : None P₁ → firstOutside T M L e ns xs ≡ none
   no-outside h = search-none P₁ (firstOutside T M L e ns xs) outside-found h
@@ -154,8 +154,7 @@ module _ (T M L e : ℕ) (ns : List Node) (xs : List ℤ) where
     all-hold : None P₁ → None P₂ → None P₃ → Judged T M L e ns xs (passed (length (rowsOf T M L ns)) (rootError T L e ns))
     all-hold p q r =
         let figures = figures-exist T M L e ns loop good in
-        subst (λ (k : ℕ). Judged T M L e ns xs (passed (length (rowsOf T M L ns)) k))
-        (root-figure T M L e ns loop good (figureOf T M L e ns loop good) figures 0<N) (is-passed p q r figures)
+        is-passed p q r (_, figures, sym (root-figure T M L e ns loop good (figureOf T M L e ns loop good) figures 0<N))
 
     pub verdict-judged : Judged T M L e ns xs (verdict T M L e ns xs)
     unfolding verdict
@@ -174,5 +173,6 @@ module _ (T M L e : ℕ) (ns : List Node) (xs : List ℤ) where
     judged-verdict (is-outside {v} h) = rw (search-lowest P₁ (firstOutside T M L e ns xs) v outside-found h) refl
     judged-verdict (is-not-binary {v} p h) = rw (no-outside p, search-lowest P₂ (firstNotBinary T M L e ns xs) v not-binary-found h) refl
     judged-verdict (is-broken {i} p q h) = rw (no-outside p, no-not-binary q, search-lowest P₃ (firstBroken T M L e ns xs) i broken-found h) refl
-    judged-verdict (is-passed {error} p q r figures) =
-        rw (no-outside p, no-not-binary q, search-none P₃ (firstBroken T M L e ns xs) broken-found r, root-figure T M L e ns loop good error figures 0<N) refl
+    judged-verdict (is-passed {x} p q r (error, figures, is)) =
+        rw (no-outside p, no-not-binary q, search-none P₃ (firstBroken T M L e ns xs) broken-found r)
+        (ap (passed (length (rowsOf T M L ns))) (sym (root-figure T M L e ns loop good error figures 0<N) ∙ sym is))

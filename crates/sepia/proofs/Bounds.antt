@@ -15,21 +15,24 @@ use Rattle.rules.specs.Truth.{TruthBit}
 use Rattle.rules.specs.Rows.{looping, variableCount, rowsOf}
 use Rattle.rules.specs.RowCount.{rows-count}
 use Rattle.rules.specs.Judge.{None, Verdict, Judged}
-use Rattle.rules.specs.Judge.Judged.{is-outside, is-not-binary, is-broken, is-passed}
+use Rattle.rules.specs.Judge.JudgedBy.{is-outside, is-not-binary, is-broken, is-passed}
 use Rattle.rules.specs.Refusals.{TextRefused, ReadRefused, TableRefused, RowsRefused, JudgeRefused}
 use Rattle.rules.specs.Demands.{Answer, Written, Exact}
 use Rattle.rules.specs.Demands.Answer.{refused, answered}
 use Rattle.rules.specs.Demands.Written.{wrote}
 use Rattle.rules.specs.Outcome.{result, readOutcome, evaluateOutcome, rowsOutcome, judgeOutcome}
 use Rattle.rules.specs.Exactness.Tests.{at-least}
-use Rattle.rules.specs.Theorems.{reader-exact, evaluator-exact, rows-exact, judge-exact}
+use Rattle.rules.specs.Exactness.Read.{read-exact}
+use Rattle.rules.specs.Exactness.Evaluate.{evaluate-exact}
+use Rattle.rules.specs.Exactness.Rows.{rows-exact}
+use Rattle.rules.specs.Exactness.Judge.{judge-exact}
 use Rattle.mps.specs.Proved.{looping-le, if-le}
 use Rattle.mps_page.specs.Answers.{Short}
-use Rattle.sepia.specs.Boundary.{Fits, verdictValue, VerdictFits}
+use Rattle.sepia.specs.Boundary.{tooLarge, Fits, verdictValue, VerdictFits}
 
 -- an outcome's result fits, where every result that it may have does
 fits : (Refused : ℕ → Type 0) (Is : Written → Type 0) (a : Answer Written) → Exact Refused Is a →
-    ((n : ℕ) (bytes : List ℕ) → None Refused → Is (wrote n bytes) → n < 4294967296) → Fits (result a)
+    ((n : ℕ) (bytes : List ℕ) → None Refused → Is (wrote n bytes) → n < tooLarge) → Fits (result a)
 fits Refused Is a exact small = go a refl
   where
     go : (x : Answer Written) → a ≡ x → Fits (result x)
@@ -38,23 +41,23 @@ fits Refused Is a exact small = go a refl
 
 pub read-fits : (m : ℕ) (text : List ℕ) (room : ℕ) → Fits (result (readOutcome m text room))
 read-fits m text room =
-    fits (ReadRefused m text room) _ (readOutcome m text room) (reader-exact m text room)
+    fits (ReadRefused m text room) _ (readOutcome m text room) (read-exact m text room)
     (λ n bytes none i.
     let e : n ≡ size (i .0) = cc (i .2) in
     omega (arith, at-least 128 (size (i .0)) (λ h. none 6 (ReadRefused.text-refused (TextRefused.nodes (i .1) h)))))
 
-bit-fits : {P : Type 0} {v : ℕ} → TruthBit P v → v < 4294967296
+bit-fits : {P : Type 0} {v : ℕ} → TruthBit P v → v < tooLarge
 bit-fits (TruthBit.true x) = omega arith
 bit-fits (TruthBit.false x) = omega arith
 
 pub evaluate-fits : (t m l : ℕ) (table run : List ℕ) (room : ℕ) → Fits (result (evaluateOutcome t m l table run room))
 evaluate-fits t m l table run room =
-    fits _ _ (evaluateOutcome t m l table run room) (evaluator-exact t m l table run room)
+    fits _ _ (evaluateOutcome t m l table run room) (evaluate-exact t m l table run room)
     (λ v bytes none i. let e : i .1 ≡ v = cc (i .6) in rw e at (bit-fits (i .5)))
 
 -- ---- at most T + 8 rows for a node at a slot
 
-rows-few : (T M L : ℕ) (ns : List Node) → T ≤ 64 → length ns ≤ 128 → length (rowsOf T M L ns) < 4294967296
+rows-few : (T M L : ℕ) (ns : List Node) → T ≤ 64 → length ns ≤ 128 → length (rowsOf T M L ns) < tooLarge
 rows-few T M L ns h k =
     let e : length ns * T ≤ 128 * 64 = mul-le-mul {n₂ = 128} {m₂ = 64} k h in
     let f : (T + 8) * (length ns * T) ≤ 72 * 8192 = mul-le-mul {n₂ = 72} {m₂ = 8192} (omega arith) (omega arith) in
@@ -76,7 +79,7 @@ short-fits (answered n) h = omega arith
 -- ---- the judge's variables and rows
 
 judged-small : {T M L e : ℕ} {ns : List Node} {xs : List ℤ} {v : Verdict} → T ≤ 64 → M ≤ 16 → length ns ≤ 128 → length xs ≡ variableCount T M L ns →
-    Judged T M L e ns xs v → verdictValue v < 4294967296
+    Judged T M L e ns xs v → verdictValue v < tooLarge
 judged-small {T} {M} {L} {ns = ns} h m k c (is-outside x) =
     let b = length ns + cond (ltb L T) (looping ns) 0 in
     let few : b ≤ 256 = omega (arith, if-le (ltb L T) (looping ns), looping-le ns) in

@@ -1,11 +1,11 @@
 -- What the C structs say.
 use mathlib.Core.Option.{Option, none, some}
-use Prim.Native.Nat.{ℕ, _<_}
+use Prim.Native.Nat.{ℕ, _^_, _<_}
 use lib.IntN.{ℤ, pos}
 use Rattle.rules.specs.Demands.{Answer}
 use Rattle.rules.specs.Demands.Answer.{refused, answered}
 use Rattle.rules.specs.Judge.{Verdict}
-use Rattle.rules.specs.Judge.Verdict.{outside, not-binary, broken, passed}
+use Rattle.rules.specs.Judge.VerdictWith.{outside, not-binary, broken, passed}
 use Rattle.sepia.specs.declared.SepiaAnswer.{SepiaAnswer}
 use Rattle.sepia.specs.declared.SepiaVerdict.{SepiaVerdict}
 
@@ -18,10 +18,14 @@ abbrev pub inC : Answer ℕ → SepiaAnswer
 inC (refused k) = record { refusal = k; value = 0 }
 inC (answered n) = record { refusal = 0; value = n }
 
+-- what a field of 32 bits does not hold
+abbrev pub tooLarge : ℕ
+tooLarge = 2 ^ 32
+
 -- the result fits its field
 abbrev pub Fits : Answer ℕ → Type 0
 Fits (refused k) = Unit {0}
-Fits (answered n) = n < 4294967296
+Fits (answered n) = n < tooLarge
 
 -- a first slot, and 0 for none: slots count from 1
 abbrev pub slotInC : Option ℕ → ℕ
@@ -61,4 +65,4 @@ verdictInC (answered v) = record { refusal = 0; verdict = verdictNumber v; value
 
 abbrev pub VerdictFits : Answer Verdict → Type 0
 VerdictFits (refused k) = Unit {0}
-VerdictFits (answered v) = verdictValue v < 4294967296
+VerdictFits (answered v) = verdictValue v < tooLarge

@@ -8,7 +8,7 @@ ghost use Rattle.mps.specs.Outcome.{pageOutcome};
 ghost use Rattle.judge.specs.Meaning.{rulingOf, verdictOf};
 ghost use Rattle.sepia.specs.Boundary.{version, inC, Fits, slotInC, verdictNumber, verdictValue, verdictShortfall, verdictError, verdictInC, VerdictFits};
 use answers::Answer;
-use evaluator_words::FirstSlot;
+use evaluator::FirstSlot;
 use judge::Ruling;
 use judge::Verdict;
 
@@ -73,7 +73,7 @@ pub extern "C" fn sepia_evaluate(
 pub extern "C" fn sepia_first_slot(word: u64) -> u32
     ensures { λ r. ⌜ r ≡ slotInC (firstSlot word) ⌝ }
 {
-    match evaluator_words::first_slot(word) {
+    match evaluator::first_slot(word) {
         FirstSlot::Slot(t) => t as u32,
         FirstSlot::None => 0,
     }
@@ -125,8 +125,8 @@ fn verdict_number(verdict: Verdict) -> u32
     match verdict {
         Verdict::Outside(_) => 0,
         Verdict::NotBinary(_) => 1,
-        Verdict::Broken(_, _) => 2,
-        Verdict::Passed(_, _) => 3,
+        Verdict::Broken { .. } => 2,
+        Verdict::Passed { .. } => 3,
     }
 }
 
@@ -136,8 +136,8 @@ fn verdict_value(verdict: Verdict) -> usize
     match verdict {
         Verdict::Outside(v) => v,
         Verdict::NotBinary(v) => v,
-        Verdict::Broken(i, _) => i,
-        Verdict::Passed(n, _) => n,
+        Verdict::Broken { row, .. } => row,
+        Verdict::Passed { rows, .. } => rows,
     }
 }
 
@@ -147,8 +147,8 @@ fn verdict_shortfall(verdict: Verdict) -> i64
     match verdict {
         Verdict::Outside(_) => 0,
         Verdict::NotBinary(_) => 0,
-        Verdict::Broken(_, shortfall) => shortfall,
-        Verdict::Passed(_, _) => 0,
+        Verdict::Broken { shortfall, .. } => shortfall,
+        Verdict::Passed { .. } => 0,
     }
 }
 
@@ -158,8 +158,8 @@ fn verdict_error(verdict: Verdict) -> u32
     match verdict {
         Verdict::Outside(_) => 0,
         Verdict::NotBinary(_) => 0,
-        Verdict::Broken(_, _) => 0,
-        Verdict::Passed(_, error) => error,
+        Verdict::Broken { .. } => 0,
+        Verdict::Passed { error, .. } => error,
     }
 }
 

@@ -18,8 +18,26 @@ ghost use Rattle.table.specs.Checks.{checkOf};
 // The mark of a node record.
 pub const MARK: [u8; 2] = *b"ND";
 
-// The kind of an atom.
-const ATOM: u8 = 1;
+// The number of each kind in a record.
+pub const ATOM: u8 = 1;
+
+pub const NOT: u8 = 2;
+
+pub const AND: u8 = 3;
+
+pub const OR: u8 = 4;
+
+pub const IMPLIES: u8 = 5;
+
+pub const EVENTUALLY: u8 = 6;
+
+pub const ALWAYS: u8 = 7;
+
+pub const UNTIL: u8 = 8;
+
+pub const WITHIN: u8 = 9;
+
+pub const THROUGHOUT: u8 = 10;
 
 pub enum Kind {
     Atom,
@@ -59,16 +77,16 @@ pub fn kind_of(byte: u8) -> KindRead
     ensures { λ r. ⌜ r ≡ kindIn byte ⌝ }
 {
     match byte {
-        1 => KindRead::Known(Kind::Atom),
-        2 => KindRead::Known(Kind::Not),
-        3 => KindRead::Known(Kind::And),
-        4 => KindRead::Known(Kind::Or),
-        5 => KindRead::Known(Kind::Implies),
-        6 => KindRead::Known(Kind::Eventually),
-        7 => KindRead::Known(Kind::Always),
-        8 => KindRead::Known(Kind::Until),
-        9 => KindRead::Known(Kind::Within),
-        10 => KindRead::Known(Kind::Throughout),
+        ATOM => KindRead::Known(Kind::Atom),
+        NOT => KindRead::Known(Kind::Not),
+        AND => KindRead::Known(Kind::And),
+        OR => KindRead::Known(Kind::Or),
+        IMPLIES => KindRead::Known(Kind::Implies),
+        EVENTUALLY => KindRead::Known(Kind::Eventually),
+        ALWAYS => KindRead::Known(Kind::Always),
+        UNTIL => KindRead::Known(Kind::Until),
+        WITHIN => KindRead::Known(Kind::Within),
+        THROUGHOUT => KindRead::Known(Kind::Throughout),
         _ => KindRead::Unknown,
     }
 }
@@ -144,7 +162,8 @@ pub fn is_binary(kind: Kind) -> bool
     }
 }
 
-fn has_window(kind: Kind) -> bool
+// Whether a kind has a window.
+pub fn has_window(kind: Kind) -> bool
     ensures { λ r. ⌜ r ≡ hasWindow kind ⌝ }
 {
     match kind {

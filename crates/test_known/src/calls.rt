@@ -3,6 +3,7 @@
 ghost use Prim.Native.Nat.{_≤_};
 ghost use lib.IntN.{natAbs};
 ghost use lib.ListN.{length};
+ghost use Rattle.millionths.specs.Bounds as Bounds;
 use crate::cases;
 use crate::cases::NUMBERS;
 use crate::show;
@@ -10,6 +11,7 @@ use crate::show::FILL;
 use crate::show::FILL_WORD;
 use answers::Answer;
 use judge_sums::RowSum;
+use millionths::Millionths;
 use row::Term;
 use row::Terms;
 
@@ -24,9 +26,6 @@ const MOST_WORDS: usize = 512;
 const FIGURES: usize = 17344;
 
 const SLOTS: usize = 64;
-
-// The length of rowlist's page.
-const LISTING: usize = 184000;
 
 // read ROOM M:TEXT, write ROOM T M L:TABLE, mps ROOM T M L:TABLE
 fn made(call: u8, list: &[usize; NUMBERS], bytes: &[u8], out: &mut [u8]) -> Answer {
@@ -101,7 +100,7 @@ fn evaluate(list: &[usize; NUMBERS], table: &[u8]) {
 // first WORD
 fn first(list: &[usize; NUMBERS]) {
     show::text(b"slot");
-    show::slot(evaluator_words::first_slot(list[1] as u64));
+    show::slot(evaluator::first_slot(list[1] as u64));
     show::text(b"\n");
 }
 
@@ -127,7 +126,7 @@ fn judge_counted(list: &[usize; NUMBERS], table: &[u8]) {
 
 // list:INPUT, what rowlist prints
 fn list_rows(input: &[u8]) {
-    let mut page = [FILL; LISTING];
+    let mut page = [FILL; rowlist_text::LISTING];
     let n = rowlist_page::page_of(input, &mut page);
     show::number(b"value ", n);
     show::text(b"\n");
@@ -141,7 +140,7 @@ fn sum(list: &[usize; NUMBERS]) {
 }
 
 fn show_sum(sum: RowSum)
-    requires { ⌜ (natAbs (sum .positive) ≤ 824633720832) × (natAbs (sum .whole) ≤ 824633720832) ⌝ }
+    requires { ⌜ (natAbs (sum .positive) ≤ Bounds.rowSum) × (natAbs (sum .whole) ≤ Bounds.rowSum) ⌝ }
 {
     show::signed(b"positive ", sum.positive);
     show::signed(b" whole ", sum.whole);
@@ -177,19 +176,19 @@ fn slots_end(end: usize) -> usize
 // The sum of figures, one after the other.
 fn sum_of(figures: &[i32]) -> i64
     requires { ⌜ length (now figures) ≤ 64 ⌝ }
-    ensures { λ r. ⌜ natAbs r ≤ 137438953472 ⌝ }
+    ensures { λ r. ⌜ natAbs r ≤ Bounds.windowSum ⌝ }
 {
     let mut sum: i64 = 0;
     for i in 0..figures.len() {
-        sum = judge_sums::grown(sum, figures[i]);
+        sum = judge_sums::grown(sum, Millionths { value: figures[i] });
     }
     sum
 }
 
 // The row sum of a window's last row, of F[a,b] or of G[a,b].
-fn window_sum(is_within: bool, sum: i64, x: i32) -> RowSum
-    requires { ⌜ natAbs sum ≤ 137438953472 ⌝ }
-    ensures { λ r. ⌜ (natAbs (r .positive) ≤ 824633720832) × (natAbs (r .whole) ≤ 824633720832) ⌝ }
+fn window_sum(is_within: bool, sum: i64, x: Millionths) -> RowSum
+    requires { ⌜ natAbs sum ≤ Bounds.windowSum ⌝ }
+    ensures { λ r. ⌜ (natAbs (r .positive) ≤ Bounds.rowSum) × (natAbs (r .whole) ≤ Bounds.rowSum) ⌝ }
 {
     if is_within {
         judge_sums::within_sum(sum, x)
@@ -204,7 +203,8 @@ fn total(list: &[usize; NUMBERS]) {
     let figures = cases::figures(list);
     let end = slots_end(cases::end(list, 3));
     let sum = sum_of(&figures[3..end]);
-    show_sum(window_sum(list[1] == 1, sum, figures[2]));
+    let x = Millionths { value: figures[2] };
+    show_sum(window_sum(list[1] == 1, sum, x));
 }
 
 fn call_with(call: u8, list: &[usize; NUMBERS], bytes: &[u8]) {

@@ -2,11 +2,15 @@
 ghost use mathlib.Core.Path.{_≡_};
 ghost use Prim.Native.Nat.{_≤_, _<_};
 ghost use lib.ListN.{length};
+ghost use Rattle.millionths.specs.Bounds as Bounds;
 
 // How many numbers a line may have, and how many bytes. What goes beyond is dropped.
 pub const NUMBERS: usize = 1024;
 
 pub const BYTES: usize = 4096;
+
+// The size of the lowest number of 32 bits.
+const LOWEST: usize = 2147483648;
 
 // Where the next digit goes: to which number, and whether that is below zero.
 struct Place {
@@ -157,15 +161,15 @@ pub fn figures(list: &[usize; NUMBERS]) -> [i32; NUMBERS] {
 
 // A number of 32 bits from its two's complement; 0 where it is none.
 pub fn signed(x: usize) -> i32 {
-    if x <= 2147483647 {
+    if x < LOWEST {
         return x as i32;
     }
     let size = std::num::wrapping_sub_usize(0, x);
-    if size <= 2147483648 { minus(size) } else { 0 }
+    if size <= LOWEST { minus(size) } else { 0 }
 }
 
 fn minus(size: usize) -> i32
-    requires { ⌜ size ≤ 2147483648 ⌝ }
+    requires { ⌜ size ≤ Bounds.figure ⌝ }
 {
     (0 - (size as i64)) as i32
 }

@@ -1,12 +1,13 @@
 // What is printed: answers, and what a lent buffer holds.
 use answers::Answer;
-use evaluator_words::FirstSlot;
+use evaluator::FirstSlot;
 use judge::Ruling;
 use judge::Verdict;
 use libc::STDOUT_FILENO;
 ghost use Prim.Native.Nat.{_≤_};
 ghost use lib.IntN.{natAbs};
 ghost use lib.ListN.{length};
+ghost use Rattle.millionths.specs.Bounds as Bounds;
 
 // What a lent buffer holds before the call, in each byte and in each word.
 pub const FILL: u8 = 254;
@@ -32,7 +33,7 @@ pub fn number(word: &[u8], n: usize) {
 }
 
 pub fn signed(word: &[u8], n: i64)
-    requires { ⌜ natAbs n ≤ 824633720832 ⌝ }
+    requires { ⌜ natAbs n ≤ Bounds.rowSum ⌝ }
 {
     text(word);
     if n < 0 {
@@ -61,12 +62,12 @@ fn verdict(verdict: Verdict) {
     match verdict {
         Verdict::Outside(v) => number(b"outside ", v),
         Verdict::NotBinary(v) => number(b"not binary ", v),
-        Verdict::Broken(row, d) => {
+        Verdict::Broken { shortfall: d, row } => {
             number(b"broken ", row);
             shortfall(d);
         }
-        Verdict::Passed(n, error) => {
-            number(b"passed ", n);
+        Verdict::Passed { rows, error } => {
+            number(b"passed ", rows);
             number(b" error ", error as usize);
         }
     }
@@ -182,7 +183,7 @@ fn hexadecimal_words(words: &[u64]) {
 
 fn first_slots(words: &[u64]) {
     for i in 0..words.len() {
-        slot(evaluator_words::first_slot(words[i]));
+        slot(evaluator::first_slot(words[i]));
     }
 }
 

@@ -1,2 +1,4 @@
 pub mod Decimal
+pub mod DecimalLaws
+pub mod Literals
 pub mod Put

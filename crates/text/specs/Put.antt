@@ -33,7 +33,8 @@ also {at} {k} {r} {xs} {ys} {l} {m} {n} p q = record {
 }
 
 -- a turn of a loop that copies s byte by byte
-pub byte-more : (l m s : List ℕ) (at i : ℕ) → i < length s → Put at (take i s) l m (at + i) → Put at (take (i + 1) s) l (set m (at + i) (getD s i 0)) (at + (i + 1))
+pub byte-more : (l m s : List ℕ) (at i : ℕ) → i < length s → Put at (take i s) l m (at + i) →
+    Put at (take (i + 1) s) l (set m (at + i) (getD s i 0)) (at + (i + 1))
 byte-more l m s at i h p =
     rw (add-one, take-suc s i 0 h)
     (record {

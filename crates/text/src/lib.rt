@@ -4,7 +4,8 @@ ghost use mathlib.Core.List.{[], _∷_};
 ghost use Prim.Native.Nat.{_+_, _≤_, _<_};
 ghost use lib.IntN.{natAbs};
 ghost use lib.ListN.{length};
-ghost use Rattle.text.specs.Decimal.{decimal, pairText};
+ghost use Rattle.text.specs.Decimal.{decimal};
+ghost use Rattle.text.specs.DecimalLaws.{pairText};
 ghost use Rattle.text.specs.Put.{Put};
 
 pub fn put_byte(out: &mut [u8], at: usize, b: u8) -> usize

@@ -1,7 +1,7 @@
--- `demands::first_slot` meets its contract, from the contract of `evaluator_words::first_slot`.
+-- `demands::first_slot` meets its contract, from the contract of `evaluator::first_slot`.
 use mathlib.Core.Path.{subst⁻¹}
 use Rattle.rules.specs.Words.{first-slot-exact}
-use Rattle.demands.specs.Demand2.{FirstAnswers}
+use Rattle.rules.specs.Demands.{FirstAnswers}
 use borrow.Author.Needs.{needs}
 use Rattle.demands.proofs.first_slot.Statement.{statement}
 use Rattle.demands.proofs.first_slot.Tie as tie

@@ -1,9 +1,10 @@
--- `demands::plan` meets its contract: demand 3, from the contracts of `reader::read`, `rows::write_rows` and `evaluator::evaluate`.
+-- `demands::plan` meets its contract: what is answered and written, and demand 3, from the contracts of `reader::read`,
+-- `rows::write_rows` and `evaluator::evaluate`.
 use mathlib.Core.Path.{sym, ap, _∙_}
 use native.Mathlib.Omega.{arith}
 use lib.Seq.{length-take-le}
 use Rattle.answers.specs.Meaning.{answerOf}
-use Rattle.demands.proofs.Calls.{read-room, read-refused, rows-refused, evaluate-refused, done}
+use Rattle.demands.proofs.Calls.{read-room, read-refused, rows-refused, evaluate-refused, all-done, both}
 use borrow.Author.Needs.{needs}
 use Rattle.demands.proofs.plan.Statement.{statement}
 use Rattle.demands.proofs.plan.Tie as tie
@@ -22,7 +23,9 @@ mul-end c =
     let a = c .before .before .before .before .before .before .before .before .before .before .before .before .args in
     let k = c .before .before .before .before .before .read in
     let n = c .before .n .given in
-    let r = read-room (a .m) (a .text .now) (a .table .now) (k .last .1 .1 .0) (n .0 .0) (sym (ap answerOf (n .1)) ∙ k .ensures .0) (k .ensures .1) in
+    let h = a .horizon in
+    let r = read-room (h .t) (h .m) (h .l) (a .text .now) (a .run .now) (a .table .now) (a .rows .now) (a .truth .now)
+    (k .last .1 .1 .0) (k .ensures .1) (n .0 .0) (sym (ap answerOf (n .1)) ∙ k .ensures .0) in
     omega (arith, r)
 
 slice-reshare-prefix-write-rows : tie.Need-slice-reshare-prefix-write-rows
@@ -30,7 +33,9 @@ slice-reshare-prefix-write-rows c =
     let a = c .before .before .before .before .before .before .before .before .before .before .before .before .args in
     let k = c .before .before .before .before .before .read in
     let n = c .before .n .given in
-    let r = read-room (a .m) (a .text .now) (a .table .now) (k .last .1 .1 .0) (n .0 .0) (sym (ap answerOf (n .1)) ∙ k .ensures .0) (k .ensures .1) in
+    let h = a .horizon in
+    let r = read-room (h .t) (h .m) (h .l) (a .text .now) (a .run .now) (a .table .now) (a .rows .now) (a .truth .now)
+    (k .last .1 .1 .0) (k .ensures .1) (n .0 .0) (sym (ap answerOf (n .1)) ∙ k .ensures .0) in
     omega (arith, r)
 
 slice-aggregate-write-rows : tie.Need-slice-aggregate-write-rows
@@ -38,7 +43,9 @@ slice-aggregate-write-rows c =
     let a = c .before .before .before .before .before .before .before .before .before .before .before .before .before .args in
     let k = c .before .before .before .before .before .before .read in
     let n = c .before .before .n .given in
-    let r = read-room (a .m) (a .text .now) (a .table .now) (k .last .1 .1 .0) (n .0 .0) (sym (ap answerOf (n .1)) ∙ k .ensures .0) (k .ensures .1) in
+    let h = a .horizon in
+    let r = read-room (h .t) (h .m) (h .l) (a .text .now) (a .run .now) (a .table .now) (a .rows .now) (a .truth .now)
+    (k .last .1 .1 .0) (k .ensures .1) (n .0 .0) (sym (ap answerOf (n .1)) ∙ k .ensures .0) in
     sym (length-take-le _ _ (omega (arith, r)))
 
 write-rows-requires : tie.Need-write-rows-requires
@@ -56,7 +63,9 @@ slice-reshare-prefix-evaluate c =
     .before .before .before .before .before .before .before .args in
     let k = c .before .before .before .before .before .before .before .before .before .before .before .before .before .read in
     let n = c .before .before .before .before .before .before .before .before .before .n .given in
-    let r = read-room (a .m) (a .text .now) (a .table .now) (k .last .1 .1 .0) (n .0 .0) (sym (ap answerOf (n .1)) ∙ k .ensures .0) (k .ensures .1) in
+    let h = a .horizon in
+    let r = read-room (h .t) (h .m) (h .l) (a .text .now) (a .run .now) (a .table .now) (a .rows .now) (a .truth .now)
+    (k .last .1 .1 .0) (k .ensures .1) (n .0 .0) (sym (ap answerOf (n .1)) ∙ k .ensures .0) in
     omega (arith, r)
 
 slice-aggregate-evaluate : tie.Need-slice-aggregate-evaluate
@@ -65,7 +74,9 @@ slice-aggregate-evaluate c =
     .before .before .before .before .before .before .before .before .args in
     let k = c .before .before .before .before .before .before .before .before .before .before .before .before .before .before .read in
     let n = c .before .before .before .before .before .before .before .before .before .before .n .given in
-    let r = read-room (a .m) (a .text .now) (a .table .now) (k .last .1 .1 .0) (n .0 .0) (sym (ap answerOf (n .1)) ∙ k .ensures .0) (k .ensures .1) in
+    let h = a .horizon in
+    let r = read-room (h .t) (h .m) (h .l) (a .text .now) (a .run .now) (a .table .now) (a .rows .now) (a .truth .now)
+    (k .last .1 .1 .0) (k .ensures .1) (n .0 .0) (sym (ap answerOf (n .1)) ∙ k .ensures .0) in
     sym (length-take-le _ _ (omega (arith, r)))
 
 evaluate-requires : tie.Need-evaluate-requires
@@ -85,8 +96,10 @@ returns c =
     let a = c .before .before .before .before .before .before .before .before .before .before .before .before .args in
     let k = c .before .before .before .before .before .read in
     let r = c .before .r .given in
-    read-refused (a .t) (a .m) (a .l) (a .text .now) (a .run .now) (a .table .now) (a .rows .now) (a .truth .now)
-    (k .last .1 .1 .0) (k .ensures .1) _ _ _ (r .0 .0) (sym (ap answerOf (r .1)) ∙ k .ensures .0)
+    let h = a .horizon in
+    both (h .t) (h .m) (h .l) (a .text .now) (a .run .now) (a .table .now) (a .rows .now) (a .truth .now) _ _ _ _
+    (read-refused (h .t) (h .m) (h .l) (a .text .now) (a .run .now) (a .table .now) (a .rows .now) (a .truth .now)
+    (k .last .1 .1 .0) (k .ensures .1) (r .0 .0) (sym (ap answerOf (r .1)) ∙ k .ensures .0))
 
 same-length-2 : tie.Need-same-length-2
 same-length-2 c = search needs
@@ -102,8 +115,11 @@ returns-2 c =
     let n = c .before .before .before .before .before .before .before .before .before .n .given in
     let w = c .before .before .before .before .before .write-rows in
     let r = c .before .r2 .given in
-    rows-refused (a .t) (a .m) (a .l) (a .text .now) (a .run .now) (a .table .now) (a .rows .now) (a .truth .now)
-    (k .last .1 .1 .0) (k .ensures .1) _ _ _ (n .0 .0) (sym (ap answerOf (n .1)) ∙ k .ensures .0) (r .0 .0) (sym (ap answerOf (r .1)) ∙ w .ensures .0)
+    let h = a .horizon in
+    both (h .t) (h .m) (h .l) (a .text .now) (a .run .now) (a .table .now) (a .rows .now) (a .truth .now) _ _ _ _
+    (rows-refused (h .t) (h .m) (h .l) (a .text .now) (a .run .now) (a .table .now) (a .rows .now) (a .truth .now)
+    (k .last .1 .1 .0) (k .ensures .1) (n .0 .0) (sym (ap answerOf (n .1)) ∙ k .ensures .0)
+    (w .last .1 .1 .1 .1 .0) (w .ensures .1) (r .0 .0) (sym (ap answerOf (r .1)) ∙ w .ensures .0))
 
 same-length-4 : tie.Need-same-length-4
 same-length-4 c = search needs
@@ -122,10 +138,16 @@ returns-3 c =
     .before .before .before .before .before .before .before .before .read in
     let n = c .before .before .before .before .before .before .before .before .before .before .before .before .before
     .before .before .before .before .n .given in
-    let w = c .before .before .before .before .before .evaluate in
+    let w = c .before .before .before .before .before .before .before .before .before .before .before .before .before .write-rows in
+    let count = c .before .before .before .before .before .before .before .before .before .count .given in
+    let e = c .before .before .before .before .before .evaluate in
     let r = c .before .r3 .given in
-    evaluate-refused (a .t) (a .m) (a .l) (a .text .now) (a .run .now) (a .table .now) (a .rows .now) (a .truth .now)
-    (k .last .1 .1 .0) (k .ensures .1) _ _ _ (n .0 .0) (sym (ap answerOf (n .1)) ∙ k .ensures .0) (r .0 .0) (sym (ap answerOf (r .1)) ∙ w .ensures .0)
+    let h = a .horizon in
+    both (h .t) (h .m) (h .l) (a .text .now) (a .run .now) (a .table .now) (a .rows .now) (a .truth .now) _ _ _ _
+    (evaluate-refused (h .t) (h .m) (h .l) (a .text .now) (a .run .now) (a .table .now) (a .rows .now) (a .truth .now)
+    (k .last .1 .1 .0) (k .ensures .1) (n .0 .0) (sym (ap answerOf (n .1)) ∙ k .ensures .0)
+    (w .last .1 .1 .1 .1 .0) (w .ensures .1) (count .0 .0) (sym (ap answerOf (count .1)) ∙ w .ensures .0)
+    (e .last .1 .1 .1 .1 .1 .0) (e .ensures .1) (r .0 .0) (sym (ap answerOf (r .1)) ∙ e .ensures .0))
 
 same-length-7 : tie.Need-same-length-7
 same-length-7 c = search needs
@@ -148,9 +170,12 @@ returns-4 c =
     let count = c .before .before .before .before .before .before .before .before .before .count .given in
     let e = c .before .before .before .before .before .evaluate in
     let v = c .before .v .given in
-    done (a .t) (a .m) (a .l) (a .text .now) (a .run .now) (a .table .now) (a .rows .now) (a .truth .now)
-    (k .last .1 .1 .0) (k .ensures .1) (n .0 .0) (count .0 .0) (v .0 .0) _ _ (sym (ap answerOf (n .1)) ∙ k .ensures .0)
-    (sym (ap answerOf (count .1)) ∙ w .ensures .0) (w .ensures .1) (sym (ap answerOf (v .1)) ∙ e .ensures .0) (e .ensures .1)
+    let h = a .horizon in
+    both (h .t) (h .m) (h .l) (a .text .now) (a .run .now) (a .table .now) (a .rows .now) (a .truth .now) _ _ _ _
+    (all-done (h .t) (h .m) (h .l) (a .text .now) (a .run .now) (a .table .now) (a .rows .now) (a .truth .now)
+    (k .last .1 .1 .0) (k .ensures .1) (n .0 .0) (sym (ap answerOf (n .1)) ∙ k .ensures .0)
+    (w .last .1 .1 .1 .1 .0) (w .ensures .1) (count .0 .0) (sym (ap answerOf (count .1)) ∙ w .ensures .0)
+    (e .last .1 .1 .1 .1 .1 .0) (e .ensures .1) (v .0 .0) (sym (ap answerOf (v .1)) ∙ e .ensures .0))
 
 pub plan-spec : {M : Type 1} → statement M
 plan-spec =

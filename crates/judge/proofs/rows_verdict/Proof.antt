@@ -3,7 +3,7 @@ use mathlib.Core.Path.{sym, ap, _∙_}
 use borrow.Author.Needs.{needs}
 use mir.Syntax.{w64}
 use mir.Facts.{toZ-ofZ}
-use Rattle.rules.specs.Judge.Verdict.{broken}
+use Rattle.rules.specs.Judge.VerdictWith.{broken}
 use Rattle.judge.specs.Parts.{broken-verdict, clear-verdict}
 use Rattle.judge.proofs.rows_verdict.Statement.{statement}
 use Rattle.judge.proofs.rows_verdict.Tie as tie

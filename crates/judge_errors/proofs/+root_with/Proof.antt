@@ -2,7 +2,7 @@
 use native.Mathlib.Omega.{arith}
 use borrow.Author.Needs.{needs}
 use lib.ListN.{length}
-use Rattle.judge_errors.specs.Worked.{small-zeros}
+use Rattle.judge_errors.specs.Worked.{places, small-zeros}
 use Prim.Native.Nat.{ℕ, _-_, _*_, _<_}
 use borrow.Fn.Kinds.{In}
 use borrow.Fn.PlainCycle.{Measures, is, falls, and}
@@ -55,7 +55,7 @@ root-with-root-with-requires : (t : ℕ) → root-with-lts.Need-root-with-requir
 root-with-root-with-requires t c κs =
     let p = c .before .before in
     let a = p .before .before .before in
-    (omega (arith, a .pre .0, p .place .ensures), (a .pre .1 .0, a .pre .1 .1, small-zeros 8192))
+    (omega (arith, a .pre .0, p .place .ensures), (a .pre .1 .0, a .pre .1 .1, small-zeros places))
 
 root-with-returns : (t : ℕ) → root-with-lts.Need-returns (
   place-reads.Asked,

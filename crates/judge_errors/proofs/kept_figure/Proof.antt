@@ -3,7 +3,7 @@ use mathlib.Core.Path.{_≡_, ap, _∙_, subst⁻¹}
 use Prim.Native.Nat.{ℕ, _+_, _-_, _*_, _≤_, _<_, min}
 use native.Mathlib.Omega.{arith}
 use Rattle.rules.specs.Quantities.{one}
-use Rattle.judge_errors.specs.Worked.{down, down-none, Summed, summed-none}
+use Rattle.judge_errors.specs.Worked.{perSlot, down, down-none, Summed, summed-none}
 use Rattle.judge_errors.specs.Count.{keptLater, kept-more}
 use Rattle.judge_errors.proofs.kept_figure.Statement.{statement}
 use Rattle.judge_errors.proofs.kept_figure.Tie as tie
@@ -47,7 +47,7 @@ loop-again c =
     let low : 0 < l .s = omega (arith, c .before .loop-test, a .pre .1 .0) in
     let next = ap (λ (x : ℕ). min one (l .sum + (a .args .e + x))) (r .ensures .0) in
     let more = kept-more (a .args .t) (a .args .l) (a .args .e) (a .args .figures .now) (a .args .parts) (l .s) low (l .inv .0) (l .inv .2) in
-    let few : l .sum + (a .args .e + r .result) ≤ one + (a .args .t - (l .s - 1)) * 2100000 = omega (arith, r .ensures .1, l .inv .2 .few, l .inv .0, low) in
+    let few : l .sum + (a .args .e + r .result) ≤ one + (a .args .t - (l .s - 1)) * perSlot = omega (arith, r .ensures .1, l .inv .2 .few, l .inv .0, low) in
     (omega (arith, l .inv .0), omega (arith, c .before .loop-test), record { stopped = next ∙ more; few = few })
 
 stopped-requires : tie.Need-stopped-requires Inv-loop μ-loop

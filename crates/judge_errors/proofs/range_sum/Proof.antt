@@ -2,12 +2,13 @@
 use mathlib.Core.Path.{_≡_, sym, ap, _∙_}
 use Prim.Native.Nat.{_+_, _-_, _*_, _≤_}
 use native.Mathlib.Omega.{arith}
+use Rattle.rules.specs.Quantities.{one}
 use Rattle.judge_errors.specs.Window.{sumTo, sum-none, sum-more}
 use Rattle.judge_errors.proofs.range_sum.Statement.{statement}
 use Rattle.judge_errors.proofs.range_sum.Tie as tie
 
 abbrev Inv-loop : tie.InvT-loop
-Inv-loop figures from k sum₀ i₀ sum i = (i ≤ k) × (sum ≡ sumTo figures (λ j. from + j) i) × (sum ≤ 1000000 * i)
+Inv-loop figures from k sum₀ i₀ sum i = (i ≤ k) × (sum ≡ sumTo figures (λ j. from + j) i) × (sum ≤ one * i)
 
 abbrev μ-loop : tie.MeasureT-loop
 μ-loop figures from k sum₀ i₀ sum i = k - i

@@ -5,7 +5,7 @@ use Prim.Native.Nat.{ℕ, _+_, _-_, _*_, _≤_, _<_, min}
 use native.Mathlib.Omega.{arith}
 use lib.ListN.{length}
 use Rattle.rules.specs.Quantities.{one}
-use Rattle.judge_errors.specs.Worked.{Small, Worked, worked-none, nextAt, next-last, Summed, summed-none, summed-at, step}
+use Rattle.judge_errors.specs.Worked.{perSlot, Small, Worked, worked-none, nextAt, next-last, Summed, summed-none, summed-at, step}
 use Rattle.judge_errors.specs.Count.{laterAt, laterEnd, figureLater, parts-in, later-read, later-more}
 use borrow.Author.Needs.{needs}
 use Rattle.judge_errors.proofs.work_later.Statement.{statement}
@@ -94,7 +94,7 @@ loop-again c =
     ∙ later-more (x .t) (x .l) (x .e) (x .figures .now) (x .parts) (l .s) low (x .n) (l .figures) (l .inv .3) in
     let w = step (l .inv .1) (l .inv .2) (a .pre .0) low (l .inv .0) _ _ _ i (c .stopped .ensures) counts in
     let inside : x .n * x .t + x .t ≤ length (l .figures) = omega (arith, a .pre .0 .inside, l .inv .1 .same) in
-    let few : l .sum + (x .e + r .result) ≤ one + (x .t - (l .s - 1)) * 2100000 = omega (arith, r .ensures .1, l .inv .3 .few, l .inv .0, low) in
+    let few : l .sum + (x .e + r .result) ≤ one + (x .t - (l .s - 1)) * perSlot = omega (arith, r .ensures .1, l .inv .3 .few, l .inv .0, low) in
     (omega arith, w .0, w .1, summed-at (x .t) (x .n) (l .s - 1) _ (l .figures) _ _ _ in-run inside few i (c .stopped .ensures))
 
 same-length : tie.Need-same-length Inv-loop μ-loop

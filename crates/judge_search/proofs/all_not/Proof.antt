@@ -21,13 +21,13 @@ loop-holds : tie.Need-loop-holds Inv-loop μ-loop
 loop-holds c = (omega arith, passing-none _ _ _ _)
 
 add-test-not : tie.Need-add-test-not Inv-loop μ-loop
-add-test-not c = omega (arith, c .loop-test, c .before .before .pre .2, c .before .before .pre .0)
+add-test-not c = omega (arith, c .loop-test, c .before .before .pre .2 .0, c .before .before .pre .0)
 
 add-test-not-2 : tie.Need-add-test-not-2 Inv-loop μ-loop
-add-test-not-2 c = omega (arith, c .loop-test, c .before .before .pre .2, c .before .before .pre .1)
+add-test-not-2 c = omega (arith, c .loop-test, c .before .before .pre .2 .0, c .before .before .pre .1)
 
 test-not-requires : tie.Need-test-not-requires Inv-loop μ-loop
-test-not-requires c κs = passing-low (c .before .loop .inv .1) (omega (arith, c .loop-test, c .before .before .pre .2)) (c .before .before .pre .3)
+test-not-requires c κs = passing-low (c .before .loop .inv .1) (omega (arith, c .loop-test, c .before .before .pre .2 .0)) (c .before .before .pre .2 .1)
 
 is-over-requires : tie.Need-is-over-requires Inv-loop μ-loop
 is-over-requires c κs = search needs
@@ -43,7 +43,7 @@ returns c =
     passing-over (x .e) f (Clear (x .count)) g (l .s) (x .k) more (omega arith) (sym (c .before .is-over .ensures) ∙ c .if1 .taken)
 
 add-s : tie.Need-add-s Inv-loop μ-loop
-add-s c = omega (arith, c .before .before .before .loop-test, c .before .before .before .before .before .pre .2)
+add-s c = omega (arith, c .before .before .before .loop-test, c .before .before .before .before .before .pre .2 .0)
 
 loop-less : tie.Need-loop-less Inv-loop μ-loop
 loop-less c = omega (arith, c .before .before .before .loop-test)

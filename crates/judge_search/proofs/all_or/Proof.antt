@@ -22,16 +22,16 @@ loop-holds : tie.Need-loop-holds Inv-loop μ-loop
 loop-holds c = (omega arith, passing-none _ _ _ _)
 
 add-test-or : tie.Need-add-test-or Inv-loop μ-loop
-add-test-or c = omega (arith, c .loop-test, c .before .before .pre .3, c .before .before .pre .0)
+add-test-or c = omega (arith, c .loop-test, c .before .before .pre .3 .0, c .before .before .pre .0)
 
 add-test-or-2 : tie.Need-add-test-or-2 Inv-loop μ-loop
-add-test-or-2 c = omega (arith, c .loop-test, c .before .before .pre .3, c .before .before .pre .1)
+add-test-or-2 c = omega (arith, c .loop-test, c .before .before .pre .3 .0, c .before .before .pre .1)
 
 add-test-or-3 : tie.Need-add-test-or-3 Inv-loop μ-loop
-add-test-or-3 c = omega (arith, c .loop-test, c .before .before .pre .3, c .before .before .pre .2)
+add-test-or-3 c = omega (arith, c .loop-test, c .before .before .pre .3 .0, c .before .before .pre .2)
 
 test-or-requires : tie.Need-test-or-requires Inv-loop μ-loop
-test-or-requires c κs = passing-low (c .before .loop .inv .1) (omega (arith, c .loop-test, c .before .before .pre .3)) (c .before .before .pre .4)
+test-or-requires c κs = passing-low (c .before .loop .inv .1) (omega (arith, c .loop-test, c .before .before .pre .3 .0)) (c .before .before .pre .3 .1)
 
 is-over-requires : tie.Need-is-over-requires Inv-loop μ-loop
 is-over-requires c κs = search needs
@@ -47,7 +47,7 @@ returns c =
     passing-over (x .e) f (Clear (x .count)) g (l .s) (x .k) more (omega arith) (sym (c .before .is-over .ensures) ∙ c .if1 .taken)
 
 add-s : tie.Need-add-s Inv-loop μ-loop
-add-s c = omega (arith, c .before .before .before .loop-test, c .before .before .before .before .before .pre .3)
+add-s c = omega (arith, c .before .before .before .loop-test, c .before .before .before .before .before .pre .3 .0)
 
 loop-less : tie.Need-loop-less Inv-loop μ-loop
 loop-less c = omega (arith, c .before .before .before .loop-test)

@@ -22,22 +22,22 @@ loop-holds : tie.Need-loop-holds Inv-loop μ-loop
 loop-holds c = (omega arith, passing-none _ _ _ _)
 
 add-test-until : tie.Need-add-test-until Inv-loop μ-loop
-add-test-until c = omega (arith, c .loop-test, c .before .before .pre .3, c .before .before .pre .0)
+add-test-until c = omega (arith, c .loop-test, c .before .before .pre .3 .0, c .before .before .pre .0)
 
 add-test-until-2 : tie.Need-add-test-until-2 Inv-loop μ-loop
-add-test-until-2 c = omega (arith, c .loop-test, c .before .before .pre .3, c .before .before .pre .1)
+add-test-until-2 c = omega (arith, c .loop-test, c .before .before .pre .3 .0, c .before .before .pre .1)
 
 add-test-until-3 : tie.Need-add-test-until-3 Inv-loop μ-loop
-add-test-until-3 c = omega (arith, c .loop-test, c .before .before .pre .3, c .before .before .pre .2)
+add-test-until-3 c = omega (arith, c .loop-test, c .before .before .pre .3 .0, c .before .before .pre .2)
 
 add-test-until-4 : tie.Need-add-test-until-4 Inv-loop μ-loop
-add-test-until-4 c = omega (arith, c .loop-test, c .before .before .pre .3, c .before .before .pre .0)
+add-test-until-4 c = omega (arith, c .loop-test, c .before .before .pre .3 .0, c .before .before .pre .0)
 
 add-test-until-5 : tie.Need-add-test-until-5 Inv-loop μ-loop
-add-test-until-5 c = omega (arith, c .loop-test, c .before .before .pre .3, c .before .before .pre .0)
+add-test-until-5 c = omega (arith, c .loop-test, c .before .before .pre .3 .0, c .before .before .pre .0)
 
 test-until-requires : tie.Need-test-until-requires Inv-loop μ-loop
-test-until-requires c κs = passing-low (c .before .loop .inv .1) (omega (arith, c .loop-test, c .before .before .pre .3)) (c .before .before .pre .4)
+test-until-requires c κs = passing-low (c .before .loop .inv .1) (omega (arith, c .loop-test, c .before .before .pre .3 .0)) (c .before .before .pre .3 .1)
 
 is-over-requires : tie.Need-is-over-requires Inv-loop μ-loop
 is-over-requires c κs = search needs
@@ -53,7 +53,7 @@ returns c =
     passing-over (x .e) f (Clear (x .count)) g (l .s) (x .k) more (omega arith) (sym (c .before .is-over .ensures) ∙ c .if1 .taken)
 
 add-s : tie.Need-add-s Inv-loop μ-loop
-add-s c = omega (arith, c .before .before .before .loop-test, c .before .before .before .before .before .pre .3)
+add-s c = omega (arith, c .before .before .before .loop-test, c .before .before .before .before .before .pre .3 .0)
 
 loop-less : tie.Need-loop-less Inv-loop μ-loop
 loop-less c = omega (arith, c .before .before .before .loop-test)

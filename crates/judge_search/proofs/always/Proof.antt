@@ -24,15 +24,15 @@ add-test-and : tie.Need-add-test-and
 add-test-and c = search needs
 
 test-and-requires : tie.Need-test-and-requires
-test-and-requires c κs = passing-low (c .before .before .before .all-and .ensures) (omega (arith, c .before .before .before .before .before .pre .3))
-    (c .before .before .before .before .before .pre .4)
+test-and-requires c κs = passing-low (c .before .before .before .all-and .ensures) (omega (arith, c .before .before .before .before .before .pre .3 .0))
+    (c .before .before .before .before .before .pre .3 .1)
 
 add-test-same : tie.Need-add-test-same
 add-test-same c = search needs
 
 test-same-requires : tie.Need-test-same-requires
-test-same-requires c κs = passing-low (c .before .before .before .all-and .ensures) (omega (arith, c .before .before .before .before .before .pre .3))
-    (c .before .before .before .before .before .pre .4)
+test-same-requires c κs = passing-low (c .before .before .before .all-and .ensures) (omega (arith, c .before .before .before .before .before .pre .3 .0))
+    (c .before .before .before .before .before .pre .3 .1)
 
 returns : tie.Need-returns
 returns c =
@@ -41,7 +41,7 @@ returns c =
     let k = a .pre .0 in
     let g : ℕ → List Row = λ s. andRows (b .own + s) (b .left + s) (b .own + 1 + s) in
     let done = c .before .before .before .before .all-and .ensures in
-    λ j. block-last b (a .args .t) j (a .pre .3) g (a .pre .2) (λ s h. always-inner b (a .args .t) j s h k) done
+    λ j. block-last b (a .args .t) j (a .pre .3 .0) g (a .pre .2) (λ s h. always-inner b (a .args .t) j s h k) done
     (always-loops b (a .args .t) j (a .pre .2) k (c .before .before .if1 .taken)) (c .test-and .ensures)
 
 returns-2 : tie.Need-returns-2
@@ -51,7 +51,7 @@ returns-2 c =
     let k = a .pre .0 in
     let g : ℕ → List Row = λ s. andRows (b .own + s) (b .left + s) (b .own + 1 + s) in
     let done = c .before .before .before .before .all-and .ensures in
-    λ j. block-last b (a .args .t) j (a .pre .3) g (a .pre .2) (λ s h. always-inner b (a .args .t) j s h k) done
+    λ j. block-last b (a .args .t) j (a .pre .3 .0) g (a .pre .2) (λ s h. always-inner b (a .args .t) j s h k) done
     (always-ends b (a .args .t) j (a .pre .2) k (c .before .before .if1 .left)) (c .test-same .ensures)
 
 pub always-spec : {M : Type 1} → statement M

@@ -9,6 +9,7 @@ use Rattle.rules.specs.Judge.{shortfall}
 use Rattle.table.specs.Looping.{loopingTo, looping-few}
 use Rattle.row.specs.NodeRows.{partRows, rowsTo}
 use Rattle.row.specs.Placed.{Small}
+use Rattle.judge_slot.specs.Counts as Counts
 use Rattle.judge_slot.specs.declared.Search.{Search}
 use Rattle.judge_slot.specs.declared.Search.the-variants.{Clear}
 use Rattle.judge_slot.specs.Searches.{tested, tested-start, tested-more, reached-clear, clear-is, over-rest}
@@ -20,7 +21,7 @@ use Rattle.judge_search.proofs.test_nodes.Tie as tie
 abbrev Inv-loop : tie.InvT-loop
 Inv-loop table n t m l figures e rows₀ kept₀ i₀ rows kept i =
     (i ≤ n) × (kept ≡ loopingTo (nodesIn table) i) × (Clear rows ≡ tested e (shortfall figures) (Clear 0) (flat (partRows t m l (nodesIn table)) i)) ×
-    (rows ≤ 8320 * i)
+    (rows ≤ Counts.node * i)
 
 abbrev μ-loop : tie.MeasureT-loop
 μ-loop table n t m l figures e rows₀ kept₀ i₀ rows kept i = n - i
@@ -180,7 +181,8 @@ loop-again c =
     let g = partRows (x .t) (x .m) (x .l) ns in
     let own = own-in (x .t) (x .m) (x .l) (x .table .now) (l .i) (l .kept) (nd .result) (l .inv .1) (nd .ensures .is) (x .n)
     (c .before .before .before .before .before .before .before .before .before .before .before .before .pre .1)
-    (c .before .before .before .before .before .before .before .first-variable .ensures .0) (c .before .before .before .before .before .before .own-block .ensures .0) in
+    (c .before .before .before .before .before .before .before .first-variable .ensures .0)
+    (c .before .before .before .before .before .before .own-block .ensures .0) in
     let o = c .before .before .before .before .before .test-node .ensures in
     let more = o .0 (x .m) (l .i) ns own ∙ ap (λ (z : Search). tested (x .e) f z (g (l .i))) (l .inv .2) ∙ sym (tested-more (x .e) f (Clear 0) g (l .i)) in
     let kept = kept-more (x .t) (x .m) (x .l) (x .table .now) (l .i) (l .kept) (nd .result) (l .inv .1) (nd .ensures .is) k (c .before .loops .ensures)

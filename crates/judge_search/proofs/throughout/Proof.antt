@@ -37,7 +37,7 @@ test-throughout-requires : tie.Need-test-throughout-requires Inv-loop μ-loop
 test-throughout-requires c κs =
     let o = c .before .before .before .before .pre in
     let high : c .before .before .before .loop .s ≤ 64 = omega (arith, c .before .before .loop-test, o .1 .slots-high) in
-    (c .before .look .ensures .are-few, o .1 .placed .left-low, passing-low (c .before .before .before .loop .inv .1) high (o .2), o .3)
+    (c .before .look .ensures .are-few, omega (arith, o .1 .placed .left-low), passing-low (c .before .before .before .loop .inv .1) high (o .2), o .3)
 
 is-over-requires : tie.Need-is-over-requires Inv-loop μ-loop
 is-over-requires c κs = search needs

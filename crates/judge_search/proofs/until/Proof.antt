@@ -25,14 +25,14 @@ add-test-until-2 c = search needs
 
 test-until-requires : tie.Need-test-until-requires
 test-until-requires c κs = passing-low (c .before .before .before .before .all-until .ensures)
-    (omega (arith, c .before .before .before .before .before .pre .3)) (c .before .before .before .before .before .pre .4)
+    (omega (arith, c .before .before .before .before .before .pre .3 .0)) (c .before .before .before .before .before .pre .3 .1)
 
 add-test-same : tie.Need-add-test-same
 add-test-same c = search needs
 
 test-same-requires : tie.Need-test-same-requires
-test-same-requires c κs = passing-low (c .before .before .before .all-until .ensures) (omega (arith, c .before .before .before .before .pre .3))
-    (c .before .before .before .before .pre .4)
+test-same-requires c κs = passing-low (c .before .before .before .all-until .ensures) (omega (arith, c .before .before .before .before .pre .3 .0))
+    (c .before .before .before .before .pre .3 .1)
 
 returns : tie.Need-returns
 returns c =
@@ -41,7 +41,7 @@ returns c =
     let k = a .pre .0 in
     let g : ℕ → List Row = λ s. untilRows (b .own + s) (b .left + s) (b .right + s) (b .own + s + 1) in
     let done = c .before .before .before .before .before .all-until .ensures in
-    λ j. block-last b (a .args .t) j (a .pre .3) g (a .pre .2) (λ s h. until-inner b (a .args .t) j s h k) done
+    λ j. block-last b (a .args .t) j (a .pre .3 .0) g (a .pre .2) (λ s h. until-inner b (a .args .t) j s h k) done
     (until-loops b (a .args .t) j (a .pre .2) k (c .before .before .before .if1 .taken)) (c .test-until .ensures)
 
 returns-2 : tie.Need-returns-2
@@ -51,7 +51,7 @@ returns-2 c =
     let k = a .pre .0 in
     let g : ℕ → List Row = λ s. untilRows (b .own + s) (b .left + s) (b .right + s) (b .own + s + 1) in
     let done = c .before .before .before .before .all-until .ensures in
-    λ j. block-last b (a .args .t) j (a .pre .3) g (a .pre .2) (λ s h. until-inner b (a .args .t) j s h k) done
+    λ j. block-last b (a .args .t) j (a .pre .3 .0) g (a .pre .2) (λ s h. until-inner b (a .args .t) j s h k) done
     (until-ends b (a .args .t) j (a .pre .2) k (c .before .before .if1 .left)) (c .test-same .ensures)
 
 pub until-spec : {M : Type 1} → statement M

@@ -27,10 +27,10 @@ returns c =
     let m = toZ-ofZ {w = w32} {z = high .result} (search needs) in
     let first = toZ-ofZ {w = w32} {z = x .a .sum} (search needs) in
     let second = toZ-ofZ {w = w32} {z = x .b .sum} (search needs) in
-    let al = toZ-ofZ {w = w32} {z = x .a .least} (search needs) in
-    let bl = toZ-ofZ {w = w32} {z = x .b .least} (search needs) in
-    let am = toZ-ofZ {w = w32} {z = x .a .most} (search needs) in
-    let bm = toZ-ofZ {w = w32} {z = x .b .most} (search needs) in
+    let al = toZ-ofZ {w = w32} {z = x .a .least .value} (search needs) in
+    let bl = toZ-ofZ {w = w32} {z = x .b .least .value} (search needs) in
+    let am = toZ-ofZ {w = w32} {z = x .a .most .value} (search needs) in
+    let bm = toZ-ofZ {w = w32} {z = x .b .most .value} (search needs) in
     record {
       sum-is = s ∙ sum .ensures ∙ ap₂ _+ℤ_ first second;
       least-is = rw l (rw al at (low .ensures .0), rw bl at (low .ensures .1));

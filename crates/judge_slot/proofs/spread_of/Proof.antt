@@ -8,6 +8,7 @@ use mir.Syntax.{w32}
 use mir.Val.{toZ}
 use mir.Facts.{toZ-ofZ}
 use Rattle.ints.specs.Stored.{told-back}
+use Rattle.millionths.specs.Bounds as Bounds
 use Rattle.judge_slot.specs.Spreads.{Spreads, spread-none, spread-more}
 use borrow.Author.Needs.{needs}
 use Rattle.judge_slot.proofs.spread_of.Statement.{statement}
@@ -72,7 +73,7 @@ loop-again c =
     let m = toZ-ofZ {w = w32} {z = low .result} (search needs) in
     let n = toZ-ofZ {w = w32} {z = high .result} (search needs) in
     let y = told-back w32 (getD (x .figures .now) (x .from + l .i) (pos 0)) (c .before .before .before .y .given) in
-    let small = subst⁻¹ (λ (z : ℤ). natAbs z ≤ 1100000) y (a .pre .3 (x .from + l .i)) in
+    let small = subst⁻¹ (λ (z : ℤ). natAbs z ≤ Bounds.near) y (a .pre .3 (x .from + l .i)) in
     let more = spread-more (x .figures .now) (λ j. x .from + j) (l .i) (l .inv .1) y (g .ensures) small (low .ensures) (high .ensures) in
     (omega (arith, c .before .before .before .before .loop-test), rw (b, m, n) more)
 

@@ -1,6 +1,6 @@
 -- `judge_slot::step` meets its contract. By the state of the search. Assumes nothing.
 use mathlib.Core.Path.{_≡_, sym, ap, ap₂, _∙_}
-use Prim.Native.Nat.{_≤_}
+use Prim.Native.Nat.{_+_, _≤_}
 use native.Mathlib.Nat.{le-refl}
 use native.Mathlib.Omega.{arith}
 use borrow.Author.Needs.{needs}
@@ -13,6 +13,7 @@ use Rattle.ints.specs.Magnitudes.{difference-magnitude}
 use Rattle.ints.specs.Stored.{sfits-by}
 use Rattle.rules.specs.Shortfalls.{below-difference}
 use Rattle.rules.specs.Verdicts.{isShort}
+use Rattle.millionths.specs.Bounds as Bounds
 use Rattle.judge_slot.specs.Searches.{already-broken, now-broken, still-clear, reached-clear}
 use Rattle.judge_slot.proofs.step.Statement.{statement}
 use Rattle.judge_slot.proofs.step.Tie as tie
@@ -20,7 +21,7 @@ use Rattle.judge_slot.proofs.step.Tie as tie
 difference : (c : tie.Start) → toZ w64 (ofZ w64 (c .args .shortfall)) -ℤ toZ w64 (c .args .e) ≡ c .args .shortfall -ℤ pos (c .args .e)
 difference c = ap₂ _-ℤ_ (toZ-ofZ (c .fits .shortfall)) (toZ-pos w64 {n = c .args .e} (omega (arith, c .fits .e)))
 
-small : (c : tie.Start) → natAbs (c .args .shortfall -ℤ pos (c .args .e)) ≤ 1099511693312
+small : (c : tie.Start) → natAbs (c .args .shortfall -ℤ pos (c .args .e)) ≤ Bounds.shortfall + 65536
 small c = let h = difference-magnitude (c .args .shortfall) (pos (c .args .e)) (c .pre .1) (le-refl (c .args .e)) in omega (arith, c .fits .e)
 
 enum-known-state : tie.Need-enum-known-state

@@ -1,7 +1,5 @@
 -- `judge_slot::test_same` meets its contract. The tests are of the rows' sums over the figures. Assumes nothing.
 use mathlib.Core.Path.{refl, _∙_}
-use mir.Syntax.{w32}
-use mir.Facts.{toZ-ofZ}
 use Rattle.ints.specs.Stored.{kept, small-back}
 use Rattle.rules.specs.Judge.{shortfall}
 use Rattle.judge_slot.specs.Searches.{one-tested}
@@ -23,10 +21,8 @@ step-requires c κs = (search needs, small-back (c .pair-off .result) (c .pair-o
 
 returns : tie.Need-returns
 returns c =
-    let fx = c .before .before .before .figure-of in
-    let fy = c .before .before .figure-of2 in
-    let x = toZ-ofZ {w = w32} {z = fx .result} (search needs) ∙ fx .ensures in
-    let y = toZ-ofZ {w = w32} {z = fy .result} (search needs) ∙ fy .ensures in
+    let x = c .before .before .before .figure-of .ensures in
+    let y = c .before .before .figure-of2 .ensures in
     one-tested (c .before .before .before .before .args .e) (shortfall (c .before .before .before .before .args .figures .now))
     (kept (c .before .pair-off .ensures) ∙ rw (x, y) refl)
     (c .step .ensures)

@@ -6,12 +6,13 @@ use Prim.Native.Nat.{ℕ, _-_, _≤_}
 use native.Mathlib.Omega.{arith}
 use lib.IntN.{ℤ, pos, negsuc, negℤ, natAbs}
 use lib.ListN.{length}
-use mir.Syntax.{w8, w32}
+use mir.Syntax.{w8}
 use mir.Facts.{toZ-ofZ}
 use Rattle.ints.specs.Stored.{back, kept}
 use Rattle.rules.specs.Rows.{ge, plus, minus, valueAt}
 use Rattle.rules.specs.Judge.{shortfall}
 use Rattle.rules.specs.Verdicts.{isShort}
+use Rattle.millionths.specs.Bounds as Bounds
 use Rattle.judge_sums.specs.Sums.{sums-whole, pairOf}
 use Rattle.judge_sums.specs.Laws.{shortOf}
 use Rattle.window.specs.Slots.{variables, length-variables}
@@ -45,55 +46,52 @@ returns-2 c t = never t
 
 cast-throughout-sum : tie.Need-cast-throughout-sum
 cast-throughout-sum c =
-    let a = c .before .before .before .before .before .before .before .before .before .before .args in
-    let seen = c .before .before .before .before .before .before .window-spread in
-    let few = c .before .before .before .before .before .before .before .before .before .before .pre .0 .few in
+    let a = c .before .before .before .before .before .before .before .before .before .args in
+    let seen = c .before .before .before .before .before .window-spread in
+    let few = c .before .before .before .before .before .before .before .before .before .pre .0 .few in
     wide-fits (a .figures .now) (a .looks) (a .p) (seen .ensures) few
 
 throughout-sum-requires : tie.Need-throughout-sum-requires
 throughout-sum-requires c κs =
-    let a = c .before .before .before .before .before .before .before .before .before .before .args in
-    let seen = c .before .before .before .before .before .before .window-spread in
-    let few = c .before .before .before .before .before .before .before .before .before .before .pre .0 .few in
+    let a = c .before .before .before .before .before .before .before .before .before .args in
+    let seen = c .before .before .before .before .before .window-spread in
+    let few = c .before .before .before .before .before .before .before .before .before .pre .0 .few in
     window-small (a .figures .now) (a .looks) (a .p) (seen .ensures) few
 
 less-one-requires : tie.Need-less-one-requires
 less-one-requires c κs = (
-  c .before .before .before .before .before .before .before .before .before .before .before .pre .0 .some,
-  c .before .before .before .before .before .before .before .before .before .before .before .pre .0 .few,
+  c .before .before .before .before .before .before .before .before .before .before .pre .0 .some,
+  c .before .before .before .before .before .before .before .before .before .before .pre .0 .few,
 )
 
 short-requires : tie.Need-short-requires
 short-requires c κs =
-    let a = c .before .before .before .before .before .before .before .before .before .before .before .before .before .args in
-    let seen = c .before .before .before .before .before .before .before .before .before .window-spread in
-    let few = c .before .before .before .before .before .before .before .before .before .before .before .before .before .pre .0 .few in
-    let fx = c .before .before .before .before .before .before .before .before .before .before .figure-of in
-    let x = toZ-ofZ {w = w32} {z = fx .result} (search needs) ∙ fx .ensures in
+    let a = c .before .before .before .before .before .before .before .before .before .before .before .before .args in
+    let seen = c .before .before .before .before .before .before .before .before .window-spread in
+    let few = c .before .before .before .before .before .before .before .before .before .before .before .before .pre .0 .few in
+    let x = c .before .before .before .before .before .before .before .before .before .figure-of .ensures in
     let s = passed-sum (a .figures .now) (a .looks) (a .p) (seen .ensures) few in
     let r = c .before .before .throughout-sum .ensures (a .figures .now) (variables (a .looks) (a .p)) (a .node) s x in
     let z = back (c .before .before .throughout-sum .result .whole) (omega (arith, r .whole-small)) in
-    subst⁻¹ (λ (z : ℤ). natAbs z ≤ 824633720832) z (r .whole-small)
+    subst⁻¹ (λ (z : ℤ). natAbs z ≤ Bounds.rowSum) z (r .whole-small)
 
 is-short-requires-2 : tie.Need-is-short-requires-2
 is-short-requires-2 c κs = search needs
 
 returns-3 : tie.Need-returns-3
 returns-3 c t =
-    let a = c .before .before .before .before .before .before .before .before .before .before .before .before .before .before .before .args in
-    let seen = c .before .before .before .before .before .before .before .before .before .before .before .window-spread in
-    let few = c .before .before .before .before .before .before .before .before .before .before .before .before .before .before .before .pre .0 .few in
-    let fx = c .before .before .before .before .before .before .before .before .before .before .before .before .figure-of in
-    let x = toZ-ofZ {w = w32} {z = fx .result} (search needs) ∙ fx .ensures in
+    let a = c .before .before .before .before .before .before .before .before .before .before .before .before .before .before .args in
+    let seen = c .before .before .before .before .before .before .before .before .before .before .window-spread in
+    let few = c .before .before .before .before .before .before .before .before .before .before .before .before .before .before .pre .0 .few in
+    let x = c .before .before .before .before .before .before .before .before .before .before .before .figure-of .ensures in
     let s = passed-sum (a .figures .now) (a .looks) (a .p) (seen .ensures) few in
     let r = c .before .before .before .before .throughout-sum .ensures (a .figures .now) (variables (a .looks) (a .p)) (a .node) s x in
     let n = ap (λ (m : ℕ). negℤ (pos (m - 1))) (sym (length-variables (a .looks) (a .p))) in
     let less = c .before .before .before .less-one in
     let right = toZ-ofZ {w = w8} {z = less .result} (search needs) ∙ less .ensures ∙ n in
-    let m = toZ-ofZ {w = w32} {z = seen .result .least} (search needs) in
-    let pair = ap₂ (λ (u v : ℤ). shortOf (pos 0) (pairOf (pos 1) u (negsuc 0) v)) m x in
+    let pair = ap (λ (v : ℤ). shortOf (pos 0) (pairOf (pos 1) (seen .result .least .value) (negsuc 0) v)) x in
     let told = ap (isShort (a .e)) (kept (c .before .before .before .before .before .before .before .before .before .pair-short .ensures) ∙ pair) in
-    let extreme : isShort (a .e) (shortOf (pos 0) (pairOf (pos 1) (seen .result .least) (negsuc 0) (valueAt (a .figures .now) (a .node)))) ≡ false = sym
+    let extreme : isShort (a .e) (shortOf (pos 0) (pairOf (pos 1) (seen .result .least .value) (negsuc 0) (valueAt (a .figures .now) (a .node)))) ≡ false = sym
     (c .before .before .before .before .before .before .before .before .is-short .ensures ∙ told)
     ∙ c .before .before .before .before .before .before .before .if2 .left in
     let sum = kept (c .before .short .ensures) ∙ ap₂ shortOf right (sums-whole r) in

@@ -1,16 +1,15 @@
 -- `judge_slot::within_holds` meets its contract. The largest figure tells of all rows but the last. Assumes nothing.
-use mathlib.Core.Path.{_≡_, sym, ap, ap₂, _∙_, subst⁻¹}
+use mathlib.Core.Path.{_≡_, sym, ap, _∙_, subst⁻¹}
 use mathlib.Core.Bool.{false}
 use mathlib.Core.List.{[], _∷_, _++_, map}
 use Prim.Native.Nat.{_≤_}
 use native.Mathlib.Omega.{arith}
 use lib.IntN.{ℤ, pos, negsuc, natAbs}
-use mir.Syntax.{w32}
-use mir.Facts.{toZ-ofZ}
 use Rattle.ints.specs.Stored.{back, kept}
 use Rattle.rules.specs.Rows.{ge, plus, minus, valueAt}
 use Rattle.rules.specs.Judge.{shortfall}
 use Rattle.rules.specs.Verdicts.{isShort}
+use Rattle.millionths.specs.Bounds as Bounds
 use Rattle.judge_sums.specs.Sums.{sums-whole, pairOf}
 use Rattle.judge_sums.specs.Laws.{shortOf}
 use Rattle.window.specs.Slots.{variables}
@@ -44,46 +43,43 @@ returns-2 c t = never t
 
 cast-within-sum : tie.Need-cast-within-sum
 cast-within-sum c =
-    let a = c .before .before .before .before .before .before .before .before .before .before .args in
-    let seen = c .before .before .before .before .before .before .window-spread in
-    let few = c .before .before .before .before .before .before .before .before .before .before .pre .0 .few in
+    let a = c .before .before .before .before .before .before .before .before .before .args in
+    let seen = c .before .before .before .before .before .window-spread in
+    let few = c .before .before .before .before .before .before .before .before .before .pre .0 .few in
     wide-fits (a .figures .now) (a .looks) (a .p) (seen .ensures) few
 
 within-sum-requires : tie.Need-within-sum-requires
 within-sum-requires c κs =
-    let a = c .before .before .before .before .before .before .before .before .before .before .args in
-    let seen = c .before .before .before .before .before .before .window-spread in
-    let few = c .before .before .before .before .before .before .before .before .before .before .pre .0 .few in
+    let a = c .before .before .before .before .before .before .before .before .before .args in
+    let seen = c .before .before .before .before .before .window-spread in
+    let few = c .before .before .before .before .before .before .before .before .before .pre .0 .few in
     window-small (a .figures .now) (a .looks) (a .p) (seen .ensures) few
 
 short-requires : tie.Need-short-requires
 short-requires c κs =
-    let a = c .before .before .before .before .before .before .before .before .before .before .before .before .args in
-    let seen = c .before .before .before .before .before .before .before .before .window-spread in
-    let few = c .before .before .before .before .before .before .before .before .before .before .before .before .pre .0 .few in
-    let fx = c .before .before .before .before .before .before .before .before .before .figure-of in
-    let x = toZ-ofZ {w = w32} {z = fx .result} (search needs) ∙ fx .ensures in
+    let a = c .before .before .before .before .before .before .before .before .before .before .before .args in
+    let seen = c .before .before .before .before .before .before .before .window-spread in
+    let few = c .before .before .before .before .before .before .before .before .before .before .before .pre .0 .few in
+    let x = c .before .before .before .before .before .before .before .before .figure-of .ensures in
     let s = passed-sum (a .figures .now) (a .looks) (a .p) (seen .ensures) few in
     let r = c .before .within-sum .ensures (a .figures .now) (variables (a .looks) (a .p)) (a .node) s x in
     let z = back (c .before .within-sum .result .whole) (omega (arith, r .whole-small)) in
-    subst⁻¹ (λ (z : ℤ). natAbs z ≤ 824633720832) z (r .whole-small)
+    subst⁻¹ (λ (z : ℤ). natAbs z ≤ Bounds.rowSum) z (r .whole-small)
 
 is-short-requires-2 : tie.Need-is-short-requires-2
 is-short-requires-2 c κs = search needs
 
 returns-3 : tie.Need-returns-3
 returns-3 c t =
-    let a = c .before .before .before .before .before .before .before .before .before .before .before .before .before .before .args in
-    let seen = c .before .before .before .before .before .before .before .before .before .before .window-spread in
-    let few = c .before .before .before .before .before .before .before .before .before .before .before .before .before .before .pre .0 .few in
-    let fx = c .before .before .before .before .before .before .before .before .before .before .before .figure-of in
-    let x = toZ-ofZ {w = w32} {z = fx .result} (search needs) ∙ fx .ensures in
+    let a = c .before .before .before .before .before .before .before .before .before .before .before .before .before .args in
+    let seen = c .before .before .before .before .before .before .before .before .before .window-spread in
+    let few = c .before .before .before .before .before .before .before .before .before .before .before .before .before .pre .0 .few in
+    let x = c .before .before .before .before .before .before .before .before .before .before .figure-of .ensures in
     let s = passed-sum (a .figures .now) (a .looks) (a .p) (seen .ensures) few in
     let r = c .before .before .before .within-sum .ensures (a .figures .now) (variables (a .looks) (a .p)) (a .node) s x in
-    let m = toZ-ofZ {w = w32} {z = seen .result .most} (search needs) in
-    let pair = ap₂ (λ (u v : ℤ). shortOf (pos 0) (pairOf (pos 1) u (negsuc 0) v)) x m in
+    let pair = ap (λ (u : ℤ). shortOf (pos 0) (pairOf (pos 1) u (negsuc 0) (seen .result .most .value))) x in
     let told = ap (isShort (a .e)) (kept (c .before .before .before .before .before .before .before .before .pair-short .ensures) ∙ pair) in
-    let extreme : isShort (a .e) (shortOf (pos 0) (pairOf (pos 1) (valueAt (a .figures .now) (a .node)) (negsuc 0) (seen .result .most))) ≡ false = sym
+    let extreme : isShort (a .e) (shortOf (pos 0) (pairOf (pos 1) (valueAt (a .figures .now) (a .node)) (negsuc 0) (seen .result .most .value))) ≡ false = sym
     (c .before .before .before .before .before .before .before .is-short .ensures ∙ told) ∙ c .before .before .before .before .before .before .if2 .left in
     let sum = kept (c .before .short .ensures) ∙ ap (shortOf (pos 0)) (sums-whole r) in
     let all = sym (c .is-short2 .ensures ∙ ap (isShort (a .e)) sum) ∙ fails (c .is-short2 .result) t in

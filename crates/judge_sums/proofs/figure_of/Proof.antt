@@ -13,16 +13,16 @@ use Rattle.judge_sums.proofs.figure_of.Tie as tie
 wide-requires : tie.Need-wide-requires
 wide-requires c κs = search needs
 
-mul-result : tie.Need-mul-result
-mul-result c = search needs
+mul-t7 : tie.Need-mul-t7
+mul-t7 c = search needs
 
-shared-slice-copy-out-result : tie.Need-shared-slice-copy-out-result
-shared-slice-copy-out-result c = search needs
+shared-slice-copy-out-t9 : tie.Need-shared-slice-copy-out-t9
+shared-slice-copy-out-t9 c = search needs
 
 returns : tie.Need-returns
 returns c =
     let a = c .before .before .before .args in
-    told-back w32 (getD (a .figures .now) (c .before .before .wide .result) (pos 0)) (c .result .given)
+    told-back w32 (getD (a .figures .now) (c .before .before .wide .result) (pos 0)) (c .t9 .given)
     ∙ ap (λ (v : ℕ). getD (a .figures .now) v (pos 0)) (c .before .before .wide .ensures .0)
 
 returns-2 : tie.Need-returns-2
@@ -31,5 +31,4 @@ returns-2 c =
     sym (List·getD-eq-default (a .figures .now) (pos 0) (omega (arith, c .before .wide .ensures .0)))
 
 pub figure-of-spec : {M : Type 1} → statement M
-figure-of-spec =
-    tie.close (tie.spec wide-requires mul-result shared-slice-copy-out-result returns returns-2)
+figure-of-spec = tie.close (tie.spec wide-requires mul-t7 shared-slice-copy-out-t9 returns returns-2)

@@ -12,7 +12,7 @@ returns : tie.Need-returns
 returns c =
     let a = c .before .args in
     let f = c .before .fits in
-    sums-as (rw (toZ-ofZ (f .j), toZ-ofZ (f .x), toZ-ofZ (f .k), toZ-ofZ (f .y)) (third-zero (a .j) (a .x) (a .k) (a .y))) (c .triple .ensures)
+    sums-as (rw (toZ-ofZ (f .j), toZ-ofZ (f .k)) (third-zero (a .j) (a .x .value) (a .k) (a .y .value))) (c .triple .ensures)
 
 pub pair-spec : {M : Type 1} → statement M
 pair-spec = tie.close (tie.spec triple-requires returns)

@@ -1,5 +1,5 @@
 -- `judge_sums::pair_short` meets its contract. What the sum of two terms is short by. Assumes nothing.
-use mathlib.Core.Path.{ap₂, _∙_}
+use mathlib.Core.Path.{refl, ap₂, _∙_}
 use borrow.Author.Needs.{needs}
 use mir.Facts.{toZ-ofZ}
 use Rattle.ints.specs.Stored.{small-back, kept}
@@ -17,7 +17,7 @@ short-requires c κs = search needs
 returns : tie.Need-returns
 returns c =
     let f = c .before .before .before .fits in
-    let sum-is = sums-whole (c .before .before .pair .ensures) ∙ pair-same (toZ-ofZ (f .j)) (toZ-ofZ (f .x)) (toZ-ofZ (f .k)) (toZ-ofZ (f .y)) in
+    let sum-is = sums-whole (c .before .before .pair .ensures) ∙ pair-same (toZ-ofZ (f .j)) refl (toZ-ofZ (f .k)) refl in
     (kept (c .short .ensures) ∙ ap₂ shortOf (toZ-ofZ (f .right)) sum-is, small-back (c .short .result) (c .short .ensures .1))
 
 pub pair-short-spec : {M : Type 1} → statement M

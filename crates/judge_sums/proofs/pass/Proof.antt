@@ -1,12 +1,13 @@
 -- `judge_sums::pass` meets its contract. Three terms, one after the other. Assumes nothing.
 use mathlib.Core.Path.{_≡_, ap, _∙_}
-use Prim.Native.Nat.{_+_, _≤_}
+use Prim.Native.Nat.{_+_, _*_, _≤_}
 use native.Mathlib.Omega.{arith}
 use borrow.Author.Needs.{needs}
 use lib.IntN.{natAbs}
 use mir.Syntax.{w64}
 use mir.Val.{toZ, ofZ}
 use mir.Facts.{toZ-ofZ}
+use Rattle.millionths.specs.Bounds as Bounds
 use Rattle.judge_sums.specs.Sums.{added-same}
 use Rattle.judge_sums.proofs.pass.Statement.{statement}
 use Rattle.judge_sums.proofs.pass.Tie as tie
@@ -21,13 +22,13 @@ second-back c = toZ-ofZ {w = w64} {z = c .add2 .result} (search needs)
 third-back : (c : tie.After-add3) → toZ w64 (ofZ w64 (c .add3 .result)) ≡ c .add3 .result
 third-back c = toZ-ofZ {w = w64} {z = c .add3 .result} (search needs)
 
-first-size : (c : tie.After-add) → natAbs (c .add .result) ≤ natAbs (c .before .args .sum) + 274877906944
+first-size : (c : tie.After-add) → natAbs (c .add .result) ≤ natAbs (c .before .args .sum) + Bounds.product
 first-size c = let e = ap natAbs (toZ-ofZ (c .before .fits .sum)) in omega (arith, c .add .ensures .1)
 
-second-size : (c : tie.After-add2) → natAbs (c .add2 .result) ≤ natAbs (c .before .before .args .sum) + 549755813888
+second-size : (c : tie.After-add2) → natAbs (c .add2 .result) ≤ natAbs (c .before .before .args .sum) + 2 * Bounds.product
 second-size c = let e = ap natAbs (first-back (c .before)) in let h = first-size (c .before) in omega (arith, c .add2 .ensures .1)
 
-third-size : (c : tie.After-add3) → natAbs (c .add3 .result) ≤ natAbs (c .before .before .before .args .sum) + 824633720832
+third-size : (c : tie.After-add3) → natAbs (c .add3 .result) ≤ natAbs (c .before .before .before .args .sum) + Bounds.rowSum
 third-size c = let e = ap natAbs (second-back (c .before)) in let h = second-size (c .before) in omega (arith, c .add3 .ensures .1)
 
 add-requires : tie.Need-add-requires

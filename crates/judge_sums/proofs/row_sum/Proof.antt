@@ -1,7 +1,6 @@
 -- `judge_sums::row_sum` meets its contract. By the number of terms. Assumes nothing.
-use mathlib.Core.Path.{_∙_}
 use borrow.Author.Needs.{needs}
-use mir.Syntax.{w8, w32}
+use mir.Syntax.{w8}
 use mir.Facts.{toZ-ofZ}
 use Rattle.judge_sums.specs.Sums.{single-sums, pair-sums, triple-sums}
 use Rattle.judge_sums.proofs.row_sum.Statement.{statement}
@@ -49,7 +48,7 @@ returns c =
     let t = c .before .before .before .before in
     let a = t .terms .given .0 .0 in
     single-sums (t .before .before .args .figures .now) (t .terms .given .1)
-    (toZ-ofZ {w = w8} {z = a .coefficient} (search needs)) (toZ-ofZ {w = w32} {z = x .result} (search needs) ∙ x .ensures)
+    (toZ-ofZ {w = w8} {z = a .coefficient} (search needs)) (x .ensures)
     (c .pair .ensures)
 
 returns-2 : tie.Need-returns-2
@@ -60,8 +59,8 @@ returns-2 c =
     let a = t .terms2 .given .0 .0 in
     let b = t .terms2 .given .0 .1 .0 in
     pair-sums (t .before .before .args .figures .now) (t .terms2 .given .1)
-    (toZ-ofZ {w = w8} {z = a .coefficient} (search needs)) (toZ-ofZ {w = w32} {z = x .result} (search needs) ∙ x .ensures)
-    (toZ-ofZ {w = w8} {z = b .coefficient} (search needs)) (toZ-ofZ {w = w32} {z = y .result} (search needs) ∙ y .ensures)
+    (toZ-ofZ {w = w8} {z = a .coefficient} (search needs)) (x .ensures)
+    (toZ-ofZ {w = w8} {z = b .coefficient} (search needs)) (y .ensures)
     (c .pair2 .ensures)
 
 returns-3 : tie.Need-returns-3
@@ -74,9 +73,9 @@ returns-3 c =
     let b = t .terms3 .given .0 .1 .0 in
     let d = t .terms3 .given .0 .1 .1 .0 in
     triple-sums (t .before .before .args .figures .now) (t .terms3 .given .1)
-    (toZ-ofZ {w = w8} {z = a .coefficient} (search needs)) (toZ-ofZ {w = w32} {z = x .result} (search needs) ∙ x .ensures)
-    (toZ-ofZ {w = w8} {z = b .coefficient} (search needs)) (toZ-ofZ {w = w32} {z = y .result} (search needs) ∙ y .ensures)
-    (toZ-ofZ {w = w8} {z = d .coefficient} (search needs)) (toZ-ofZ {w = w32} {z = z .result} (search needs) ∙ z .ensures)
+    (toZ-ofZ {w = w8} {z = a .coefficient} (search needs)) (x .ensures)
+    (toZ-ofZ {w = w8} {z = b .coefficient} (search needs)) (y .ensures)
+    (toZ-ofZ {w = w8} {z = d .coefficient} (search needs)) (z .ensures)
     (c .triple .ensures)
 
 pub row-sum-spec : {M : Type 1} → statement M

@@ -9,6 +9,7 @@ use mir.Facts.{toZ-ofZ}
 use Rattle.ints.specs.Magnitudes.{mul-magnitude}
 use Rattle.ints.specs.Stored.{abs-sfits, back}
 use Rattle.rules.specs.Quantities.{one}
+use Rattle.millionths.specs.Bounds as Bounds
 use Rattle.judge_sums.proofs.scaled.Statement.{statement}
 use Rattle.judge_sums.proofs.scaled.Tie as tie
 
@@ -17,9 +18,10 @@ product-requires c κs = search needs
 
 returns : tie.Need-returns
 returns c =
-    let s = c .before .before in
-    let e = back (c .product .result) (omega (arith, c .product .ensures .1)) ∙ c .product .ensures .0 ∙ ap (λ (z : ℤ). z *ℤ pos one) (toZ-ofZ (s .fits .right)) in
-    (e, subst⁻¹ (λ (z : ℤ). natAbs z ≤ 128000000) e (mul-magnitude (s .args .right) (pos one) (abs-sfits (s .fits .right)) (le-refl one)))
+    let s = c .before in
+    let e = back (c .product .result) (omega (arith, c .product .ensures .1)) ∙ c .product .ensures .0
+    ∙ ap (λ (z : ℤ). z *ℤ pos one) (toZ-ofZ (s .fits .right)) in
+    (e, subst⁻¹ (λ (z : ℤ). natAbs z ≤ Bounds.right) e (mul-magnitude (s .args .right) (pos one) (abs-sfits (s .fits .right)) (le-refl one)))
 
 pub scaled-spec : {M : Type 1} → statement M
 scaled-spec = tie.close (tie.spec product-requires returns)

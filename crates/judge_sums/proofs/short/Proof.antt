@@ -9,7 +9,8 @@ use mir.Facts.{toZ-ofZ}
 use Rattle.ints.specs.Magnitudes.{difference-magnitude}
 use Rattle.ints.specs.Stored.{back}
 use Rattle.rules.specs.Quantities.{one}
-use Rattle.judge_sums.specs.Laws.{within}
+use Rattle.millionths.specs.Bounds as Bounds
+use Rattle.millionths.specs.Wide.{within}
 use Rattle.judge_sums.proofs.short.Statement.{statement}
 use Rattle.judge_sums.proofs.short.Tie as tie
 
@@ -17,16 +18,17 @@ scaled-requires : tie.Need-scaled-requires
 scaled-requires c κs = search needs
 
 less-requires : tie.Need-less-requires
-less-requires c κs = search (needs, within 824633720832 (omega arith), within 128000000 (omega arith))
+less-requires c κs = search (needs, within Bounds.rowSum (omega arith), within Bounds.right (omega arith))
 
 returns : tie.Need-returns
 returns c =
     let s = c .before .before in
     let right = c .before .scaled in
-    let d = toZ-ofZ {w = w64} {z = c .less .result} (search needs) ∙ c .less .ensures ∙ ap₂ _-ℤ_ (back (right .result) (omega (arith, right .ensures .1))) (toZ-ofZ (s .fits .sum)) in
+    let d = toZ-ofZ {w = w64} {z = c .less .result} (search needs) ∙ c .less .ensures
+    ∙ ap₂ _-ℤ_ (back (right .result) (omega (arith, right .ensures .1))) (toZ-ofZ (s .fits .sum)) in
     let h = difference-magnitude (right .result) (s .args .sum) (right .ensures .1) (s .pre) in (
       d ∙ ap (λ (z : ℤ). z -ℤ s .args .sum) (right .ensures .0 ∙ ap (λ (z : ℤ). z *ℤ pos one) (toZ-ofZ (s .fits .right))),
-      subst⁻¹ (λ (z : ℤ). natAbs z ≤ 1099511627776) d (omega (arith, h)),
+      subst⁻¹ (λ (z : ℤ). natAbs z ≤ Bounds.shortfall) d (omega (arith, h)),
     )
 
 pub short-spec : {M : Type 1} → statement M

@@ -12,7 +12,8 @@ use Rattle.judge_sums.specs.Laws.{short-row, off-row}
 use Rattle.judge_sums.proofs.shortfall.Statement.{statement}
 use Rattle.judge_sums.proofs.shortfall.Tie as tie
 
-sum-is : (c : tie.After-row-sum) → toZ w64 (ofZ w64 (c .row-sum .result .whole)) ≡ sumOf (c .before .before .args .figures .now) (termsOf (c .before .before .args .row .terms))
+sum-is : (c : tie.After-row-sum) → toZ w64 (ofZ w64 (c .row-sum .result .whole)) ≡
+    sumOf (c .before .before .args .figures .now) (termsOf (c .before .before .args .row .terms))
 sum-is c = sums-whole (c .row-sum .ensures)
 
 right-is : (c : tie.After-row-sum) → toZ w8 (ofZ w8 (c .before .before .args .row .right)) ≡ c .before .before .args .row .right
@@ -36,14 +37,18 @@ off-requires c κs = search needs
 returns : tie.Need-returns
 returns c =
     let k = c .before .before .before .before in
-    let a = k .before .before .args in
-    (kept (c .short .ensures) ∙ short-row (a .figures .now) (a .row) (sum-is k) (right-is k) (c .before .before .enum-told .given .1), small-back (c .short .result) (c .short .ensures .1))
+    let a = k .before .before .args in (
+      kept (c .short .ensures) ∙ short-row (a .figures .now) (a .row) (sum-is k) (right-is k) (c .before .before .enum-told .given .1),
+      small-back (c .short .result) (c .short .ensures .1),
+    )
 
 returns-2 : tie.Need-returns-2
 returns-2 c =
     let k = c .before .before .before .before in
-    let a = k .before .before .args in
-    (kept (c .off .ensures) ∙ off-row (a .figures .now) (a .row) (sum-is k) (right-is k) (c .before .before .enum-told2 .given .1), small-back (c .off .result) (c .off .ensures .1))
+    let a = k .before .before .args in (
+      kept (c .off .ensures) ∙ off-row (a .figures .now) (a .row) (sum-is k) (right-is k) (c .before .before .enum-told2 .given .1),
+      small-back (c .off .result) (c .off .ensures .1),
+    )
 
 pub shortfall-spec : {M : Type 1} → statement M
 shortfall-spec =

@@ -74,9 +74,7 @@ put-entries-requires c κs =
     let start = s .before .before in
     let b = start .args .block in
     let f = start .pre .5 in (
-      start .pre .0,
-      start .pre .1,
-      omega (arith, t .rows-before .ensures .1, s .slot-count .ensures .1),
+      (start .pre .0, start .pre .1, omega (arith, t .rows-before .ensures .1, s .slot-count .ensures .1)),
       record {
         plain = start .pre .6;
         parts = apart-at (b .kind) (start .args .t) (b .own) (b .left) (b .right) (start .args .s) (omega (arith, start .pre .3)) (f .behind .parts);

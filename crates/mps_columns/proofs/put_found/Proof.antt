@@ -22,8 +22,8 @@ slice-aggregate-put-part c = sym (length-take-le (c .before .before .find-users 
 put-part-requires : tie.Need-put-part-requires
 put-part-requires c κs =
     let s = c .before .before .before .before .before .before .before in (
-      (s .pre .0 .0, omega (arith, s .pre .0 .1, s .pre .0 .2 .few-nodes, s .pre .0 .2 .atoms-high), s .pre .0 .2, s .pre .0 .3, s .pre .0 .4),
-      (s .pre .1, found-part (c .before .before .find-users .ensures)),
+      (s .pre .0, omega (arith, s .pre .1, s .pre .2 .ready .few-nodes, s .pre .2 .ready .atoms-high), s .pre .2),
+      found-part (c .before .before .find-users .ensures),
     )
 
 same-length : tie.Need-same-length

@@ -28,13 +28,13 @@ put-part-requires c κs =
     let s = a .before .before .before in
     let ns = nodesIn (s .args .table .now) in
     let n = length-nodesIn (s .args .plan .m) (s .args .table .now) in
-    let r = s .pre .0 .3 in
-    let low : s .args .n < length ns = omega (arith, n, s .pre .0 .1) in
+    let r = s .pre .3 .ready in
+    let low : s .args .n < length ns = omega (arith, n, s .pre .1) in
     let few = looping-few ns (s .args .n) in
     let found = found-kept (s .args .plan .m) ns (λ i h. r .nodes i (omega (arith, n))) (s .args .n) low
     (sym (a .loops-at .ensures) ∙ c .before .before .if1 .taken) in (
-      (s .pre .0 .0, omega (arith, s .pre .0 .2, n, few, s .pre .0 .1, r .few-nodes, r .atoms-high), r, s .pre .0 .4, s .pre .0 .5),
-      (s .pre .1, subst⁻¹ (λ (y : ℕ). Found (s .args .plan .m) ns y (s .args .n ∷ []) 1) (s .pre .0 .2) found),
+      (s .pre .0, omega (arith, s .pre .2, n, few, s .pre .1, r .few-nodes, r .atoms-high), s .pre .3),
+      subst⁻¹ (λ (y : ℕ). Found (s .args .plan .m) ns y (s .args .n ∷ []) 1) (s .pre .2) found,
     )
 
 same-length : tie.Need-same-length

@@ -5,21 +5,21 @@ use Prim.Native.Nat.{ℕ, _+_, _-_, _*_, _≤_, _<_}
 use native.Mathlib.Omega.{arith}
 use lib.ListN.{length}
 use Rattle.lists.specs.Flat.{flat}
-use Rattle.rules.specs.Rows.{rowsOf}
 use Rattle.rules.specs.TableTest.{nodesIn, recordCount, length-nodesIn}
-use Rattle.mps.specs.Page.{columnLines}
 use Rattle.table.specs.Looping.{loopingTo, looping-more, looping-few, looping-all}
+use Rattle.mps_line.specs.Bounds.{lineLimit, partLines}
 use Rattle.mps_line.specs.Emitted.{Emitted}
 use Rattle.mps_line.specs.Turns.{turns-none, turns-all}
-use Rattle.mps_columns.specs.Parts.{partText, kept-turn}
+use Rattle.mps_columns.specs.Parts.{kept-turn}
+use Rattle.mps_columns.specs.Plans.{plannedPart}
 use borrow.Author.Needs.{needs}
 use Rattle.mps_columns.proofs.put_kept_parts.Statement.{statement}
 use Rattle.mps_columns.proofs.put_kept_parts.Tie as tie
 
 abbrev Inv-loop : tie.InvT-loop
 Inv-loop out₀ at table layout plan m count next₀ found₀ n₀ out next found n =
-    (n ≤ count) × (found ≡ loopingTo (nodesIn table) n) × (next ≤ at + 2726302720 * n)
-    × Emitted at (flat (λ j. partText (plan .t) (columnLines (rowsOf (plan .t) (plan .m) (plan .l) (nodesIn table))) (plan .m + recordCount table + j)) found) out₀ out next
+    (n ≤ count) × (found ≡ loopingTo (nodesIn table) n) × (next ≤ at + n * partLines * lineLimit)
+    × Emitted at (flat (λ j. plannedPart plan table (plan .m + recordCount table + j)) found) out₀ out next
 
 abbrev μ-loop : tie.MeasureT-loop
 μ-loop out₀ at table layout plan m count next₀ found₀ n₀ out next found n = count - n
@@ -34,7 +34,7 @@ add-put-kept : tie.Need-add-put-kept Inv-loop μ-loop
 add-put-kept c =
     let count = c .before .before .before in
     let s = count .before .before .before in
-    record { fits = omega (arith, count .count .ensures, s .pre .0 .1 .few-nodes, s .pre .0 .1 .atoms-high) }
+    record { fits = omega (arith, count .count .ensures, s .pre .1 .ready .few-nodes, s .pre .1 .ready .atoms-high) }
 
 add-put-kept-2 : tie.Need-add-put-kept-2 Inv-loop μ-loop
 add-put-kept-2 c =
@@ -47,8 +47,8 @@ add-put-kept-2 c =
         count .count .ensures,
         looping-few (nodesIn (s .args .table .now)) (l .loop .n),
         l .loop .inv .1,
-        s .pre .0 .1 .few-nodes,
-        s .pre .0 .1 .atoms-high,
+        s .pre .1 .ready .few-nodes,
+        s .pre .1 .ready .atoms-high,
       );
     }
 
@@ -57,14 +57,9 @@ put-kept-requires c κs =
     let count = c .before .before .before in
     let s = count .before .before .before in
     let n = length-nodesIn (s .args .plan .m) (s .args .table .now) in (
-      (
-        omega (arith, count .count .ensures, s .pre .0 .0, s .pre .0 .1 .few-nodes),
-        omega (arith, count .count .ensures, c .before .loop-test .taken),
-        omega (arith, n, count .count .ensures, c .before .before .loop .inv .1),
-        s .pre .0 .1,
-        s .pre .0 .2,
-        s .pre .0 .3,
-      ),
+      omega (arith, count .count .ensures, s .pre .0, s .pre .1 .ready .few-nodes),
+      omega (arith, count .count .ensures, c .before .loop-test .taken),
+      omega (arith, n, count .count .ensures, c .before .before .loop .inv .1),
       s .pre .1,
     )
 
@@ -76,13 +71,13 @@ one-more-requires c κs =
     let l = c .before .before .before .before .before .before in
     let count = l .before in
     let s = count .before .before .before in
-    omega (arith, count .count .ensures, looping-few (nodesIn (s .args .table .now)) (l .loop .n), l .loop .inv .1, s .pre .0 .1 .few-nodes)
+    omega (arith, count .count .ensures, looping-few (nodesIn (s .args .table .now)) (l .loop .n), l .loop .inv .1, s .pre .1 .ready .few-nodes)
 
 add-n : tie.Need-add-n Inv-loop μ-loop
 add-n c =
     let count = c .before .before .before .before .before .before .before .before in
     let s = count .before .before .before in
-    record { fits = omega (arith, count .count .ensures, s .pre .0 .1 .few-nodes) }
+    record { fits = omega (arith, count .count .ensures, s .pre .1 .ready .few-nodes) }
 
 loop-less : tie.Need-loop-less Inv-loop μ-loop
 loop-less c = search needs
@@ -103,7 +98,7 @@ loop-again c =
       omega arith,
       more,
       omega (arith, p .put-kept .ensures .1),
-      kept-turn (partText (a .plan .t) (columnLines (rowsOf (a .plan .t) (a .plan .m) (a .plan .l) ns))) (a .plan .m + recordCount (a .table .now)) ns
+      kept-turn (plannedPart (a .plan) (a .table .now)) (a .plan .m + recordCount (a .table .now)) ns
           (l .loop .n) low
           (l .loop .inv .1) more (omega (arith, count .count .ensures)) (l .loop .inv .3) (p .put-kept .ensures .0),
     )
@@ -118,7 +113,7 @@ returns c =
     let ns = nodesIn (s .args .table .now) in
     let all : c .before .loop .n ≡ length ns = omega (arith, count .count .ensures, length-nodesIn (s .args .plan .m) (s .args .table .now)) in (
       turns-all _ _ _ (c .before .loop .inv .1 ∙ ap (loopingTo ns) all ∙ looping-all ns) (c .before .loop .inv .3),
-      omega (arith, count .count .ensures, s .pre .0 .1 .few-nodes),
+      omega (arith, count .count .ensures, s .pre .1 .ready .few-nodes),
     )
 
 pub put-kept-parts-spec : {M : Type 1} → statement M

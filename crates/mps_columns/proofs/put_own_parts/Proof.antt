@@ -3,19 +3,18 @@ use mathlib.Core.Path.{_≡_}
 use Prim.Native.Nat.{_+_, _-_, _*_, _≤_}
 use native.Mathlib.Omega.{arith}
 use Rattle.lists.specs.Flat.{flat}
-use Rattle.rules.specs.Rows.{rowsOf}
-use Rattle.rules.specs.TableTest.{nodesIn, recordCount}
-use Rattle.mps.specs.Page.{columnLines}
+use Rattle.rules.specs.TableTest.{recordCount}
+use Rattle.mps_line.specs.Bounds.{lineLimit, partLines}
 use Rattle.mps_line.specs.Emitted.{Emitted}
 use Rattle.mps_line.specs.Turns.{turns-none, turns-more, turns-all}
-use Rattle.mps_columns.specs.Parts.{partText}
+use Rattle.mps_columns.specs.Plans.{plannedPart}
 use borrow.Author.Needs.{needs}
 use Rattle.mps_columns.proofs.put_own_parts.Statement.{statement}
 use Rattle.mps_columns.proofs.put_own_parts.Tie as tie
 
 abbrev Inv-loop : tie.InvT-loop
-Inv-loop out₀ at table layout plan m parts next₀ x₀ out next x = (x ≤ parts) × (next ≤ at + 2726302720 * x)
-    × Emitted at (flat (partText (plan .t) (columnLines (rowsOf (plan .t) (plan .m) (plan .l) (nodesIn table)))) x) out₀ out next
+Inv-loop out₀ at table layout plan m parts next₀ x₀ out next x = (x ≤ parts) × (next ≤ at + x * partLines * lineLimit)
+    × Emitted at (flat (plannedPart plan table) x) out₀ out next
 
 abbrev μ-loop : tie.MeasureT-loop
 μ-loop out₀ at table layout plan m parts next₀ x₀ out next x = parts - x
@@ -26,7 +25,7 @@ count-requires c κs = search needs
 add-parts : tie.Need-add-parts Inv-loop μ-loop
 add-parts c =
     let s = c .before .before .before in
-    record { fits = omega (arith, c .count .ensures, s .pre .0 .1 .few-nodes, s .pre .0 .1 .atoms-high) }
+    record { fits = omega (arith, c .count .ensures, s .pre .1 .ready .few-nodes, s .pre .1 .ready .atoms-high) }
 
 loop-holds : tie.Need-loop-holds Inv-loop μ-loop
 loop-holds c = (omega arith, omega arith, turns-none _ _ _)
@@ -35,13 +34,8 @@ put-found-requires : tie.Need-put-found-requires Inv-loop μ-loop
 put-found-requires c κs =
     let count = c .before .before .before in
     let s = count .before .before .before in (
-      (
-        omega (arith, count .count .ensures, s .pre .0 .0, s .pre .0 .1 .few-nodes, s .pre .0 .1 .atoms-high),
-        omega (arith, count .count .ensures, c .before .loop-test .taken),
-        s .pre .0 .1,
-        s .pre .0 .2,
-        s .pre .0 .3,
-      ),
+      omega (arith, count .count .ensures, s .pre .0, s .pre .1 .ready .few-nodes, s .pre .1 .ready .atoms-high),
+      omega (arith, count .count .ensures, c .before .loop-test .taken),
       s .pre .1,
     )
 
@@ -49,7 +43,7 @@ add-x : tie.Need-add-x Inv-loop μ-loop
 add-x c =
     let count = c .before .before .before .before .before .before in
     let s = count .before .before .before in
-    record { fits = omega (arith, count .count .ensures, s .pre .0 .1 .few-nodes, s .pre .0 .1 .atoms-high) }
+    record { fits = omega (arith, count .count .ensures, s .pre .1 .ready .few-nodes, s .pre .1 .ready .atoms-high) }
 
 loop-less : tie.Need-loop-less Inv-loop μ-loop
 loop-less c = search needs
@@ -62,7 +56,7 @@ loop-again c =
     let q = c .before .before .put-found .ensures in (
       omega arith,
       omega (arith, q .1),
-      turns-more (partText (a .plan .t) (columnLines (rowsOf (a .plan .t) (a .plan .m) (a .plan .l) (nodesIn (a .table .now))))) (a .at) (a .out .now)
+      turns-more (plannedPart (a .plan) (a .table .now)) (a .at) (a .out .now)
           (l .loop .inv .2) (q .0),
     )
 
@@ -73,7 +67,7 @@ returns : tie.Need-returns Inv-loop μ-loop
 returns c =
     let s = c .before .before .before .before .before in
     let e : c .before .loop .x ≡ s .args .plan .m + recordCount (s .args .table .now) = omega (arith, c .before .before .count .ensures) in
-    (turns-all _ _ _ e (c .before .loop .inv .2), omega (arith, s .pre .0 .1 .few-nodes, s .pre .0 .1 .atoms-high))
+    (turns-all _ _ _ e (c .before .loop .inv .2), omega (arith, s .pre .1 .ready .few-nodes, s .pre .1 .ready .atoms-high))
 
 pub put-own-parts-spec : {M : Type 1} → statement M
 put-own-parts-spec =

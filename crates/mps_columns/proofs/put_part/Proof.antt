@@ -6,6 +6,7 @@ use Rattle.lists.specs.Flat.{flat}
 use Rattle.rules.specs.Rows.{rowsOf}
 use Rattle.rules.specs.TableTest.{nodesIn}
 use Rattle.mps.specs.Page.{columnLines}
+use Rattle.mps_line.specs.Bounds.{lineLimit, tableLines}
 use Rattle.mps_line.specs.Emitted.{Emitted}
 use Rattle.mps_line.specs.Turns.{turns-none, turns-more, turns-all}
 use borrow.Author.Needs.{needs}
@@ -13,7 +14,7 @@ use Rattle.mps_columns.proofs.put_part.Statement.{statement}
 use Rattle.mps_columns.proofs.put_part.Tie as tie
 
 abbrev Inv-loop : tie.InvT-loop
-Inv-loop out₀ at table layout users x plan t next₀ s₀ out next s = (s ≤ t) × (next ≤ at + 42598480 * s)
+Inv-loop out₀ at table layout users x plan t next₀ s₀ out next s = (s ≤ t) × (next ≤ at + s * tableLines * lineLimit)
     × Emitted at (flat (λ i. columnLines (rowsOf (plan .t) (plan .m) (plan .l) (nodesIn table)) (x * plan .t + i)) s) out₀ out next
 
 abbrev μ-loop : tie.MeasureT-loop
@@ -25,12 +26,12 @@ loop-holds c = (omega arith, omega arith, turns-none _ _ _)
 put-variable-requires : tie.Need-put-variable-requires Inv-loop μ-loop
 put-variable-requires c κs =
     let s = c .before .before .before .before .before .before in (
-      (omega (arith, s .pre .0 .0, s .pre .0 .2 .slots-high), s .pre .0 .1, c .before .loop-test .taken, s .pre .0 .2, s .pre .0 .3, s .pre .0 .4),
-      (s .pre .1 .0, s .pre .1 .1),
+      (omega (arith, s .pre .0 .0, s .pre .0 .2 .ready .slots-high), s .pre .0 .1, c .before .loop-test .taken, s .pre .0 .2),
+      s .pre .1,
     )
 
 add-s : tie.Need-add-s Inv-loop μ-loop
-add-s c = record { fits = omega (arith, c .before .before .before .before .before .before .before .before .before .pre .0 .2 .slots-high) }
+add-s c = record { fits = omega (arith, c .before .before .before .before .before .before .before .before .before .pre .0 .2 .ready .slots-high) }
 
 loop-less : tie.Need-loop-less Inv-loop μ-loop
 loop-less c = search needs
@@ -54,7 +55,7 @@ same-length c = c .before .loop .inv .2 .same
 returns : tie.Need-returns Inv-loop μ-loop
 returns c =
     let e : c .before .loop .s ≡ c .before .before .before .before .before .args .plan .t = omega arith in
-    (turns-all _ _ _ e (c .before .loop .inv .2), omega (arith, c .before .before .before .before .before .pre .0 .2 .slots-high))
+    (turns-all _ _ _ e (c .before .loop .inv .2), omega (arith, c .before .before .before .before .before .pre .0 .2 .ready .slots-high))
 
 pub put-part-spec : {M : Type 1} → statement M
 put-part-spec =

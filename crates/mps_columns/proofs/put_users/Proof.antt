@@ -5,6 +5,7 @@ use native.Mathlib.Omega.{arith}
 use lib.ListN.{length, getD}
 use Rattle.lists.specs.Flat.{flat}
 use Rattle.rules.specs.TableTest.{nodesIn}
+use Rattle.mps_line.specs.Bounds.{lineLimit, nodeLines}
 use Rattle.mps_line.specs.Emitted.{Emitted}
 use Rattle.mps_line.specs.Turns.{turns-none, turns-more, turns-all}
 use Rattle.mps_users.specs.Users.{userText}
@@ -13,7 +14,7 @@ use Rattle.mps_columns.proofs.put_users.Statement.{statement}
 use Rattle.mps_columns.proofs.put_users.Tie as tie
 
 abbrev Inv-loop : tie.InvT-loop
-Inv-loop out₀ at table layout users variable plan next₀ j₀ out next j = (j ≤ length users) × (next ≤ at + 332800 * j) ×
+Inv-loop out₀ at table layout users variable plan next₀ j₀ out next j = (j ≤ length users) × (next ≤ at + j * nodeLines * lineLimit) ×
     Emitted at (flat (λ k. userText (plan .t) (plan .m) (plan .l) (nodesIn table) (variable .v) (getD users k 0)) j) out₀ out next
 
 abbrev μ-loop : tie.MeasureT-loop
@@ -27,26 +28,17 @@ shared-slice-read-user c = search needs
 
 cast-user : tie.Need-cast-user Inv-loop μ-loop
 cast-user c =
-    let h = c .before .before .before .before .before .before .pre .1 .1 .1 (c .before .before .loop .j) (c .before .loop-test .taken) in
-    record { fits = omega (arith, h, c .before .before .before .before .before .before .pre .0 .3 .few-nodes) }
+    let h = c .before .before .before .before .before .before .pre .1 .1 (c .before .before .loop .j) (c .before .loop-test .taken) in
+    record { fits = omega (arith, h, c .before .before .before .before .before .before .pre .0 .2 .ready .few-nodes) }
 
 put-user-requires : tie.Need-put-user-requires Inv-loop μ-loop
 put-user-requires c κs =
     let l = c .before .before .before in
-    let s = l .before .before .before .before in (
-      (
-        omega (arith, s .pre .1 .1 .0),
-        s .pre .0 .1,
-        s .pre .0 .2,
-        s .pre .0 .3,
-        s .pre .1 .1 .1 (l .loop .j) (c .before .before .loop-test .taken),
-        s .pre .0 .4,
-      ),
-      s .pre .1 .0,
-    )
+    let s = l .before .before .before .before in
+    (omega (arith, s .pre .1 .0), s .pre .0 .1, s .pre .0 .2, s .pre .1 .1 (l .loop .j) (c .before .before .loop-test .taken))
 
 add-j : tie.Need-add-j Inv-loop μ-loop
-add-j c = record { fits = omega (arith, c .before .before .before .before .before .before .before .before .before .before .pre .1 .1 .0) }
+add-j c = record { fits = omega (arith, c .before .before .before .before .before .before .before .before .before .before .pre .1 .0) }
 
 loop-less : tie.Need-loop-less Inv-loop μ-loop
 loop-less c = search needs
@@ -71,7 +63,7 @@ returns : tie.Need-returns Inv-loop μ-loop
 returns c =
     let l = c .before .loop in
     let e : l .j ≡ length (c .before .before .before .before .before .args .users .now) = omega arith in
-    (turns-all _ _ _ e (l .inv .2), omega (arith, c .before .before .before .before .before .pre .1 .1 .0))
+    (turns-all _ _ _ e (l .inv .2), omega (arith, c .before .before .before .before .before .pre .1 .0))
 
 pub put-users-spec : {M : Type 1} → statement M
 put-users-spec =

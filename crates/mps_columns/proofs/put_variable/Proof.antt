@@ -13,7 +13,7 @@ use Rattle.mps_columns.proofs.put_variable.Statement.{statement}
 use Rattle.mps_columns.proofs.put_variable.Tie as tie
 
 first-variable-requires : tie.Need-first-variable-requires
-first-variable-requires c κs = (c .before .before .before .pre .0 .1, c .before .before .before .pre .0 .3 .slots-high)
+first-variable-requires c κs = (omega (arith, c .before .before .before .pre .0 .1), c .before .before .before .pre .0 .3 .ready .slots-high)
 
 cast-v : tie.Need-cast-v
 cast-v c = let h = c .first-variable .ensures .1 in search needs
@@ -21,7 +21,7 @@ cast-v c = let h = c .first-variable .ensures .1 in search needs
 add-v : tie.Need-add-v
 add-v c =
     let s = c .before .before .before .before .before in
-    record { fits = omega (arith, c .before .first-variable .ensures .1, s .pre .0 .2, s .pre .0 .3 .slots-high) }
+    record { fits = omega (arith, c .before .first-variable .ensures .1, s .pre .0 .2, s .pre .0 .3 .ready .slots-high) }
 
 count-requires : tie.Need-count-requires
 count-requires c κs = search needs
@@ -30,29 +30,31 @@ put-users-requires : tie.Need-put-users-requires
 put-users-requires c κs =
     let p = c .before .before .before in
     let s = p .before .before .before .before in
-    let f = s .pre .1 .1 in
+    let f = s .pre .1 in
     let n = length-nodesIn (s .args .plan .m) (s .args .table .now) in (
       (
         omega (arith, s .pre .0 .0),
-        omega (arith, p .first-variable .ensures .1, s .pre .0 .2, s .pre .0 .3 .slots-high),
-        s .pre .0 .2,
+        (
+          omega (arith, p .first-variable .ensures .1, s .pre .0 .2, s .pre .0 .3 .ready .slots-high),
+          s .pre .0 .2,
+          (s .args .slot .x, ap (λ (k : ℕ). k + s .args .slot .s) (p .first-variable .ensures .0)),
+        ),
         s .pre .0 .3,
-        (s .args .slot .x, ap (λ (k : ℕ). k + s .args .slot .s) (p .first-variable .ensures .0)),
       ),
-      (s .pre .1 .0, (f .few, λ j h. omega (arith, n, f .low j h))),
+      (f .few, λ j h. omega (arith, n, f .low j h)),
     )
 
 sub-slack : tie.Need-sub-slack
 sub-slack c =
     let count = c .before .before .before .before in
     let s = count .before .before .before .before .before .before in
-    omega (arith, s .pre .0 .3 .some-nodes, count .count .ensures)
+    omega (arith, s .pre .0 .3 .ready .some-nodes, count .count .ensures)
 
 slack-requires : tie.Need-slack-requires
 slack-requires c κs =
     let count = c .before .before .before .before in
     let s = count .before .before .before .before .before .before in
-    let r = s .pre .0 .3 in omega (arith, r .few-nodes, r .slots-high, r .atoms-high, count .count .ensures)
+    let r = s .pre .0 .3 .ready in omega (arith, r .few-nodes, r .slots-high, r .atoms-high, count .count .ensures)
 
 goal-requires : tie.Need-goal-requires
 goal-requires c κs = search needs
@@ -62,13 +64,17 @@ put-row-requires c κs =
     let u = c .before .before .before .before .before in
     let p = u .before .before .before .before in
     let s = p .before .before .before .before in
-    (omega (arith, s .pre .0 .0, u .put-users .ensures .1), omega (arith, p .first-variable .ensures .1, s .pre .0 .2, s .pre .0 .3 .slots-high), s .pre .0 .4)
+    let low = p .first-variable .ensures .1 in (
+      omega (arith, s .pre .0 .0, u .put-users .ensures .1),
+      omega (arith, low, s .pre .0 .2, s .pre .0 .3 .ready .slots-high),
+      omega (arith, s .pre .0 .3 .few),
+    )
 
 put-number-line-requires : tie.Need-put-number-line-requires
 put-number-line-requires c κs =
     let p = c .before .before .before .before .before .before .before .before .before .before .before .before .before .before in
     let s = p .before .before .before .before in
-    (omega (arith, s .pre .0 .0), omega (arith, p .first-variable .ensures .1, s .pre .0 .2, s .pre .0 .3 .slots-high), omega arith, omega arith)
+    (omega (arith, s .pre .0 .0), omega (arith, p .first-variable .ensures .1, s .pre .0 .2, s .pre .0 .3 .ready .slots-high), omega arith, omega arith)
 
 same-length : tie.Need-same-length
 same-length c = search needs
@@ -86,14 +92,14 @@ returns c =
     let start = place .before .before .before .before in
     let p = start .args .plan in
     let ns = nodesIn (start .args .table .now) in
-    let r = start .pre .0 .3 in
+    let r = start .pre .0 .3 .ready in
     let loop : LoopAllowed (p .t) (p .l) = (r .loop-low, r .loop-high) in
     let n = count .count in
     let e : length ns ≡ n .result = length-nodesIn (p .m) (start .args .table .now) ∙ sym (n .ensures) in
     let named : place .first-variable .result + start .args .slot .s ≡ start .args .slot .x * p .t + start .args .slot .s =
     ap (λ (k : ℕ). k + start .args .slot .s) (place .first-variable .ensures .0) in
-    let lines = users-emitted (p .t) (p .m) (p .l) loop ns (start .args .slot .x) (start .args .slot .s) _ named (start .pre .0 .2) (start .pre .1 .1)
-    (u .put-users .ensures .0) (start .pre .0 .5)
+    let lines = users-emitted (p .t) (p .m) (p .l) loop ns (start .args .slot .x) (start .args .slot .s) _ named (start .pre .0 .2) (start .pre .1)
+    (u .put-users .ensures .0) (start .pre .0 .3 .goal)
     (g .goal .ensures ∙ goal-is (p .t) (p .m) (p .l) ns (n .result) e (s .slack .ensures)) (row .put-row .ensures .0) in
     let q = c .before .before .put-number-line .ensures in (
       column-none (p .t) (p .m) (p .l) loop ns (start .args .slot .x) (start .args .slot .s) _ named (start .pre .0 .2) lines (i .if1 .taken) (q .0),
@@ -114,14 +120,14 @@ returns-2 c =
     let start = place .before .before .before .before in
     let p = start .args .plan in
     let ns = nodesIn (start .args .table .now) in
-    let r = start .pre .0 .3 in
+    let r = start .pre .0 .3 .ready in
     let loop : LoopAllowed (p .t) (p .l) = (r .loop-low, r .loop-high) in
     let n = count .count in
     let e : length ns ≡ n .result = length-nodesIn (p .m) (start .args .table .now) ∙ sym (n .ensures) in
     let named : place .first-variable .result + start .args .slot .s ≡ start .args .slot .x * p .t + start .args .slot .s =
     ap (λ (k : ℕ). k + start .args .slot .s) (place .first-variable .ensures .0) in
-    let lines = users-emitted (p .t) (p .m) (p .l) loop ns (start .args .slot .x) (start .args .slot .s) _ named (start .pre .0 .2) (start .pre .1 .1)
-    (u .put-users .ensures .0) (start .pre .0 .5)
+    let lines = users-emitted (p .t) (p .m) (p .l) loop ns (start .args .slot .x) (start .args .slot .s) _ named (start .pre .0 .2) (start .pre .1)
+    (u .put-users .ensures .0) (start .pre .0 .3 .goal)
     (g .goal .ensures ∙ goal-is (p .t) (p .m) (p .l) ns (n .result) e (s .slack .ensures)) (row .put-row .ensures .0) in (
       column-some (p .t) (p .m) (p .l) loop ns (start .args .slot .x) (start .args .slot .s) _ named (start .pre .0 .2) lines (c .if1 .left),
       omega (arith, row .put-row .ensures .1, u .put-users .ensures .1),

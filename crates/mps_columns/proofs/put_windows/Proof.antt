@@ -5,6 +5,7 @@ use native.Mathlib.Omega.{arith}
 use Rattle.lists.specs.Flat.{flat, flat-zero, flat-more}
 use Rattle.mps.specs.Page.{eachRow, entryLine}
 use Rattle.row.specs.NodeRows.{blockOn, blockRows}
+use Rattle.mps_line.specs.Bounds.{lineLimit, slotLines}
 use Rattle.mps_line.specs.Emitted.{emitted-as}
 use Rattle.mps_node.specs.Turns.{Listed, listed-none, listed-more, listed-as}
 use borrow.Author.Needs.{needs}
@@ -13,7 +14,7 @@ use Rattle.mps_columns.proofs.put_windows.Tie as tie
 
 abbrev Inv-loop : tie.InvT-loop
 Inv-loop out₀ at v start block t l within next₀ i₀ s₀ out next i s =
-    (s ≤ t) × (next ≤ at + 2600 * s) × (i ≤ start + 65 * s) ×
+    (s ≤ t) × (next ≤ at + s * slotLines * lineLimit) × (i ≤ start + s * slotLines) ×
     Listed (entryLine v) start (flat (blockOn block t l) s) i at out₀ out next
 
 abbrev μ-loop : tie.MeasureT-loop

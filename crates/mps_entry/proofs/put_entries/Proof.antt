@@ -7,7 +7,7 @@ use Rattle.mps.specs.Page.{entryLine}
 use Rattle.table.specs.declared.Kind.{Kind}
 use Rattle.row.specs.Apart.{Apart}
 use Rattle.mps_line.specs.Emitted.{emitted-as}
-use Rattle.mps_row.specs.Laws.{Plain, of-kind}
+use Rattle.mps_row.specs.Laws.{Plain, not-plain, of-kind}
 use borrow.Author.Needs.{needs}
 use Rattle.mps_entry.proofs.put_entries.Statement.{statement}
 use Rattle.mps_entry.proofs.put_entries.Tie as tie
@@ -22,8 +22,8 @@ enum-told c = search needs
 put-same-requires : tie.Need-put-same-requires
 put-same-requires c κs =
     let z = c .before .before .before .before .args .spot in
-    let h = told (z .own) (z .left) (z .right) (c .before .enum-told .given .1) (c .before .before .before .before .pre .3 .parts) in
-    (c .before .before .before .before .pre .0, c .before .before .before .before .pre .1, c .before .before .before .before .pre .2, omega arith)
+    let h = told (z .own) (z .left) (z .right) (c .before .enum-told .given .1) (c .before .before .before .before .pre .1 .parts) in
+    (c .before .before .before .before .pre .0, omega arith)
 
 enum-told-2 : tie.Need-enum-told-2
 enum-told-2 c = search needs
@@ -31,8 +31,8 @@ enum-told-2 c = search needs
 put-not-requires : tie.Need-put-not-requires
 put-not-requires c κs =
     let z = c .before .before .before .before .args .spot in
-    let h = told (z .own) (z .left) (z .right) (c .before .enum-told2 .given .1) (c .before .before .before .before .pre .3 .parts) in
-    (c .before .before .before .before .pre .0, c .before .before .before .before .pre .1, c .before .before .before .before .pre .2, omega arith)
+    let h = told (z .own) (z .left) (z .right) (c .before .enum-told2 .given .1) (c .before .before .before .before .pre .1 .parts) in
+    (c .before .before .before .before .pre .0, omega arith)
 
 enum-told-3 : tie.Need-enum-told-3
 enum-told-3 c = search needs
@@ -41,8 +41,8 @@ put-joined-requires : tie.Need-put-joined-requires
 put-joined-requires c κs =
     let s = c .before .before .before .before in
     let z = s .args .spot in
-    let h = told (z .own) (z .left) (z .right) (c .before .enum-told3 .given .1) (s .pre .3 .parts) in
-    (s .pre .0, s .pre .1, s .pre .2, omega (arith, h .0), λ e. omega (arith, h .1))
+    let h = told (z .own) (z .left) (z .right) (c .before .enum-told3 .given .1) (s .pre .1 .parts) in
+    (s .pre .0, omega (arith, h .0), λ e. omega (arith, h .1))
 
 enum-told-4 : tie.Need-enum-told-4
 enum-told-4 c = search needs
@@ -51,8 +51,8 @@ put-joined-requires-2 : tie.Need-put-joined-requires-2
 put-joined-requires-2 c κs =
     let s = c .before .before .before .before in
     let z = s .args .spot in
-    let h = told (z .own) (z .left) (z .right) (c .before .enum-told4 .given .1) (s .pre .3 .parts) in
-    (s .pre .0, s .pre .1, s .pre .2, omega (arith, h .0), λ e. omega (arith, h .1))
+    let h = told (z .own) (z .left) (z .right) (c .before .enum-told4 .given .1) (s .pre .1 .parts) in
+    (s .pre .0, omega (arith, h .0), λ e. omega (arith, h .1))
 
 enum-told-5 : tie.Need-enum-told-5
 enum-told-5 c = search needs
@@ -61,8 +61,8 @@ put-implies-requires : tie.Need-put-implies-requires
 put-implies-requires c κs =
     let s = c .before .before .before .before in
     let z = s .args .spot in
-    let h = told (z .own) (z .left) (z .right) (c .before .enum-told5 .given .1) (s .pre .3 .parts) in
-    (s .pre .0, s .pre .1, s .pre .2, omega (arith, h .0), omega (arith, h .1))
+    let h = told (z .own) (z .left) (z .right) (c .before .enum-told5 .given .1) (s .pre .1 .parts) in
+    (s .pre .0, omega (arith, h .0), omega (arith, h .1))
 
 enum-told-6 : tie.Need-enum-told-6
 enum-told-6 c = search needs
@@ -71,15 +71,15 @@ put-joined-requires-3 : tie.Need-put-joined-requires-3
 put-joined-requires-3 c κs =
     let s = c .before .before .before .before .before in
     let z = s .args .spot in
-    let h = told (z .own) (z .left) (z .right) (c .before .before .enum-told6 .given .1) (s .pre .3 .parts) in
-    (s .pre .0, s .pre .1, s .pre .2, omega arith, λ e. omega (arith, s .pre .3 .next (c .before .if1 .taken)))
+    let h = told (z .own) (z .left) (z .right) (c .before .before .enum-told6 .given .1) (s .pre .1 .parts) in
+    (s .pre .0, omega arith, λ e. omega (arith, s .pre .1 .next (c .before .if1 .taken)))
 
 put-same-requires-2 : tie.Need-put-same-requires-2
 put-same-requires-2 c κs =
     let s = c .before .before .before .before .before in
     let z = s .args .spot in
-    let h = told (z .own) (z .left) (z .right) (c .before .before .enum-told6 .given .1) (s .pre .3 .parts) in
-    (s .pre .0, s .pre .1, s .pre .2, omega arith)
+    let h = told (z .own) (z .left) (z .right) (c .before .before .enum-told6 .given .1) (s .pre .1 .parts) in
+    (s .pre .0, omega arith)
 
 enum-told-7 : tie.Need-enum-told-7
 enum-told-7 c = search needs
@@ -88,15 +88,15 @@ put-joined-requires-4 : tie.Need-put-joined-requires-4
 put-joined-requires-4 c κs =
     let s = c .before .before .before .before .before in
     let z = s .args .spot in
-    let h = told (z .own) (z .left) (z .right) (c .before .before .enum-told7 .given .1) (s .pre .3 .parts) in
-    (s .pre .0, s .pre .1, s .pre .2, omega arith, λ e. omega (arith, s .pre .3 .next (c .before .if2 .taken)))
+    let h = told (z .own) (z .left) (z .right) (c .before .before .enum-told7 .given .1) (s .pre .1 .parts) in
+    (s .pre .0, omega arith, λ e. omega (arith, s .pre .1 .next (c .before .if2 .taken)))
 
 put-same-requires-3 : tie.Need-put-same-requires-3
 put-same-requires-3 c κs =
     let s = c .before .before .before .before .before in
     let z = s .args .spot in
-    let h = told (z .own) (z .left) (z .right) (c .before .before .enum-told7 .given .1) (s .pre .3 .parts) in
-    (s .pre .0, s .pre .1, s .pre .2, omega arith)
+    let h = told (z .own) (z .left) (z .right) (c .before .before .enum-told7 .given .1) (s .pre .1 .parts) in
+    (s .pre .0, omega arith)
 
 enum-told-8 : tie.Need-enum-told-8
 enum-told-8 c = search needs
@@ -105,15 +105,15 @@ put-until-requires : tie.Need-put-until-requires
 put-until-requires c κs =
     let s = c .before .before .before .before .before in
     let z = s .args .spot in
-    let h = told (z .own) (z .left) (z .right) (c .before .before .enum-told8 .given .1) (s .pre .3 .parts) in
-    (s .pre .0, s .pre .1, s .pre .2, omega (arith, h .0), omega (arith, h .1), s .pre .3 .next (c .before .if3 .taken))
+    let h = told (z .own) (z .left) (z .right) (c .before .before .enum-told8 .given .1) (s .pre .1 .parts) in
+    (s .pre .0, omega (arith, h .0), omega (arith, h .1), s .pre .1 .next (c .before .if3 .taken))
 
 put-same-requires-4 : tie.Need-put-same-requires-4
 put-same-requires-4 c κs =
     let s = c .before .before .before .before .before in
     let z = s .args .spot in
-    let h = told (z .own) (z .left) (z .right) (c .before .before .enum-told8 .given .1) (s .pre .3 .parts) in
-    (s .pre .0, s .pre .1, s .pre .2, omega (arith, h .1))
+    let h = told (z .own) (z .left) (z .right) (c .before .before .enum-told8 .given .1) (s .pre .1 .parts) in
+    (s .pre .0, omega (arith, h .1))
 
 enum-told-9 : tie.Need-enum-told-9
 enum-told-9 c = search needs
@@ -260,10 +260,10 @@ returns-11 c =
     (emitted-as (of-kind (entryLine (a .v)) (a .i) (z .own) (z .left) (z .right) (z .next) [] (t .enum-told8 .given .1) (i .if3 .left)) (p .0), p .1)
 
 returns-12 : tie.Need-returns-12
-returns-12 c = absurd (subst Plain (c .enum-told9 .given .1) (c .before .before .before .pre .3 .plain))
+returns-12 c = absurd (not-plain (subst Plain (c .enum-told9 .given .1) (c .before .before .before .pre .1 .plain)))
 
 returns-13 : tie.Need-returns-13
-returns-13 c = absurd (subst Plain (c .enum-told10 .given .1) (c .before .before .before .pre .3 .plain))
+returns-13 c = absurd (not-plain (subst Plain (c .enum-told10 .given .1) (c .before .before .before .pre .1 .plain)))
 
 pub put-entries-spec : {M : Type 1} → statement M
 put-entries-spec =

@@ -5,7 +5,7 @@ use Prim.Native.Nat.{_+_, _-_, _≤_}
 use native.Mathlib.Omega.{arith}
 use borrow.Author.Needs.{needs}
 use Rattle.rules.specs.TableTest.{nodesIn}
-use Rattle.mps_length.specs.Sums.{sum-more}
+use Rattle.lists.specs.Sums.{sum-more}
 use Rattle.mps_length.specs.Idle.{hasAtom, idleAtoms}
 use Rattle.mps_length.proofs.idle_atoms.Statement.{statement}
 use Rattle.mps_length.proofs.idle_atoms.Tie as tie

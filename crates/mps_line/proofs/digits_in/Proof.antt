@@ -2,7 +2,7 @@
 use mathlib.Core.Path.{sym}
 use Prim.Native.Nat.{_/_}
 use native.Mathlib.Omega.{arith}
-use Rattle.text.specs.Decimal.{length-low, length-pair, length-pairs}
+use Rattle.text.specs.DecimalLaws.{length-low, length-pair, length-pairs}
 use Rattle.mps_line.proofs.digits_in.Statement.{statement}
 use Rattle.mps_line.proofs.digits_in.Tie as tie
 
@@ -40,8 +40,15 @@ returns-6 : tie.Need-returns-6
 returns-6 c =
     let s = c .before .before .before .before .before in
     let n = s .args .n in
-    let a = c .if5 .left in
-    (omega (arith, length-pairs n (omega arith), length-pairs (n / 100) (omega arith), length-pair (n / 100 / 100) (omega arith) (omega (arith, s .pre))), omega arith)
+    let a = c .if5 .left in (
+      omega (
+        arith,
+        length-pairs n (omega arith),
+        length-pairs (n / 100) (omega arith),
+        length-pair (n / 100 / 100) (omega arith) (omega (arith, s .pre)),
+      ),
+      omega arith,
+    )
 
 pub digits-in-spec : {M : Type 1} → statement M
 digits-in-spec = tie.close (tie.spec returns returns-2 returns-3 returns-4 returns-5 returns-6)

@@ -19,8 +19,11 @@ returns c =
     let y = c .before in
     let x = y .before in
     let s = x .before .before in
-    let t = x .before .if1 .taken in
-    (word-5 (s .args .upper) (s .args .low) (s .pre .2) (x .with-pair .ensures) (y .with-pair2 .ensures) (c .with-digit .ensures) (s .pre .0) (omega arith), omega (arith, c .with-digit .ensures))
+    let t = x .before .if1 .taken in (
+      word-5 (s .args .upper) (s .args .low) (s .pre .2) (x .with-pair .ensures) (y .with-pair2 .ensures) (c .with-digit .ensures) (s .pre .0)
+          (omega arith),
+      omega (arith, c .with-digit .ensures),
+    )
 
 with-pair-requires-3 : tie.Need-with-pair-requires-3
 with-pair-requires-3 c κs = search needs
@@ -36,8 +39,11 @@ returns-2 c =
     let y = c .before in
     let x = y .before in
     let s = x .before .before in
-    let t = x .before .if1 .left in
-    (word-6 (s .args .upper) (s .args .low) (s .pre .2) (x .with-pair3 .ensures) (y .with-pair4 .ensures) (c .with-pair5 .ensures) (omega arith) (s .pre .1), omega (arith, c .with-pair5 .ensures))
+    let t = x .before .if1 .left in (
+      word-6 (s .args .upper) (s .args .low) (s .pre .2) (x .with-pair3 .ensures) (y .with-pair4 .ensures) (c .with-pair5 .ensures) (omega arith)
+          (s .pre .1),
+      omega (arith, c .with-pair5 .ensures),
+    )
 
 pub long-word-spec : {M : Type 1} → statement M
 long-word-spec =

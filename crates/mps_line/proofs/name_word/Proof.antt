@@ -15,10 +15,10 @@ use Rattle.mps_line.proofs.name_word.Tie as tie
 told : {xs : List ℕ} {name known : Name} → name ≡ known → xs ≡ padded 8 (nameText known) → xs ≡ padded 8 (nameText name)
 told e p = p ∙ ap (λ (n : Name). padded 8 (nameText n)) (sym e)
 
-cost : littleEndian 8 2314885531694223171 ≡ padded 8 (nameText Cost)
+cost : littleEndian 8 0x2020202054534F43 ≡ padded 8 (nameText Cost)
 cost = refl
 
-rights : littleEndian 8 2314885530821806162 ≡ padded 8 (nameText Rights)
+rights : littleEndian 8 0x2020202020534852 ≡ padded 8 (nameText Rights)
 rights = refl
 
 enum-told : tie.Need-enum-told

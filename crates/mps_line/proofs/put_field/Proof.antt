@@ -24,7 +24,8 @@ returns c =
     let w = t .before .before .before .before in
     let s = w .before .before .before in
     let end : t .put-two .result ≡ s .args .at + 10 = omega (arith, w .put-eight .ensures .0, t .put-two .ensures .0) in
-    let p = put-splice (splice-then _ _ _ _ _ _ _ (w .put-eight .ensures .1) (t .put-two .ensures .1) (w .put-eight .ensures .0) (omega arith)) end (omega arith) in
+    let both = splice-then _ _ _ _ _ _ _ (w .put-eight .ensures .1) (t .put-two .ensures .1) (w .put-eight .ensures .0) (omega arith) in
+    let p = put-splice both end (omega arith) in
     (λ name h e. put-as (ap (λ (l : List ℕ). l ++ (32 ∷ 32 ∷ [])) e ∙ padded-more name h) p, end)
 
 pub put-field-spec : {M : Type 1} → statement M

@@ -22,7 +22,8 @@ magnitude-is c = c .magnitude .ensures ∙ ap natAbs (toZ-ofZ (c .before .before
 minus : (c : tie.Then1) → signedText (c .before .before .before .args .c) ≡ 45 ∷ decimal (c .before .magnitude .result)
 minus c =
     let s = c .before .before .before in
-    below (s .args .c) (ap (λ (z : ℤ). ltZ z (pos 0)) (sym (toZ-ofZ (s .fits .c))) ∙ c .if1 .taken) ∙ ap (λ (k : ℕ). 45 ∷ decimal k) (sym (magnitude-is (c .before)))
+    below (s .args .c) (ap (λ (z : ℤ). ltZ z (pos 0)) (sym (toZ-ofZ (s .fits .c))) ∙ c .if1 .taken)
+    ∙ ap (λ (k : ℕ). 45 ∷ decimal k) (sym (magnitude-is (c .before)))
 
 plain : (c : tie.Else1) → signedText (c .before .before .before .args .c) ≡ decimal (c .before .magnitude .result)
 plain c =
@@ -36,7 +37,9 @@ put-byte-requires : tie.Need-put-byte-requires
 put-byte-requires c κs = let t = c .before in omega (arith, ap length (minus t), t .before .before .before .pre .0)
 
 put-decimal-requires : tie.Need-put-decimal-requires
-put-decimal-requires c κs = let t = c .before .before .before .before .before in omega (arith, ap length (minus t), t .before .before .before .pre .0, c .before .before .before .put-byte .ensures .ends)
+put-decimal-requires c κs =
+    let t = c .before .before .before .before .before in
+    omega (arith, ap length (minus t), t .before .before .before .pre .0, c .before .before .before .put-byte .ensures .ends)
 
 same-length : tie.Need-same-length
 same-length c = search needs

@@ -11,8 +11,8 @@ use Rattle.mps_line.proofs.put_type.Statement.{statement}
 use Rattle.mps_line.proofs.put_type.Tie as tie
 
 -- the word's bytes
-typed : (letter : ℕ) → letter < 256 → littleEndian 4 (538968096 + 256 * letter) ≡ 32 ∷ letter ∷ 32 ∷ 32 ∷ []
-typed letter h = next-bytes 3 (2105344 + letter) (omega arith) (omega arith) (next-bytes 2 8224 (omega arith) h refl)
+typed : (letter : ℕ) → letter < 256 → littleEndian 4 (0x20200020 + 256 * letter) ≡ 32 ∷ letter ∷ 32 ∷ 32 ∷ []
+typed letter h = next-bytes 3 (0x202000 + letter) (omega arith) (omega arith) (next-bytes 2 0x2020 (omega arith) h refl)
 
 mul-put-four : tie.Need-mul-put-four
 mul-put-four c = search needs

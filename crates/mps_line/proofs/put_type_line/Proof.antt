@@ -43,8 +43,10 @@ returns-2 c =
     let t = n .before .before .before .before in
     let k = t .before .before .before in
     let a = k .before .before .args in
-    let p = also (also (t .put-type .ensures) (n .put-name .ensures)) (e .put-byte .ensures) in
-    (emitted-as (sym (type-fields (a .letter) (nameText (a .name)))) (emitted-put p (search needs)), omega (arith, type-length (a .letter) (a .name), k .name-length .ensures, p .ends))
+    let p = also (also (t .put-type .ensures) (n .put-name .ensures)) (e .put-byte .ensures) in (
+      emitted-as (sym (type-fields (a .letter) (nameText (a .name)))) (emitted-put p (search needs)),
+      omega (arith, type-length (a .letter) (a .name), k .name-length .ensures, p .ends),
+    )
 
 pub put-type-line-spec : {M : Type 1} → statement M
 put-type-line-spec =

@@ -3,7 +3,8 @@ use mathlib.Core.Path.{_≡_, sym, ap, _∙_}
 use mathlib.Core.List.{List, [], _∷_, _++_, append-assoc}
 use Prim.Native.Nat.{ℕ}
 use native.Mathlib.Omega.{arith}
-use Rattle.text.specs.Decimal.{decimal, decimal-low}
+use Rattle.text.specs.Decimal.{decimal}
+use Rattle.text.specs.DecimalLaws.{decimal-low}
 use Rattle.text.specs.Put.{also}
 use Rattle.mps.specs.Page.{variableName}
 use Rattle.mps_line.specs.declared.Name.the-variants.{Variable}
@@ -57,7 +58,8 @@ returns-2 c =
     let h = name-length (Variable v) (s .pre .1) in
     let field = n .put-field .ensures .0 (variableName v) (omega arith) (n .before .lettered-word .ensures) in
     let p = also (also (t .put-bytes .ensures) field) (e .put-bytes2 .ensures) in
-    let whole = ended ((32 ∷ 85 ∷ 80 ∷ 32 ∷ 66 ∷ 78 ∷ 68 ∷ 32 ∷ 32 ∷ 32 ∷ 32 ∷ 32 ∷ 32 ∷ 32 ∷ []) ++ padded 10 (variableName v)) (sym (upper-fields v (omega arith))) in
+    let whole = ended ((32 ∷ 85 ∷ 80 ∷ 32 ∷ 66 ∷ 78 ∷ 68 ∷ 32 ∷ 32 ∷ 32 ∷ 32 ∷ 32 ∷ 32 ∷ 32 ∷ []) ++ padded 10 (variableName v))
+    (sym (upper-fields v (omega arith))) in
     let q = emitted-as whole (emitted-put p (search needs)) in
     (q, omega (arith, q .ends, upper-length v (s .pre .1)))
 

@@ -7,7 +7,8 @@ use lib.IntN.{ℤ, pos, natAbs}
 use lib.ListN.{length}
 use lib.Signed.{ltZ}
 use mir.Facts.{toZ-ofZ}
-use Rattle.text.specs.Decimal.{decimal, below-1000}
+use Rattle.text.specs.Decimal.{decimal}
+use Rattle.text.specs.DecimalLaws.{below-1000}
 use Rattle.mps_line.specs.Signs.{below, above}
 use Rattle.mps_line.proofs.signed_length.Statement.{statement}
 use Rattle.mps_line.proofs.signed_length.Tie as tie

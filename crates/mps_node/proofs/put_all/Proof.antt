@@ -8,6 +8,7 @@ use Rattle.rules.specs.TableTest.{nodesIn, length-nodesIn}
 use Rattle.mps.specs.Page.{eachRow}
 use Rattle.table.specs.Looping.{loopingTo, looping-more, looping-few}
 use Rattle.row.specs.NodeRows.{rowsTo, goal-is}
+use Rattle.mps_line.specs.Bounds.{lineLimit, nodeLines}
 use Rattle.mps_line.specs.Emitted.{emitted-as}
 use Rattle.mps_row.specs.Texts.{lineOf}
 use Rattle.mps_row.specs.Laws.{start-small}
@@ -17,7 +18,7 @@ use Rattle.mps_node.proofs.put_all.Statement.{statement}
 use Rattle.mps_node.proofs.put_all.Tie as tie
 
 abbrev Inv-loop : tie.InvT-loop
-Inv-loop out₀ at text table t m l n next₀ first₀ looping₀ i₀ out next first looping i = (i ≤ n) × (next ≤ at + 332800 * i)
+Inv-loop out₀ at text table t m l n next₀ first₀ looping₀ i₀ out next first looping i = (i ≤ n) × (next ≤ at + i * nodeLines * lineLimit)
     × (looping ≡ loopingTo (nodesIn table) i) ×
     Listed (lineOf text) 0 (rowsTo t m l (nodesIn table) i) first at out₀ out next
 

@@ -5,6 +5,7 @@ use native.Mathlib.Omega.{arith}
 use Rattle.lists.specs.Flat.{flat, flat-zero, flat-more}
 use Rattle.mps.specs.Page.{eachRow}
 use Rattle.row.specs.NodeRows.{blockOn, blockRows}
+use Rattle.mps_line.specs.Bounds.{lineLimit, slotLines}
 use Rattle.mps_line.specs.Emitted.{emitted-as}
 use Rattle.mps_row.specs.Texts.{lineOf}
 use Rattle.mps_node.specs.Turns.{Listed, listed-none, listed-more, listed-as}
@@ -13,7 +14,7 @@ use Rattle.mps_node.proofs.put_block.Statement.{statement}
 use Rattle.mps_node.proofs.put_block.Tie as tie
 
 abbrev Inv-loop : tie.InvT-loop
-Inv-loop out₀ at text first block t l kind next₀ i₀ s₀ out next i s = (s ≤ t) × (next ≤ at + 2600 * s) × (i ≤ first + 65 * s) ×
+Inv-loop out₀ at text first block t l kind next₀ i₀ s₀ out next i s = (s ≤ t) × (next ≤ at + s * slotLines * lineLimit) × (i ≤ first + s * slotLines) ×
     Listed (lineOf text) first (flat (blockOn block t l) s) i at out₀ out next
 
 abbrev μ-loop : tie.MeasureT-loop

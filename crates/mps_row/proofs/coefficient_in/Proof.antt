@@ -16,17 +16,20 @@ use Rattle.mps_row.proofs.coefficient_in.Tie as tie
 two : (c : tie.After-term-in3) → natAbs (c .before .term-in2 .result +ℤ c .term-in3 .result) ≤ 256
 two c = sum-magnitude (c .before .term-in2 .result) (c .term-in3 .result) (c .before .term-in2 .ensures .1) (c .term-in3 .ensures .1)
 
-two-back : (c : tie.After-term-in3) → toZ w64 (ofZ w64 (c .before .term-in2 .result)) +ℤ toZ w64 (ofZ w64 (c .term-in3 .result)) ≡ c .before .term-in2 .result +ℤ c .term-in3 .result
+two-back : (c : tie.After-term-in3) → toZ w64 (ofZ w64 (c .before .term-in2 .result)) +ℤ toZ w64 (ofZ w64 (c .term-in3 .result))
+    ≡ c .before .term-in2 .result +ℤ c .term-in3 .result
 two-back c = sum-back (c .before .term-in2 .result) (c .term-in3 .result) (omega arith) (omega arith)
 
 last : (c : tie.After-term-in6) → natAbs (c .before .term-in5 .result +ℤ c .term-in6 .result) ≤ 256
 last c = sum-magnitude (c .before .term-in5 .result) (c .term-in6 .result) (c .before .term-in5 .ensures .1) (c .term-in6 .ensures .1)
 
-last-back : (c : tie.After-term-in6) → toZ w64 (ofZ w64 (c .before .term-in5 .result)) +ℤ toZ w64 (ofZ w64 (c .term-in6 .result)) ≡ c .before .term-in5 .result +ℤ c .term-in6 .result
+last-back : (c : tie.After-term-in6) → toZ w64 (ofZ w64 (c .before .term-in5 .result)) +ℤ toZ w64 (ofZ w64 (c .term-in6 .result))
+    ≡ c .before .term-in5 .result +ℤ c .term-in6 .result
 last-back c = sum-back (c .before .term-in5 .result) (c .term-in6 .result) (omega arith) (omega arith)
 
 three : (c : tie.After-term-in6) → natAbs (c .before .before .term-in4 .result +ℤ (c .before .term-in5 .result +ℤ c .term-in6 .result)) ≤ 384
-three c = sum-magnitude (c .before .before .term-in4 .result) (c .before .term-in5 .result +ℤ c .term-in6 .result) (c .before .before .term-in4 .ensures .1) (last c)
+three c = sum-magnitude (c .before .before .term-in4 .result) (c .before .term-in5 .result +ℤ c .term-in6 .result)
+    (c .before .before .term-in4 .ensures .1) (last c)
 
 enum-known-terms : tie.Need-enum-known-terms
 enum-known-terms c = search needs
@@ -61,7 +64,10 @@ term-in-requires-6 c κs = search needs
 add-result-2 : tie.Need-add-result-2
 add-result-2 c = sfits-by (last-back c) (let h = last c in omega arith)
 
-three-back : (c : tie.After-term-in6) → toZ w64 (ofZ w64 (c .before .before .term-in4 .result)) +ℤ toZ w64 (ofZ w64 (toZ w64 (ofZ w64 (c .before .term-in5 .result)) +ℤ toZ w64 (ofZ w64 (c .term-in6 .result)))) ≡ c .before .before .term-in4 .result +ℤ (c .before .term-in5 .result +ℤ c .term-in6 .result)
+three-back : (c : tie.After-term-in6) →
+    toZ w64 (ofZ w64 (c .before .before .term-in4 .result))
+    +ℤ toZ w64 (ofZ w64 (toZ w64 (ofZ w64 (c .before .term-in5 .result)) +ℤ toZ w64 (ofZ w64 (c .term-in6 .result))))
+    ≡ c .before .before .term-in4 .result +ℤ (c .before .term-in5 .result +ℤ c .term-in6 .result)
 three-back c = ap₂ _+ℤ_ (back (c .before .before .term-in4 .result) (omega arith)) (toZ-ofZ (add-result-2 c) ∙ last-back c)
 
 add-result-3 : tie.Need-add-result-3
@@ -79,7 +85,8 @@ returns-2 c =
     let t = c .before .before .before in
     let a = t .before .before .args in
     let e = toZ-ofZ (add-result c) ∙ two-back c in (
-      e ∙ pair-in (a .v) (a .terms) (c .before .term-in2 .result) (c .term-in3 .result) (t .terms2 .given .1) (c .before .term-in2 .ensures .0) (c .term-in3 .ensures .0),
+      e ∙ pair-in (a .v) (a .terms) (c .before .term-in2 .result) (c .term-in3 .result) (t .terms2 .given .1) (c .before .term-in2 .ensures .0)
+          (c .term-in3 .ensures .0),
       subst⁻¹ (λ (z : ℤ). natAbs z ≤ 384) e (let h = two c in omega arith),
     )
 
@@ -89,7 +96,8 @@ returns-3 c =
     let a = t .before .before .args in
     let e = toZ-ofZ (add-result-3 c) ∙ three-back c in (
       e
-          ∙ triple-in (a .v) (a .terms) (c .before .before .term-in4 .result) (c .before .term-in5 .result) (c .term-in6 .result) (t .terms3 .given .1) (c .before .before .term-in4 .ensures .0) (c .before .term-in5 .ensures .0)
+          ∙ triple-in (a .v) (a .terms) (c .before .before .term-in4 .result) (c .before .term-in5 .result) (c .term-in6 .result)
+          (t .terms3 .given .1) (c .before .before .term-in4 .ensures .0) (c .before .term-in5 .ensures .0)
           (c .term-in6 .ensures .0),
       subst⁻¹ (λ (z : ℤ). natAbs z ≤ 384) e (three c),
     )

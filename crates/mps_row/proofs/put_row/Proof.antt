@@ -26,7 +26,8 @@ known-line {at} {next} {before} {after} i r e f p = (subst⁻¹ (λ (t : Text). 
 right-fits : (c : tie.After-put-unless-zero-arg) → SFits w8 (c .before .before .before .before .before .args .row .right)
 right-fits c = search needs
 
-right-back : (c : tie.After-put-unless-zero-arg) → toZ w64 (ofZ w64 (toZ w8 (ofZ w8 (c .before .before .before .before .before .args .row .right)))) ≡ c .before .before .before .before .before .args .row .right
+right-back : (c : tie.After-put-unless-zero-arg) → toZ w64 (ofZ w64 (toZ w8 (ofZ w8 (c .before .before .before .before .before .args .row .right))))
+    ≡ c .before .before .before .before .before .args .row .right
 right-back c = cast-back w64 tt (right-fits c)
 
 coefficient-back : (c : tie.After-coefficient-in) → toZ w64 (ofZ w64 (c .coefficient-in .result)) ≡ c .coefficient-in .result
@@ -61,8 +62,12 @@ coefficient-in-requires c κs = search needs
 put-unless-zero-requires-2 : tie.Need-put-unless-zero-requires-2
 put-unless-zero-requires-2 c κs =
     let t = c .before .before .before in
-    let s = t .before .before .before .before in
-    (s .pre .0, subst TextFits (t .text .given .1) (s .pre .1), s .pre .2, subst⁻¹ (λ (z : ℤ). natAbs z ≤ 384) (coefficient-back c) (c .coefficient-in .ensures .1))
+    let s = t .before .before .before .before in (
+      s .pre .0,
+      subst TextFits (t .text .given .1) (s .pre .1),
+      s .pre .2,
+      subst⁻¹ (λ (z : ℤ). natAbs z ≤ 384) (coefficient-back c) (c .coefficient-in .ensures .1),
+    )
 
 same-length : tie.Need-same-length
 same-length c = search needs
@@ -75,7 +80,8 @@ returns c =
     let t = l .before .before in
     let a = t .before .before .before .before .args in
     known-line (a .i) (rowOf (a .row)) (t .enum-told .given .1)
-    (ap (λ (x : List ℕ). typeLine x (rowName (a .i))) (ap (λ (b : ℕ). b ∷ []) (l .letter .ensures) ∙ letter-text (relationOf (a .row .relation)))) (w .put-type-line .ensures)
+    (ap (λ (x : List ℕ). typeLine x (rowName (a .i))) (ap (λ (b : ℕ). b ∷ []) (l .letter .ensures) ∙ letter-text (relationOf (a .row .relation))))
+    (w .put-type-line .ensures)
 
 same-length-2 : tie.Need-same-length-2
 same-length-2 c = search needs

@@ -43,8 +43,11 @@ returns-2 c =
     let n = w .before .before .before in
     let s = n .before .before in
     let a = s .args in
-    let p = w .put-number-line .ensures in
-    (emitted-as (ap (numberLine (nameText (a .name)) (rowName (a .i))) (toZ-ofZ (s .fits .c)) ∙ some-line (nameText (a .name)) (a .i) (a .c) (λ z. w .before .before .if1 .left (magnitude-is n ∙ z))) (p .0), p .1)
+    let p = w .put-number-line .ensures in (
+      emitted-as (ap (numberLine (nameText (a .name)) (rowName (a .i))) (toZ-ofZ (s .fits .c))
+          ∙ some-line (nameText (a .name)) (a .i) (a .c) (λ z. w .before .before .if1 .left (magnitude-is n ∙ z))) (p .0),
+      p .1,
+    )
 
 pub put-unless-zero-spec : {M : Type 1} → statement M
 put-unless-zero-spec =

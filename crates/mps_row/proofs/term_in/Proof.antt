@@ -25,8 +25,10 @@ returns : tie.Need-returns
 returns c =
     let t = c .before .before in
     let a = t .before .before .args in
-    let e = cast-back w64 tt (fits c) in
-    (e ∙ ap (λ (b : Bool). cond b (a .t .coefficient) (pos 0)) (sym (eq-eqb (a .t .variable) (a .v) (t .if1 .taken))), subst⁻¹ (λ (z : ℤ). natAbs z ≤ 128) e (abs-sfits (fits c)))
+    let e = cast-back w64 tt (fits c) in (
+      e ∙ ap (λ (b : Bool). cond b (a .t .coefficient) (pos 0)) (sym (eq-eqb (a .t .variable) (a .v) (t .if1 .taken))),
+      subst⁻¹ (λ (z : ℤ). natAbs z ≤ 128) e (abs-sfits (fits c)),
+    )
 
 returns-2 : tie.Need-returns-2
 returns-2 c =

@@ -5,6 +5,7 @@ use native.Mathlib.Omega.{arith}
 use borrow.Author.Needs.{needs}
 use Rattle.lists.specs.Flat.{flat}
 use Rattle.mps.specs.Page.{boundLine, boundSection}
+use Rattle.mps_line.specs.Bounds.{lineLimit}
 use Rattle.mps_line.specs.Emitted.{Emitted, emitted-also}
 use Rattle.mps_line.specs.Turns.{turns-none, turns-more, turns-all}
 use Rattle.mps_sections.proofs.put_bounds.Statement.{statement}
@@ -12,7 +13,7 @@ use Rattle.mps_sections.proofs.put_bounds.Tie as tie
 
 abbrev Inv-loop : tie.InvT-loop
 Inv-loop out₀ at atoms variables next₀ v₀ t8 out next v =
-    Emitted next₀ (flat (boundLine atoms) v) out₀ out next × (v ≤ variables) × (next ≤ at + 40 + 40 * v)
+    Emitted next₀ (flat (boundLine atoms) v) out₀ out next × (v ≤ variables) × (next ≤ at + (1 + v) * lineLimit)
 
 abbrev μ-loop : tie.MeasureT-loop
 μ-loop out₀ at atoms variables next₀ v₀ t8 out next v = variables - v

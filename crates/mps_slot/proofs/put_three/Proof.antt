@@ -34,8 +34,11 @@ returns c =
     let a = first .before .before .before .args in
     let x = first .put-row .ensures in
     let y = second .put-row2 .ensures in
-    let z = third .put-row3 .ensures in
-    (emitted-as (three-lines (lineOf (a .text)) (a .i) (rowOf (a .a)) (rowOf (a .b)) (rowOf (a .c))) (emitted-also (x .0) (emitted-also (y .0) (z .0))), omega (arith, x .1, y .1, z .1))
+    let z = third .put-row3 .ensures in (
+      emitted-as (three-lines (lineOf (a .text)) (a .i) (rowOf (a .a)) (rowOf (a .b)) (rowOf (a .c)))
+          (emitted-also (x .0) (emitted-also (y .0) (z .0))),
+      omega (arith, x .1, y .1, z .1),
+    )
 
 pub put-three-spec : {M : Type 1} → statement M
 put-three-spec =

@@ -6,13 +6,14 @@ use borrow.Author.Needs.{needs}
 use Rattle.lists.specs.Flat.{flat}
 use Rattle.mps.specs.Words.{G}
 use Rattle.mps.specs.Page.{rowName, typeLine}
+use Rattle.mps_line.specs.Bounds.{lineLimit}
 use Rattle.mps_line.specs.Emitted.{Emitted}
 use Rattle.mps_line.specs.Turns.{turns-none, turns-more, turns-all}
 use Rattle.mps_window.proofs.put_types.Statement.{statement}
 use Rattle.mps_window.proofs.put_types.Tie as tie
 
 abbrev Inv-loop : tie.InvT-loop
-Inv-loop out₀ at i count next₀ j₀ out next j = Emitted at (flat (λ j. typeLine G (rowName (i + j))) j) out₀ out next × (j ≤ count) × (next ≤ at + 40 * j)
+Inv-loop out₀ at i count next₀ j₀ out next j = Emitted at (flat (λ j. typeLine G (rowName (i + j))) j) out₀ out next × (j ≤ count) × (next ≤ at + j * lineLimit)
 
 abbrev μ-loop : tie.MeasureT-loop
 μ-loop out₀ at i count next₀ j₀ out next j = count - j

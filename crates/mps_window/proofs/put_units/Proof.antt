@@ -5,13 +5,14 @@ use native.Mathlib.Omega.{arith}
 use borrow.Author.Needs.{needs}
 use Rattle.lists.specs.Flat.{flat}
 use Rattle.mps_line.specs.Units.{unitLine}
+use Rattle.mps_line.specs.Bounds.{lineLimit}
 use Rattle.mps_line.specs.Emitted.{Emitted}
 use Rattle.mps_line.specs.Turns.{turns-none, turns-more, turns-all}
 use Rattle.mps_window.proofs.put_units.Statement.{statement}
 use Rattle.mps_window.proofs.put_units.Tie as tie
 
 abbrev Inv-loop : tie.InvT-loop
-Inv-loop out₀ at v i up count next₀ j₀ out next j = Emitted at (flat (λ j. unitLine v (i + j) up) j) out₀ out next × (j ≤ count) × (next ≤ at + 40 * j)
+Inv-loop out₀ at v i up count next₀ j₀ out next j = Emitted at (flat (λ j. unitLine v (i + j) up) j) out₀ out next × (j ≤ count) × (next ≤ at + j * lineLimit)
 
 abbrev μ-loop : tie.MeasureT-loop
 μ-loop out₀ at v i up count next₀ j₀ out next j = count - j

@@ -4,8 +4,9 @@ use Prim.Native.Nat.{_*_}
 use native.Mathlib.Omega.{arith}
 use lib.ListN.{length, replicate}
 use lib.Seq.{length-take-le}
-use Rattle.rowlist_page.specs.Outcomes.{table-ready}
-use Rattle.mpspage_page.specs.Outcomes.{rule-refused, rule-paged}
+use Rattle.program_rule.specs.Sizes.{tableRoom}
+use Rattle.program_rule.specs.Outcomes.{table-ready, refusal-printed, work-printed}
+use Rattle.mpspage_page.specs.Page.{pageText, pageWork, pagePrinted}
 use borrow.Author.Needs.{needs}
 use Rattle.mpspage_page.proofs.page_rule.Statement.{statement}
 use Rattle.mpspage_page.proofs.page_rule.Tie as tie
@@ -32,7 +33,8 @@ mul-end c =
     let a = w .before .before .before .before .args in
     let v = n .n .given in
     let l = w .read-rule .last .1 .1 .1 .0 in
-    let k = table-ready (a .t) (a .m) (a .text .now) (replicate 1024 0) l (w .read-rule .result) (v .0 .0) (w .read-rule .ensures .0) (w .read-rule .ensures .1) (v .1) in
+    let k = table-ready (a .t) (a .m) (a .text .now) (replicate tableRoom 0) l (w .read-rule .result) (v .0 .0) (w .read-rule .ensures .0)
+    (w .read-rule .ensures .1) (v .1) in
     omega (arith, k .read .few)
 
 array-share-prefix-table : tie.Need-array-share-prefix-table
@@ -42,7 +44,8 @@ array-share-prefix-table c =
     let a = w .before .before .before .before .args in
     let v = n .n .given in
     let l = w .read-rule .last .1 .1 .1 .0 in
-    let k = table-ready (a .t) (a .m) (a .text .now) (replicate 1024 0) l (w .read-rule .result) (v .0 .0) (w .read-rule .ensures .0) (w .read-rule .ensures .1) (v .1) in
+    let k = table-ready (a .t) (a .m) (a .text .now) (replicate tableRoom 0) l (w .read-rule .result) (v .0 .0) (w .read-rule .ensures .0)
+    (w .read-rule .ensures .1) (v .1) in
     k .table .holds
 
 slice-aggregate-page-table : tie.Need-slice-aggregate-page-table
@@ -52,7 +55,8 @@ slice-aggregate-page-table c =
     let a = w .before .before .before .before .args in
     let v = n .n .given in
     let l = w .read-rule .last .1 .1 .1 .0 in
-    let k = table-ready (a .t) (a .m) (a .text .now) (replicate 1024 0) l (w .read-rule .result) (v .0 .0) (w .read-rule .ensures .0) (w .read-rule .ensures .1) (v .1) in
+    let k = table-ready (a .t) (a .m) (a .text .now) (replicate tableRoom 0) l (w .read-rule .result) (v .0 .0) (w .read-rule .ensures .0)
+    (w .read-rule .ensures .1) (v .1) in
     sym (length-take-le (8 * v .0 .0) l (k .table .holds))
 
 page-table-requires : tie.Need-page-table-requires
@@ -62,6 +66,7 @@ same-length : tie.Need-same-length
 same-length c = search needs
 
 returns : tie.Need-returns
+unfolding pagePrinted
 returns c =
     let q = c .before .before in
     let k = q .before .before .before in
@@ -70,21 +75,25 @@ returns c =
     let a = s .args in
     let v = k .refusal .given in
     let p = q .put-refusal .ensures in
-    (rw (rule-refused (a .t) (a .m) (a .text .now) (length (a .out .now)) (w .read-rule .result) (v .0 .0) (w .read-rule .ensures .0) (v .1)) (p .0), omega (arith, p .1, s .pre))
+    let work = pageWork (length (a .out .now)) in
+    let e = refusal-printed work pageText (a .t) (a .m) (a .text .now) (w .read-rule .result) (v .0 .0) (w .read-rule .ensures .0) (v .1) in
+    (rw e (p .0), omega (arith, p .1, s .pre))
 
 same-length-2 : tie.Need-same-length-2
 same-length-2 c = search needs
 
 returns-2 : tie.Need-returns-2
+unfolding pagePrinted
 returns-2 c =
     let n = c .before .before .before .before .before .before in
     let w = n .before .before .before in
     let a = w .before .before .before .before .args in
     let v = n .n .given in
     let l = w .read-rule .last .1 .1 .1 .0 in
-    let k = table-ready (a .t) (a .m) (a .text .now) (replicate 1024 0) l (w .read-rule .result) (v .0 .0) (w .read-rule .ensures .0) (w .read-rule .ensures .1) (v .1) in
+    let k = table-ready (a .t) (a .m) (a .text .now) (replicate tableRoom 0) l (w .read-rule .result) (v .0 .0) (w .read-rule .ensures .0)
+    (w .read-rule .ensures .1) (v .1) in
     let p = c .before .before .page-table .ensures in
-    (rw (rule-paged (a .t) (a .m) (v .0 .0) (a .text .now) l (length (a .out .now)) k) (p .0), p .1)
+    (rw (work-printed (pageWork (length (a .out .now))) pageText (a .t) (a .m) (a .text .now) (v .0 .0) l k) (p .0), p .1)
 
 pub page-rule-spec : {M : Type 1} → statement M
 page-rule-spec =

@@ -31,8 +31,11 @@ returns c =
     let a = s .args in
     let v = k .refusal .given in
     let p = q .put-refusal .ensures in
-    let o = pageOutcome (a .t) (a .m) (a .t) (a .table .now) (length (a .out .now)) in
-    (page-refused o (a .out .now) (w .mps-page .last .1 .1 .1 .1 .0) _ (w .mps-page .result) (v .0 .0) _ (w .mps-page .ensures .0) (w .mps-page .ensures .1 .0) (v .1) (p .0), omega (arith, p .1, s .pre))
+    let o = pageOutcome (a .t) (a .m) (a .t) (a .table .now) (length (a .out .now)) in (
+      page-refused o (a .out .now) (w .mps-page .last .1 .1 .1 .1 .0) _ (w .mps-page .result) (v .0 .0) _ (w .mps-page .ensures .0)
+          (w .mps-page .ensures .1 .0) (v .1) (p .0),
+      omega (arith, p .1, s .pre),
+    )
 
 same-length-2 : tie.Need-same-length-2
 same-length-2 c = search needs

@@ -3,7 +3,8 @@ use mathlib.Core.Path.{sym}
 use native.Mathlib.Omega.{arith}
 use lib.ListN.{length}
 use lib.Seq.{length-take-le}
-use Rattle.mpspage_page.specs.Outcomes.{shown-page, shown-bad}
+use Rattle.program_rule.specs.Outcomes.{shown-rule, shown-bad}
+use Rattle.mpspage_page.specs.Page.{pagePrinted}
 use borrow.Author.Needs.{needs}
 use Rattle.mpspage_page.proofs.print.Statement.{statement}
 use Rattle.mpspage_page.proofs.print.Tie as tie
@@ -32,14 +33,12 @@ returns c =
     let i = n .before in
     let q = i .before in
     let a = q .before .before .before .args in
-    let e = shown-page (length (a .out .now)) (a .scan) (a .text .now) (q .is-shaped .result) (n .smaller .result) (q .is-shaped .ensures) (i .if1 .taken) (n .smaller .ensures) in
+    let e = shown-rule (pagePrinted (length (a .out .now))) (a .scan) (a .text .now) (q .is-shaped .result) (q .is-shaped .ensures) (n .smaller .result)
+    (i .if1 .taken) (n .smaller .ensures) in
     rw e (p .page-rule .ensures)
 
-slice-aggregate-put-bytes : tie.Need-slice-aggregate-put-bytes
-slice-aggregate-put-bytes c = search needs
-
-put-bytes-requires : tie.Need-put-bytes-requires
-put-bytes-requires c κs = search needs
+put-bad-input-requires : tie.Need-put-bad-input-requires
+put-bad-input-requires c κs = search needs
 
 same-length-2 : tie.Need-same-length-2
 same-length-2 c = search needs
@@ -47,12 +46,12 @@ same-length-2 c = search needs
 returns-2 : tie.Need-returns-2
 returns-2 c =
     let p = c .before .before in
-    let i = p .before .before .before in
+    let i = p .before .before in
     let q = i .before in
     let s = q .before .before .before in
     let a = s .args in
-    let e = shown-bad (length (a .out .now)) (a .scan) (a .text .now) (q .is-shaped .result) (q .is-shaped .ensures) (i .if1 .left) in
-    rw e (p .put-bytes .ensures, omega (arith, p .put-bytes .ensures .ends, s .pre))
+    let e = shown-bad (pagePrinted (length (a .out .now))) (a .scan) (a .text .now) (q .is-shaped .result) (q .is-shaped .ensures) (i .if1 .left) in
+    rw e (p .put-bad-input .ensures .0, omega (arith, p .put-bad-input .ensures .1, s .pre))
 
 pub print-spec : {M : Type 1} → statement M
 print-spec =
@@ -64,7 +63,6 @@ print-spec =
     page-rule-requires
     same-length
     returns
-    slice-aggregate-put-bytes
-    put-bytes-requires
+    put-bad-input-requires
     same-length-2
     returns-2)

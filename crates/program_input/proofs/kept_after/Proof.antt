@@ -17,7 +17,8 @@ returns : tie.Need-returns
 returns c =
     let a = c .before .before .before .before .before .before .before .args in
     let q = c .before .before .before .before .before .is-kept in
-    rule-kept (a .text .now) (a .count) (a .b) (a .stage) (q .result) (q .ensures) (c .before .before .before .before .if1 .taken) (c .before .before .keep .ensures)
+    rule-kept (a .text .now) (a .count) (a .b) (a .stage) (q .result) (q .ensures) (c .before .before .before .before .if1 .taken)
+    (c .before .before .keep .ensures)
 
 returns-2 : tie.Need-returns-2
 returns-2 c =

@@ -30,7 +30,8 @@ returns c =
     let t = c .before .before .before .before .before .slots-after in
     let m = c .before .before .before .before .atoms-after in
     let n = c .before .before .kept-after in
-    all-stepped (a .scan) (a .text .now) (a .b) (k .result) (g .result) (t .result) (m .result) (n .result) (n .last .1 .0) (k .ensures) (g .ensures) (t .ensures) (m .ensures) (n .ensures)
+    all-stepped (a .scan) (a .text .now) (a .b) (k .result) (g .result) (t .result) (m .result) (n .result) (n .last .1 .0) (k .ensures) (g .ensures)
+    (t .ensures) (m .ensures) (n .ensures)
 
 pub step-spec : {M : Type 1} → statement M
 step-spec =

@@ -5,7 +5,9 @@ use borrow.Author.Needs.{needs}
 use Rattle.rules.specs.Rule.Binary.{or as disjunction, implies as implication, and as conjunction, until as untils}
 use Rattle.rules.specs.Reading.Parser.{measure}
 use Rattle.reader_levels.specs.Steps.{ruleLevel, orLevel, andLevel, untilLevel, singleLevel}
-use Rattle.reader_levels.proofs.Laws.{level-fail, level-alone, level-next, level-room, level-joined, single-none, atom-room, atom-fits, inner-room, single-atom, sign-next, single-bracket, single-fail, small-kind, single-prefix, window-fail, window-next, window-room, single-window}
+use Rattle.reader_levels.proofs.Laws.{level-fail, level-alone, level-next, level-room, level-joined, single-none, atom-room, atom-fits}
+use Rattle.reader_levels.proofs.Laws.{inner-room, single-atom, sign-next, single-bracket, single-fail, small-kind, single-prefix, window-fail}
+use Rattle.reader_levels.proofs.Laws.{window-next, window-room, single-window}
 use Prim.Native.Nat.{ℕ, _<_}
 use borrow.Fn.Kinds.{In}
 use borrow.Fn.PlainCycle.{Measures, is, falls, and}
@@ -86,7 +88,18 @@ until-below t = and 3 until-kinds.ps (falls 3 until-kinds.ps _<_ μ-until t) unt
 
 -- what `and` has of those that it calls
 abbrev and-env : ℕ → and-lts.Claims
-and-env t = (until-below t, until.Post, unpack-reads.Asked, unpack-reads.Learnt, sign-at-reads.Asked, sign-at-reads.Learnt, and-below t, and′.Post, join-reads.Asked, join-reads.Learnt)
+and-env t = (
+  until-below t,
+  until.Post,
+  unpack-reads.Asked,
+  unpack-reads.Learnt,
+  sign-at-reads.Asked,
+  sign-at-reads.Learnt,
+  and-below t,
+  and′.Post,
+  join-reads.Asked,
+  join-reads.Learnt,
+)
 
 and-until-requires : (t : ℕ) → and-lts.Need-until-requires (and-env t) (and-at t) and′.Post
 and-until-requires t c κs = (omega (arith, c .before .pre .0), c .before .pre .1)
@@ -106,31 +119,53 @@ and-sign-at-requires t c κs = search needs
 and-returns : (t : ℕ) → and-lts.Need-returns (and-env t) (and-at t) and′.Post
 and-returns t c =
     let k = c .before .before .before .before in
-    level-alone conjunction _ _ _ _ _ _ _ _ _ _ _ _ (k .before .before .before .until .ensures) (sym (k .before .before .unpack .ensures) ∙ k .next .given .1) (c .before .sign-at .ensures .0) (c .if1 .taken)
+    level-alone conjunction _ _ _ _ _ _ _ _ _ _ _ _ (k .before .before .before .until .ensures)
+    (sym (k .before .before .unpack .ensures) ∙ k .next .given .1) (c .before .sign-at .ensures .0) (c .if1 .taken)
 
 and-and-requires : (t : ℕ) → and-lts.Need-and-requires (and-env t) (and-at t) and′.Post
 and-and-requires t c κs =
     let k = c .before .before .before .before .before in
     let pre = k .before .before .before .before .before .pre in
-    let h = level-next conjunction _ _ _ _ _ _ _ _ _ _ _ _ (k .before .before .before .until .ensures) (sym (k .before .before .unpack .ensures) ∙ k .next .given .1) (c .before .before .sign-at .ensures .0) (pre .1) (c .before .if1 .left) in
+    let h =
+    level-next conjunction _ _ _ _ _ _ _ _ _ _ _ _ (k .before .before .before .until .ensures)
+    (sym (k .before .before .unpack .ensures) ∙ k .next .given .1) (c .before .before .sign-at .ensures .0) (pre .1) (c .before .if1 .left) in
     (omega (arith, h .0, pre .0), h .1)
 
 and-join-requires : (t : ℕ) → and-lts.Need-join-requires (and-env t) (and-at t) and′.Post
 and-join-requires t c κs =
-    let k = c .before .before .before .before .before .before .before in
-    level-room conjunction _ _ _ _ _ _ _ _ _ _ _ _ (k .before .before .before .until .ensures) (sym (k .before .before .unpack .ensures) ∙ k .next .given .1) (c .before .before .before .before .sign-at .ensures .0) (k .before .before .before .before .before .pre .1) (c .before .before .before .if1 .left) _ _ (c .before .and .ensures)
+    let p = c .before .before .before .before in
+    let k = p .before .before .before in
+    level-room conjunction _ _ _ _ _ _ _ _ _ _ _ _ (k .before .before .before .until .ensures)
+    (sym (k .before .before .unpack .ensures) ∙ k .next .given .1) (p .sign-at .ensures .0) (k .before .before .before .before .before .pre .1)
+    (c .before .before .before .if1 .left) _ _ (c .before .and .ensures)
 
 and-returns-2 : (t : ℕ) → and-lts.Need-returns-2 (and-env t) (and-at t) and′.Post
-and-returns-2 t c = level-fail conjunction _ _ _ _ _ _ (c .before .before .before .until .ensures) (sym (c .before .before .unpack .ensures) ∙ c .enum-told .given .1)
+and-returns-2 t c =
+    level-fail conjunction _ _ _ _ _ _ (c .before .before .before .until .ensures) (sym (c .before .before .unpack .ensures) ∙ c .enum-told .given .1)
 
 and-returns-3 : (t : ℕ) → and-lts.Need-returns-3 (and-env t) (and-at t) and′.Post
 and-returns-3 t c =
-    let k = c .before .before .before .before .before .before .before .before in
-    level-joined conjunction _ _ _ _ _ _ _ _ _ _ _ _ (k .before .before .before .until .ensures) (sym (k .before .before .unpack .ensures) ∙ k .next .given .1) (c .before .before .before .before .before .sign-at .ensures .0) (k .before .before .before .before .before .pre .1) (c .before .before .before .before .if1 .left) _ _ (c .before .before .and .ensures) _ _ (c .join .ensures .0) (c .join .ensures .1)
+    let p = c .before .before .before .before in
+    let k = p .before .before .before .before in
+    level-joined conjunction _ _ _ _ _ _ _ _ _ _ _ _ (k .before .before .before .until .ensures)
+    (sym (k .before .before .unpack .ensures) ∙ k .next .given .1) (p .before .sign-at .ensures .0)
+    (k .before .before .before .before .before .pre .1) (p .if1 .left) _ _ (c .before .before .and .ensures) _ _ (c .join .ensures .0)
+    (c .join .ensures .1)
 
 -- what `or` has of those that it calls
 abbrev or-env : ℕ → or-lts.Claims
-or-env t = (and-below t, and′.Post, unpack-reads.Asked, unpack-reads.Learnt, sign-at-reads.Asked, sign-at-reads.Learnt, or-below t, or.Post, join-reads.Asked, join-reads.Learnt)
+or-env t = (
+  and-below t,
+  and′.Post,
+  unpack-reads.Asked,
+  unpack-reads.Learnt,
+  sign-at-reads.Asked,
+  sign-at-reads.Learnt,
+  or-below t,
+  or.Post,
+  join-reads.Asked,
+  join-reads.Learnt,
+)
 
 or-and-requires : (t : ℕ) → or-lts.Need-and-requires (or-env t) (or-at t) or.Post
 or-and-requires t c κs = (omega (arith, c .before .pre .0), c .before .pre .1)
@@ -150,31 +185,53 @@ or-sign-at-requires t c κs = search needs
 or-returns : (t : ℕ) → or-lts.Need-returns (or-env t) (or-at t) or.Post
 or-returns t c =
     let k = c .before .before .before .before in
-    level-alone disjunction _ _ _ _ _ _ _ _ _ _ _ _ (k .before .before .before .and .ensures) (sym (k .before .before .unpack .ensures) ∙ k .next .given .1) (c .before .sign-at .ensures .0) (c .if1 .taken)
+    level-alone disjunction _ _ _ _ _ _ _ _ _ _ _ _ (k .before .before .before .and .ensures)
+    (sym (k .before .before .unpack .ensures) ∙ k .next .given .1) (c .before .sign-at .ensures .0) (c .if1 .taken)
 
 or-or-requires : (t : ℕ) → or-lts.Need-or-requires (or-env t) (or-at t) or.Post
 or-or-requires t c κs =
     let k = c .before .before .before .before .before in
     let pre = k .before .before .before .before .before .pre in
-    let h = level-next disjunction _ _ _ _ _ _ _ _ _ _ _ _ (k .before .before .before .and .ensures) (sym (k .before .before .unpack .ensures) ∙ k .next .given .1) (c .before .before .sign-at .ensures .0) (pre .1) (c .before .if1 .left) in
+    let h =
+    level-next disjunction _ _ _ _ _ _ _ _ _ _ _ _ (k .before .before .before .and .ensures)
+    (sym (k .before .before .unpack .ensures) ∙ k .next .given .1) (c .before .before .sign-at .ensures .0) (pre .1) (c .before .if1 .left) in
     (omega (arith, h .0, pre .0), h .1)
 
 or-join-requires : (t : ℕ) → or-lts.Need-join-requires (or-env t) (or-at t) or.Post
 or-join-requires t c κs =
-    let k = c .before .before .before .before .before .before .before in
-    level-room disjunction _ _ _ _ _ _ _ _ _ _ _ _ (k .before .before .before .and .ensures) (sym (k .before .before .unpack .ensures) ∙ k .next .given .1) (c .before .before .before .before .sign-at .ensures .0) (k .before .before .before .before .before .pre .1) (c .before .before .before .if1 .left) _ _ (c .before .or .ensures)
+    let p = c .before .before .before .before in
+    let k = p .before .before .before in
+    level-room disjunction _ _ _ _ _ _ _ _ _ _ _ _ (k .before .before .before .and .ensures)
+    (sym (k .before .before .unpack .ensures) ∙ k .next .given .1) (p .sign-at .ensures .0) (k .before .before .before .before .before .pre .1)
+    (c .before .before .before .if1 .left) _ _ (c .before .or .ensures)
 
 or-returns-2 : (t : ℕ) → or-lts.Need-returns-2 (or-env t) (or-at t) or.Post
-or-returns-2 t c = level-fail disjunction _ _ _ _ _ _ (c .before .before .before .and .ensures) (sym (c .before .before .unpack .ensures) ∙ c .enum-told .given .1)
+or-returns-2 t c =
+    level-fail disjunction _ _ _ _ _ _ (c .before .before .before .and .ensures) (sym (c .before .before .unpack .ensures) ∙ c .enum-told .given .1)
 
 or-returns-3 : (t : ℕ) → or-lts.Need-returns-3 (or-env t) (or-at t) or.Post
 or-returns-3 t c =
-    let k = c .before .before .before .before .before .before .before .before in
-    level-joined disjunction _ _ _ _ _ _ _ _ _ _ _ _ (k .before .before .before .and .ensures) (sym (k .before .before .unpack .ensures) ∙ k .next .given .1) (c .before .before .before .before .before .sign-at .ensures .0) (k .before .before .before .before .before .pre .1) (c .before .before .before .before .if1 .left) _ _ (c .before .before .or .ensures) _ _ (c .join .ensures .0) (c .join .ensures .1)
+    let p = c .before .before .before .before in
+    let k = p .before .before .before .before in
+    level-joined disjunction _ _ _ _ _ _ _ _ _ _ _ _ (k .before .before .before .and .ensures)
+    (sym (k .before .before .unpack .ensures) ∙ k .next .given .1) (p .before .sign-at .ensures .0)
+    (k .before .before .before .before .before .pre .1) (p .if1 .left) _ _ (c .before .before .or .ensures) _ _ (c .join .ensures .0)
+    (c .join .ensures .1)
 
 -- what `rule` has of those that it calls
 abbrev rule-env : ℕ → rule-lts.Claims
-rule-env t = (or-below t, or.Post, unpack-reads.Asked, unpack-reads.Learnt, sign-at-reads.Asked, sign-at-reads.Learnt, rule-below t, rule.Post, join-reads.Asked, join-reads.Learnt)
+rule-env t = (
+  or-below t,
+  or.Post,
+  unpack-reads.Asked,
+  unpack-reads.Learnt,
+  sign-at-reads.Asked,
+  sign-at-reads.Learnt,
+  rule-below t,
+  rule.Post,
+  join-reads.Asked,
+  join-reads.Learnt,
+)
 
 rule-or-requires : (t : ℕ) → rule-lts.Need-or-requires (rule-env t) (rule-at t) rule.Post
 rule-or-requires t c κs = (omega (arith, c .before .pre .0), c .before .pre .1)
@@ -194,31 +251,65 @@ rule-sign-at-requires t c κs = search needs
 rule-returns : (t : ℕ) → rule-lts.Need-returns (rule-env t) (rule-at t) rule.Post
 rule-returns t c =
     let k = c .before .before .before .before in
-    level-alone implication _ _ _ _ _ _ _ _ _ _ _ _ (k .before .before .before .or .ensures) (sym (k .before .before .unpack .ensures) ∙ k .next .given .1) (c .before .sign-at .ensures .0) (c .if1 .taken)
+    level-alone implication _ _ _ _ _ _ _ _ _ _ _ _ (k .before .before .before .or .ensures)
+    (sym (k .before .before .unpack .ensures) ∙ k .next .given .1) (c .before .sign-at .ensures .0) (c .if1 .taken)
 
 rule-rule-requires : (t : ℕ) → rule-lts.Need-rule-requires (rule-env t) (rule-at t) rule.Post
 rule-rule-requires t c κs =
     let k = c .before .before .before .before .before in
     let pre = k .before .before .before .before .before .pre in
-    let h = level-next implication _ _ _ _ _ _ _ _ _ _ _ _ (k .before .before .before .or .ensures) (sym (k .before .before .unpack .ensures) ∙ k .next .given .1) (c .before .before .sign-at .ensures .0) (pre .1) (c .before .if1 .left) in
+    let h =
+    level-next implication _ _ _ _ _ _ _ _ _ _ _ _ (k .before .before .before .or .ensures)
+    (sym (k .before .before .unpack .ensures) ∙ k .next .given .1) (c .before .before .sign-at .ensures .0) (pre .1) (c .before .if1 .left) in
     (omega (arith, h .0, pre .0), h .1)
 
 rule-join-requires : (t : ℕ) → rule-lts.Need-join-requires (rule-env t) (rule-at t) rule.Post
 rule-join-requires t c κs =
-    let k = c .before .before .before .before .before .before .before in
-    level-room implication _ _ _ _ _ _ _ _ _ _ _ _ (k .before .before .before .or .ensures) (sym (k .before .before .unpack .ensures) ∙ k .next .given .1) (c .before .before .before .before .sign-at .ensures .0) (k .before .before .before .before .before .pre .1) (c .before .before .before .if1 .left) _ _ (c .before .rule .ensures)
+    let p = c .before .before .before .before in
+    let k = p .before .before .before in
+    level-room implication _ _ _ _ _ _ _ _ _ _ _ _ (k .before .before .before .or .ensures)
+    (sym (k .before .before .unpack .ensures) ∙ k .next .given .1) (p .sign-at .ensures .0) (k .before .before .before .before .before .pre .1)
+    (c .before .before .before .if1 .left) _ _ (c .before .rule .ensures)
 
 rule-returns-2 : (t : ℕ) → rule-lts.Need-returns-2 (rule-env t) (rule-at t) rule.Post
-rule-returns-2 t c = level-fail implication _ _ _ _ _ _ (c .before .before .before .or .ensures) (sym (c .before .before .unpack .ensures) ∙ c .enum-told .given .1)
+rule-returns-2 t c =
+    level-fail implication _ _ _ _ _ _ (c .before .before .before .or .ensures) (sym (c .before .before .unpack .ensures) ∙ c .enum-told .given .1)
 
 rule-returns-3 : (t : ℕ) → rule-lts.Need-returns-3 (rule-env t) (rule-at t) rule.Post
 rule-returns-3 t c =
-    let k = c .before .before .before .before .before .before .before .before in
-    level-joined implication _ _ _ _ _ _ _ _ _ _ _ _ (k .before .before .before .or .ensures) (sym (k .before .before .unpack .ensures) ∙ k .next .given .1) (c .before .before .before .before .before .sign-at .ensures .0) (k .before .before .before .before .before .pre .1) (c .before .before .before .before .if1 .left) _ _ (c .before .before .rule .ensures) _ _ (c .join .ensures .0) (c .join .ensures .1)
+    let p = c .before .before .before .before in
+    let k = p .before .before .before .before in
+    level-joined implication _ _ _ _ _ _ _ _ _ _ _ _ (k .before .before .before .or .ensures)
+    (sym (k .before .before .unpack .ensures) ∙ k .next .given .1) (p .before .sign-at .ensures .0)
+    (k .before .before .before .before .before .pre .1) (p .if1 .left) _ _ (c .before .before .rule .ensures) _ _ (c .join .ensures .0)
+    (c .join .ensures .1)
 
 -- what `single` has of those that it calls
 abbrev single-env : ℕ → single-lts.Claims
-single-env t = (token-at-reads.Asked, token-at-reads.Learnt, put-atom-reads.Asked, put-atom-reads.Learnt, skip-reads.Asked, skip-reads.Learnt, pack-reads.Asked, pack-reads.Learnt, rule-below t, rule.Post, close-reads.Asked, close-reads.Learnt, prefix-kind-reads.Asked, prefix-kind-reads.Learnt, opening-reads.Asked, opening-reads.Learnt, single-below t, single.Post, cap-reads.Asked, cap-reads.Learnt, span-at-reads.Asked, span-at-reads.Learnt)
+single-env t = (
+  token-at-reads.Asked,
+  token-at-reads.Learnt,
+  put-atom-reads.Asked,
+  put-atom-reads.Learnt,
+  skip-reads.Asked,
+  skip-reads.Learnt,
+  pack-reads.Asked,
+  pack-reads.Learnt,
+  rule-below t,
+  rule.Post,
+  close-reads.Asked,
+  close-reads.Learnt,
+  prefix-kind-reads.Asked,
+  prefix-kind-reads.Learnt,
+  opening-reads.Asked,
+  opening-reads.Learnt,
+  single-below t,
+  single.Post,
+  cap-reads.Asked,
+  cap-reads.Learnt,
+  span-at-reads.Asked,
+  span-at-reads.Learnt,
+)
 
 single-token-at-requires : (t : ℕ) → single-lts.Need-token-at-requires (single-env t) (single-at t) single.Post
 single-token-at-requires t c κs = search needs
@@ -227,62 +318,88 @@ single-enum-known-number : (t : ℕ) → single-lts.Need-enum-known-number (sing
 single-enum-known-number t c = search needs
 
 single-put-atom-requires : (t : ℕ) → single-lts.Need-put-atom-requires (single-env t) (single-at t) single.Post
-single-put-atom-requires t c κs = atom-room _ _ _ _ _ _ (c .before .before .before .before .token-at .ensures) (c .before .before .number .given .1) (c .before .before .before .before .before .before .pre .1)
+single-put-atom-requires t c κs =
+    let p = c .before .before .before .before in
+    atom-room _ _ _ _ _ _ (p .token-at .ensures) (c .before .before .number .given .1) (p .before .before .pre .1)
 
 single-skip-requires : (t : ℕ) → single-lts.Need-skip-requires (single-env t) (single-at t) single.Post
 single-skip-requires t c κs = search needs
 
 single-add-pack : (t : ℕ) → single-lts.Need-add-pack (single-env t) (single-at t) single.Post
-single-add-pack t c = omega (arith, atom-room _ _ _ _ _ _ (c .before .before .before .before .before .before .before .token-at .ensures) (c .before .before .before .before .before .number .given .1) (c .before .before .before .before .before .before .before .before .before .pre .1))
+single-add-pack t c =
+    let p = c .before .before .before .before .before in
+    let q = p .before .before .before .before in
+    omega (arith, atom-room _ _ _ _ _ _ (p .before .before .token-at .ensures) (p .number .given .1) (q .pre .1))
 
 single-pack-requires : (t : ℕ) → single-lts.Need-pack-requires (single-env t) (single-at t) single.Post
-single-pack-requires t c κs = atom-fits _ _ _ _ _ _ (c .before .before .before .before .before .before .before .token-at .ensures) (c .before .before .before .before .before .number .given .1) (c .before .before .before .before .before .before .before .before .before .pre .1) (c .skip .result) (c .skip .ensures)
+single-pack-requires t c κs =
+    let p = c .before .before .before .before .before in
+    let q = p .before .before .before .before in
+    atom-fits _ _ _ _ _ _ (p .before .before .token-at .ensures) (p .number .given .1) (q .pre .1) (c .skip .result) (c .skip .ensures)
 
 single-enum-known-byte : (t : ℕ) → single-lts.Need-enum-known-byte (single-env t) (single-at t) single.Post
 single-enum-known-byte t c = search needs
 
 single-rule-requires : (t : ℕ) → single-lts.Need-rule-requires (single-env t) (single-at t) single.Post
 single-rule-requires t c κs =
-    let s = c .before .before .before .before .before .before .before in
-    let h = sign-next _ _ _ (s .args .out .now) _ _ _ (c .before .before .before .before .before .token-at .ensures) (c .before .before .before .byte .given .1) (s .pre .1) in
+    let p = c .before .before .before .before .before in
+    let s = p .before .before in
+    let h = sign-next _ _ _ (s .args .out .now) _ _ _ (p .token-at .ensures) (c .before .before .before .byte .given .1) (s .pre .1) in
     (omega (arith, h .0, s .pre .0), h .1)
 
 single-close-requires : (t : ℕ) → single-lts.Need-close-requires (single-env t) (single-at t) single.Post
 single-close-requires t c κs =
-    let s = c .before .before .before .before .before .before .before .before .before in
-    (s .pre .1 .short, inner-room _ _ _ (s .args .out .now) _ _ _ (c .before .before .before .before .before .before .before .token-at .ensures) (c .before .before .before .before .before .byte .given .1) ruleLevel (s .pre .1) _ _ (c .before .rule .ensures))
+    let p = c .before .before .before .before .before in
+    let s = p .before .before .before .before in (
+      s .pre .1 .short,
+      inner-room _ _ _ (s .args .out .now) _ _ _ (p .before .before .token-at .ensures) (p .byte .given .1) ruleLevel (s .pre .1) _ _
+          (c .before .rule .ensures),
+    )
 
 single-returns : (t : ℕ) → single-lts.Need-returns (single-env t) (single-at t) single.Post
 single-returns t c =
-    let s = c .before .before .before .before .before .before .before .before .before .before in
-    single-bracket _ _ _ (s .args .out .now) _ _ _ (c .before .before .before .before .before .before .before .before .token-at .ensures) (c .before .before .before .before .before .before .byte .given .1) (c .before .before .before .before .if1 .taken) _ _ _ (c .before .before .rule .ensures) (c .close .ensures)
+    let p = c .before .before .before .before in
+    let q = p .before .before .before .before in
+    let s = q .before .before in
+    single-bracket _ _ _ (s .args .out .now) _ _ _ (q .token-at .ensures) (p .before .before .byte .given .1) (p .if1 .taken) _ _ _
+    (c .before .before .rule .ensures) (c .close .ensures)
 
 single-prefix-kind-requires : (t : ℕ) → single-lts.Need-prefix-kind-requires (single-env t) (single-at t) single.Post
 single-prefix-kind-requires t c κs = search needs
 
 single-returns-2 : (t : ℕ) → single-lts.Need-returns-2 (single-env t) (single-at t) single.Post
 single-returns-2 t c =
-    let s = c .before .before .before .before .before .before .before .before in
-    single-fail _ _ _ (s .args .out .now) _ _ _ (c .before .before .before .before .before .before .token-at .ensures) (c .before .before .before .before .byte .given .1) (c .before .before .if1 .left) (c .before .prefix-kind .result) (c .before .prefix-kind .ensures) (c .if2 .taken)
+    let p = c .before .before .before .before in
+    let s = p .before .before .before .before in
+    single-fail _ _ _ (s .args .out .now) _ _ _ (p .before .before .token-at .ensures) (p .byte .given .1) (c .before .before .if1 .left)
+    (c .before .prefix-kind .result) (c .before .prefix-kind .ensures) (c .if2 .taken)
 
 single-opening-requires : (t : ℕ) → single-lts.Need-opening-requires (single-env t) (single-at t) single.Post
 single-opening-requires t c κs = search needs
 
 single-single-requires : (t : ℕ) → single-lts.Need-single-requires (single-env t) (single-at t) single.Post
 single-single-requires t c κs =
-    let s = c .before .before .before .before .before .before .before .before .before .before .before .before in
-    let h = sign-next _ _ _ (s .args .out .now) _ _ _ (c .before .before .before .before .before .before .before .before .before .before .token-at .ensures) (c .before .before .before .before .before .before .before .before .byte .given .1) (s .pre .1) in
+    let p = c .before .before .before .before .before .before .before .before in
+    let s = p .before .before .before .before in
+    let h = sign-next _ _ _ (s .args .out .now) _ _ _ (p .before .before .token-at .ensures) (p .byte .given .1) (s .pre .1) in
     (omega (arith, h .0, s .pre .0), h .1)
 
 single-cap-requires : (t : ℕ) → single-lts.Need-cap-requires (single-env t) (single-at t) single.Post
 single-cap-requires t c κs =
-    let s = c .before .before .before .before .before .before .before .before .before .before .before .before .before .before in
-    inner-room _ _ _ (s .args .out .now) _ _ _ (c .before .before .before .before .before .before .before .before .before .before .before .before .token-at .ensures) (c .before .before .before .before .before .before .before .before .before .before .byte .given .1) singleLevel (s .pre .1) _ _ (c .before .single .ensures)
+    let p = c .before .before .before .before .before .before .before .before .before .before in
+    let s = p .before .before .before .before in
+    inner-room _ _ _ (s .args .out .now) _ _ _ (p .before .before .token-at .ensures) (p .byte .given .1) singleLevel (s .pre .1) _ _
+    (c .before .single .ensures)
 
 single-returns-3 : (t : ℕ) → single-lts.Need-returns-3 (single-env t) (single-at t) single.Post
 single-returns-3 t c =
-    let s = c .before .before .before .before .before .before .before .before .before .before .before .before .before .before .before in
-    single-prefix _ _ _ (s .args .out .now) _ _ _ (c .before .before .before .before .before .before .before .before .before .before .before .before .before .token-at .ensures) (c .before .before .before .before .before .before .before .before .before .before .before .byte .given .1) (c .before .before .before .before .before .before .before .before .before .if1 .left) (c .before .before .before .before .before .before .before .before .prefix-kind .result) (c .before .before .before .before .before .before .before .before .prefix-kind .ensures) (c .before .before .before .before .before .opening .result) (c .before .before .before .before .before .opening .ensures) (c .before .before .before .before .before .before .before .if2 .left) (c .before .before .before .before .if3 .taken) _ _ (c .before .before .single .ensures) _ _ (c .cap .ensures .0) (c .cap .ensures .1)
+    let p = c .before .before .before .before in
+    let q = p .before .before .before .before in
+    let r = q .before .before .before .before .before in
+    let s = r .before .before in
+    single-prefix _ _ _ (s .args .out .now) _ _ _ (r .token-at .ensures) (q .before .before .before .byte .given .1) (q .before .if1 .left)
+    (q .prefix-kind .result) (q .prefix-kind .ensures) (p .before .opening .result) (p .before .opening .ensures)
+    (p .before .before .before .if2 .left) (p .if3 .taken) _ _ (c .before .before .single .ensures) _ _ (c .cap .ensures .0) (c .cap .ensures .1)
 
 single-span-at-requires : (t : ℕ) → single-lts.Need-span-at-requires (single-env t) (single-at t) single.Post
 single-span-at-requires t c κs = search needs
@@ -295,50 +412,100 @@ single-enum-known-from t c = search needs
 
 single-single-requires-2 : (t : ℕ) → single-lts.Need-single-requires-2 (single-env t) (single-at t) single.Post
 single-single-requires-2 t c κs =
-    let s = c .before .before .before .before .before .before .before .before .before .before .before .before .before .before .before .before .before in
+    let p = c .before .before .before .before in
+    let q = p .before .before .before .before .before in
+    let r = q .before .before .before .before in
+    let s = r .before .before .before .before in
     let g = c .before .before .from .given in
-    let h = window-next _ _ _ (s .args .out .now) _ _ _ (c .before .before .before .before .before .before .before .before .before .before .before .before .before .before .before .token-at .ensures) (c .before .before .before .before .before .before .before .before .before .before .before .before .before .byte .given .1) (c .before .before .before .before .before .before .before .before .before .before .before .if1 .left) (c .before .before .before .before .before .before .before .before .before .before .prefix-kind .result) (c .before .before .before .before .before .before .before .before .before .before .prefix-kind .ensures) (c .before .before .before .before .before .before .before .opening .result) (c .before .before .before .before .before .before .before .opening .ensures) (c .before .before .before .before .before .before .before .before .before .if2 .left) (c .before .before .before .before .before .before .if3 .left) (c .before .before .before .before .span-at .result) (c .before .before .before .before .span-at .ensures) (g .0 .0) (g .0 .1 .0) (g .0 .1 .1 .0) (g .1) (s .pre .1) in
+    let h =
+    window-next _ _ _ (s .args .out .now) _ _ _ (r .before .before .token-at .ensures) (r .byte .given .1) (q .before .before .if1 .left)
+    (q .before .prefix-kind .result) (q .before .prefix-kind .ensures) (p .before .before .before .opening .result)
+    (p .before .before .before .opening .ensures) (q .if2 .left) (p .before .before .if3 .left) (p .span-at .result) (p .span-at .ensures) (g .0 .0)
+    (g .0 .1 .0) (g .0 .1 .1 .0) (g .1) (s .pre .1) in
     (omega (arith, h .0, s .pre .0), h .1)
 
 single-add-cap : (t : ℕ) → single-lts.Need-add-cap (single-env t) (single-at t) single.Post
 single-add-cap t c =
-    let s = c .before .before .before .before .before .before .before .before .before .before .before .before .before .before .before .before .before .before .before in
-    omega (arith, small-kind _ _ (s .args .n) (s .args .out .now) _ _ _ (c .before .before .before .before .before .before .before .before .before .before .before .before .before .before .before .before .before .token-at .ensures) (c .before .before .before .before .before .before .before .before .before .before .before .before .before .before .before .byte .given .1) (c .before .before .before .before .before .before .before .before .before .before .before .before .before .if1 .left) (c .before .before .before .before .before .before .before .before .before .before .before .before .prefix-kind .result) (c .before .before .before .before .before .before .before .before .before .before .before .before .prefix-kind .ensures))
+    let p = c .before .before .before .before .before .before .before .before .before .before .before .before in
+    let q = p .before .before .before .before .before in
+    let s = q .before .before in
+    omega (
+      arith,
+      small-kind _ _ (s .args .n) (s .args .out .now) _ _ _ (q .token-at .ensures) (p .before .before .before .byte .given .1)
+          (p .before .if1 .left) (p .prefix-kind .result) (p .prefix-kind .ensures),
+    )
 
 single-cap-requires-2 : (t : ℕ) → single-lts.Need-cap-requires-2 (single-env t) (single-at t) single.Post
 single-cap-requires-2 t c κs =
-    let s = c .before .before .before .before .before .before .before .before .before .before .before .before .before .before .before .before .before .before .before in
-    let g = c .before .before .before .before .from .given in
-    window-room _ _ _ (s .args .out .now) _ _ _ (c .before .before .before .before .before .before .before .before .before .before .before .before .before .before .before .before .before .token-at .ensures) (c .before .before .before .before .before .before .before .before .before .before .before .before .before .before .before .byte .given .1) (c .before .before .before .before .before .before .before .before .before .before .before .before .before .if1 .left) (c .before .before .before .before .before .before .before .before .before .before .before .before .prefix-kind .result) (c .before .before .before .before .before .before .before .before .before .before .before .before .prefix-kind .ensures) (c .before .before .before .before .before .before .before .before .before .opening .result) (c .before .before .before .before .before .before .before .before .before .opening .ensures) (c .before .before .before .before .before .before .before .before .before .before .before .if2 .left) (c .before .before .before .before .before .before .before .before .if3 .left) (c .before .before .before .before .before .before .span-at .result) (c .before .before .before .before .before .before .span-at .ensures) (g .0 .0) (g .0 .1 .0) (g .0 .1 .1 .0) (g .1) _ _ (c .before .single2 .ensures) (s .pre .1)
+    let p = c .before .before .before .before in
+    let q = p .before .before .before .before in
+    let r = q .before .before .before .before in
+    let u = r .before .before .before .before .before in
+    let s = u .before .before in
+    let g = p .from .given in
+    window-room _ _ _ (s .args .out .now) _ _ _ (u .token-at .ensures) (r .before .before .before .byte .given .1) (r .before .if1 .left)
+    (r .prefix-kind .result) (r .prefix-kind .ensures) (q .before .opening .result) (q .before .opening .ensures)
+    (q .before .before .before .if2 .left) (q .if3 .left) (p .before .before .span-at .result) (p .before .before .span-at .ensures) (g .0 .0)
+    (g .0 .1 .0) (g .0 .1 .1 .0) (g .1) _ _ (c .before .single2 .ensures) (s .pre .1)
 
 single-enum-told-2 : (t : ℕ) → single-lts.Need-enum-told-2 (single-env t) (single-at t) single.Post
 single-enum-told-2 t c = search needs
 
 single-returns-4 : (t : ℕ) → single-lts.Need-returns-4 (single-env t) (single-at t) single.Post
 single-returns-4 t c =
-    let s = c .before .before .before .before .before .before .before .before .before .before .args in
-    let a = c .before .before .before .before .before .before .number .given in
-    single-atom (s .text .now .now) (s .at) (s .n) (c .before .before .before .before .before .before .before .before .token-at .result) (a .0 .0) (a .0 .1 .0) (c .before .before .before .before .before .before .before .before .token-at .ensures) (a .1) (s .out .now) (c .before .before .before .put-atom .last .0) _ (c .before .skip .result) (c .before .skip .ensures) (c .pack .ensures) (c .before .before .before .put-atom .ensures)
+    let p = c .before .before .before .before .before .before in
+    let q = p .before .before .before .before in
+    let s = q .args in
+    let a = p .number .given in
+    single-atom (s .text .now .now) (s .at) (s .n) (p .before .before .token-at .result) (a .0 .0) (a .0 .1 .0) (p .before .before .token-at .ensures)
+    (a .1) (s .out .now) (c .before .before .before .put-atom .last .0) _ (c .before .skip .result) (c .before .skip .ensures) (c .pack .ensures)
+    (c .before .before .before .put-atom .ensures)
 
 single-returns-5 : (t : ℕ) → single-lts.Need-returns-5 (single-env t) (single-at t) single.Post
 single-returns-5 t c =
-    let s = c .before .before .before .before .before .before .before .before .before .before .before .before .before .before .before in
-    window-fail _ _ _ (s .args .out .now) _ _ _ (c .before .before .before .before .before .before .before .before .before .before .before .before .before .token-at .ensures) (c .before .before .before .before .before .before .before .before .before .before .before .byte .given .1) (c .before .before .before .before .before .before .before .before .before .if1 .left) (c .before .before .before .before .before .before .before .before .prefix-kind .result) (c .before .before .before .before .before .before .before .before .prefix-kind .ensures) (c .before .before .before .before .before .opening .result) (c .before .before .before .before .before .opening .ensures) (c .before .before .before .before .before .before .before .if2 .left) (c .before .before .before .before .if3 .left) (c .before .before .span-at .result) (c .before .before .span-at .ensures) (c .enum-told .given .1)
+    let p = c .before .before .before .before in
+    let q = p .before .before .before .before in
+    let r = q .before .before .before .before .before in
+    let s = r .before .before in
+    window-fail _ _ _ (s .args .out .now) _ _ _ (r .token-at .ensures) (q .before .before .before .byte .given .1) (q .before .if1 .left)
+    (q .prefix-kind .result) (q .prefix-kind .ensures) (p .before .opening .result) (p .before .opening .ensures)
+    (p .before .before .before .if2 .left) (p .if3 .left) (c .before .before .span-at .result) (c .before .before .span-at .ensures)
+    (c .enum-told .given .1)
 
 single-returns-6 : (t : ℕ) → single-lts.Need-returns-6 (single-env t) (single-at t) single.Post
 single-returns-6 t c =
-    let s = c .before .before .before .before .before .before .before .before .before .before .before .before .before .before .before .before .before .before .before .before in
-    let g = c .before .before .before .before .before .from .given in
-    single-window _ _ _ (s .args .out .now) _ _ _ (c .before .before .before .before .before .before .before .before .before .before .before .before .before .before .before .before .before .before .token-at .ensures) (c .before .before .before .before .before .before .before .before .before .before .before .before .before .before .before .before .byte .given .1) (c .before .before .before .before .before .before .before .before .before .before .before .before .before .before .if1 .left) (c .before .before .before .before .before .before .before .before .before .before .before .before .before .prefix-kind .result) (c .before .before .before .before .before .before .before .before .before .before .before .before .before .prefix-kind .ensures) (c .before .before .before .before .before .before .before .before .before .before .opening .result) (c .before .before .before .before .before .before .before .before .before .before .opening .ensures) (c .before .before .before .before .before .before .before .before .before .before .before .before .if2 .left) (c .before .before .before .before .before .before .before .before .before .if3 .left) (c .before .before .before .before .before .before .before .span-at .result) (c .before .before .before .before .before .before .before .span-at .ensures) (g .0 .0) (g .0 .1 .0) (g .0 .1 .1 .0) (g .1) _ _ (c .before .before .single2 .ensures) _ _ (c .cap2 .ensures .0) (c .cap2 .ensures .1)
+    let p = c .before .before .before .before .before in
+    let q = p .before .before .before .before in
+    let r = q .before .before .before .before in
+    let u = r .before .before .before .before .before in
+    let s = u .before .before in
+    let g = p .from .given in
+    single-window _ _ _ (s .args .out .now) _ _ _ (u .token-at .ensures) (r .before .before .before .byte .given .1) (r .before .if1 .left)
+    (r .prefix-kind .result) (r .prefix-kind .ensures) (q .before .opening .result) (q .before .opening .ensures)
+    (q .before .before .before .if2 .left) (q .if3 .left) (p .before .before .span-at .result) (p .before .before .span-at .ensures) (g .0 .0)
+    (g .0 .1 .0) (g .0 .1 .1 .0) (g .1) _ _ (c .before .before .single2 .ensures) _ _ (c .cap2 .ensures .0) (c .cap2 .ensures .1)
 
 single-returns-7 : (t : ℕ) → single-lts.Need-returns-7 (single-env t) (single-at t) single.Post
 single-returns-7 t c =
-    let s = c .before .before .before .before .args in
-    single-none (s .text .now .now) (s .at) (s .n) (s .out .now) (c .before .before .token-at .result) (c .before .before .token-at .ensures) (c .enum-told2 .given .1)
+    let p = c .before .before .before .before in
+    let s = p .args in
+    single-none (s .text .now .now) (s .at) (s .n) (s .out .now) (c .before .before .token-at .result) (c .before .before .token-at .ensures)
+    (c .enum-told2 .given .1)
 
 -- what `until` has of those that it calls
 abbrev until-env : ℕ → until-lts.Claims
-until-env t = (single-below t, single.Post, unpack-reads.Asked, unpack-reads.Learnt, sign-at-reads.Asked, sign-at-reads.Learnt, until-below t, until.Post, join-reads.Asked, join-reads.Learnt)
+until-env t = (
+  single-below t,
+  single.Post,
+  unpack-reads.Asked,
+  unpack-reads.Learnt,
+  sign-at-reads.Asked,
+  sign-at-reads.Learnt,
+  until-below t,
+  until.Post,
+  join-reads.Asked,
+  join-reads.Learnt,
+)
 
 until-single-requires : (t : ℕ) → until-lts.Need-single-requires (until-env t) (until-at t) until.Post
 until-single-requires t c κs = (omega (arith, c .before .pre .0), c .before .pre .1)
@@ -358,27 +525,38 @@ until-sign-at-requires t c κs = search needs
 until-returns : (t : ℕ) → until-lts.Need-returns (until-env t) (until-at t) until.Post
 until-returns t c =
     let k = c .before .before .before .before in
-    level-alone untils _ _ _ _ _ _ _ _ _ _ _ _ (k .before .before .before .single .ensures) (sym (k .before .before .unpack .ensures) ∙ k .next .given .1) (c .before .sign-at .ensures .0) (c .if1 .taken)
+    level-alone untils _ _ _ _ _ _ _ _ _ _ _ _ (k .before .before .before .single .ensures)
+    (sym (k .before .before .unpack .ensures) ∙ k .next .given .1) (c .before .sign-at .ensures .0) (c .if1 .taken)
 
 until-until-requires : (t : ℕ) → until-lts.Need-until-requires (until-env t) (until-at t) until.Post
 until-until-requires t c κs =
     let k = c .before .before .before .before .before in
     let pre = k .before .before .before .before .before .pre in
-    let h = level-next untils _ _ _ _ _ _ _ _ _ _ _ _ (k .before .before .before .single .ensures) (sym (k .before .before .unpack .ensures) ∙ k .next .given .1) (c .before .before .sign-at .ensures .0) (pre .1) (c .before .if1 .left) in
+    let h =
+    level-next untils _ _ _ _ _ _ _ _ _ _ _ _ (k .before .before .before .single .ensures)
+    (sym (k .before .before .unpack .ensures) ∙ k .next .given .1) (c .before .before .sign-at .ensures .0) (pre .1) (c .before .if1 .left) in
     (omega (arith, h .0, pre .0), h .1)
 
 until-join-requires : (t : ℕ) → until-lts.Need-join-requires (until-env t) (until-at t) until.Post
 until-join-requires t c κs =
-    let k = c .before .before .before .before .before .before .before in
-    level-room untils _ _ _ _ _ _ _ _ _ _ _ _ (k .before .before .before .single .ensures) (sym (k .before .before .unpack .ensures) ∙ k .next .given .1) (c .before .before .before .before .sign-at .ensures .0) (k .before .before .before .before .before .pre .1) (c .before .before .before .if1 .left) _ _ (c .before .until .ensures)
+    let p = c .before .before .before .before in
+    let k = p .before .before .before in
+    level-room untils _ _ _ _ _ _ _ _ _ _ _ _ (k .before .before .before .single .ensures)
+    (sym (k .before .before .unpack .ensures) ∙ k .next .given .1) (p .sign-at .ensures .0) (k .before .before .before .before .before .pre .1)
+    (c .before .before .before .if1 .left) _ _ (c .before .until .ensures)
 
 until-returns-2 : (t : ℕ) → until-lts.Need-returns-2 (until-env t) (until-at t) until.Post
-until-returns-2 t c = level-fail untils _ _ _ _ _ _ (c .before .before .before .single .ensures) (sym (c .before .before .unpack .ensures) ∙ c .enum-told .given .1)
+until-returns-2 t c =
+    level-fail untils _ _ _ _ _ _ (c .before .before .before .single .ensures) (sym (c .before .before .unpack .ensures) ∙ c .enum-told .given .1)
 
 until-returns-3 : (t : ℕ) → until-lts.Need-returns-3 (until-env t) (until-at t) until.Post
 until-returns-3 t c =
-    let k = c .before .before .before .before .before .before .before .before in
-    level-joined untils _ _ _ _ _ _ _ _ _ _ _ _ (k .before .before .before .single .ensures) (sym (k .before .before .unpack .ensures) ∙ k .next .given .1) (c .before .before .before .before .before .sign-at .ensures .0) (k .before .before .before .before .before .pre .1) (c .before .before .before .before .if1 .left) _ _ (c .before .before .until .ensures) _ _ (c .join .ensures .0) (c .join .ensures .1)
+    let p = c .before .before .before .before in
+    let k = p .before .before .before .before in
+    level-joined untils _ _ _ _ _ _ _ _ _ _ _ _ (k .before .before .before .single .ensures)
+    (sym (k .before .before .unpack .ensures) ∙ k .next .given .1) (p .before .sign-at .ensures .0)
+    (k .before .before .before .before .before .pre .1) (p .if1 .left) _ _ (c .before .before .until .ensures) _ _ (c .join .ensures .0)
+    (c .join .ensures .1)
 
 pub +and+or+rule+single+until-spec : {M : Type 1} → statement M
 +and+or+rule+single+until-spec = close μ-and μ-or μ-rule μ-single μ-until (λ t. and-lts.spec (and-env t)

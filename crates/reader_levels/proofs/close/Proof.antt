@@ -18,23 +18,31 @@ sign-at-requires : tie.Need-sign-at-requires
 sign-at-requires c κs = search needs
 
 returns : tie.Need-returns
-returns c = close-none _ _ _ _ _ _ _ (c .before .sign-at .result) (sym (c .before .before .before .before .before .unpack .ensures) ∙ c .before .before .before .next .given .1) (c .before .sign-at .ensures .0) (c .if1 .taken)
+returns c =
+    let p = c .before .before .before .before .before in
+    close-none _ _ _ _ _ _ _ (c .before .sign-at .result) (sym (p .unpack .ensures) ∙ c .before .before .before .next .given .1)
+    (c .before .sign-at .ensures .0) (c .if1 .taken)
 
 skip-requires : tie.Need-skip-requires
 skip-requires c κs = search needs
 
 pack-requires : tie.Need-pack-requires
 pack-requires c κs =
-    let s = c .before .before .before .before .before .before .before .before .pre in
-    close-fits _ _ _ _ _ _ _ (c .before .before .sign-at .result) (c .skip .result) (sym (c .before .before .before .before .before .before .unpack .ensures) ∙ c .before .before .before .before .next .given .1) (c .before .before .sign-at .ensures .1) (c .skip .ensures) (s .0) (s .1)
+    let p = c .before .before .before .before in
+    let q = p .before .before .before .before in
+    let s = q .pre in
+    close-fits _ _ _ _ _ _ _ (c .before .before .sign-at .result) (c .skip .result) (sym (p .before .before .unpack .ensures) ∙ p .next .given .1)
+    (c .before .before .sign-at .ensures .1) (c .skip .ensures) (s .0) (s .1)
 
 returns-2 : tie.Need-returns-2
 returns-2 c = close-fail _ _ (sym (c .before .before .unpack .ensures) ∙ c .enum-told .given .1)
 
 returns-3 : tie.Need-returns-3
 returns-3 c =
+    let p = c .before .before .before .before .before in
     let q = c .before .before .before .sign-at in
-    close-past _ _ _ _ _ _ _ _ (q .result) (c .before .skip .result) (c .pack .ensures) (sym (c .before .before .before .before .before .before .before .unpack .ensures) ∙ c .before .before .before .before .before .next .given .1) (q .ensures .0) (c .before .skip .ensures) (c .before .before .if1 .left)
+    close-past _ _ _ _ _ _ _ _ (q .result) (c .before .skip .result) (c .pack .ensures) (sym (p .before .before .unpack .ensures) ∙ p .next .given .1)
+    (q .ensures .0) (c .before .skip .ensures) (c .before .before .if1 .left)
 
 pub close-spec : {M : Type 1} → statement M
 close-spec =

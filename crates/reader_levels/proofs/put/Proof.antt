@@ -19,7 +19,7 @@ returns : tie.Need-returns
 returns c h =
     let a = c .before .args in
     let past : length (a .out .now) ≤ 8 * a .n = omega (arith, c .if1 .taken, h) in
-    sym (sets-out (a .out .now) (8 * a .n) (entry (a .e .kind) (a .e .left) (a .e .right) (a .e .from) (a .e .to) (a .e .high)) past)
+    sym (sets-out (a .out .now) (8 * a .n) (entry (a .e .kind) (a .e .left) (a .e .right) (a .e .from) (a .e .to) (a .e .height)) past)
 
 mul-i : tie.Need-mul-i
 mul-i c = search needs

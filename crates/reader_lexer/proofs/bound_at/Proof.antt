@@ -22,19 +22,29 @@ enum-told-2 c = search needs
 
 returns : tie.Need-returns
 returns c =
+    let p = c .before .before .before .before in
     let g = c .before .before .number .given in
-    let h = bound-found (c .before .before .before .before .before .before .args .text .now) (c .before .before .before .before .before .before .args .byte) (numberAt (c .before .before .before .before .before .before .args .text .now) (c .before .before .before .before .before .before .args .at)) (c .before .before .before .before .number-at .result) (c .before .before .before .before .number-at .ensures) (g .0 .0) (g .0 .1 .0) (c .past .result) (g .1) (c .past .ensures) in
+    let h =
+    bound-found (p .before .before .args .text .now) (p .before .before .args .byte)
+    (numberAt (p .before .before .args .text .now) (p .before .before .args .at)) (p .number-at .result) (p .number-at .ensures) (g .0 .0)
+    (g .0 .1 .0) (c .past .result) (g .1) (c .past .ensures) in
     (h .value, h .behind)
 
 returns-2 : tie.Need-returns-2
 returns-2 c =
+    let p = c .before .before .before .before in
     let g = c .enum-told .given in
-    let h = bound-sign (c .before .before .before .before .args .text .now) (c .before .before .before .before .args .byte) (numberAt (c .before .before .before .before .args .text .now) (c .before .before .before .before .args .at)) (c .before .before .number-at .result) (c .before .before .number-at .ensures) (g .0 .0) (g .0 .1 .0) (g .1) in
+    let h =
+    bound-sign (p .args .text .now) (p .args .byte) (numberAt (p .args .text .now) (p .args .at)) (c .before .before .number-at .result)
+    (c .before .before .number-at .ensures) (g .0 .0) (g .0 .1 .0) (g .1) in
     (h .value, h .behind)
 
 returns-3 : tie.Need-returns-3
 returns-3 c =
-    let h = bound-none (c .before .before .before .before .args .text .now) (c .before .before .before .before .args .byte) (numberAt (c .before .before .before .before .args .text .now) (c .before .before .before .before .args .at)) (c .before .before .number-at .result) (c .before .before .number-at .ensures) (c .enum-told2 .given .1) in
+    let p = c .before .before .before .before in
+    let h =
+    bound-none (p .args .text .now) (p .args .byte) (numberAt (p .args .text .now) (p .args .at)) (c .before .before .number-at .result)
+    (c .before .before .number-at .ensures) (c .enum-told2 .given .1) in
     (h .value, h .behind)
 
 pub bound-at-spec : {M : Type 1} → statement M

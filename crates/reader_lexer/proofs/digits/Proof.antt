@@ -28,16 +28,20 @@ wide-byte-requires c κs = search needs
 
 returns : tie.Need-returns Inv-loop μ-loop
 returns c =
-    let l = c .before .before .before .before .loop in
-    let s = c .before .before .before .before .before .before .args .text .now in
-    let h = digits-stop s (l .i) (l .v) (c .before .before .before .loop-test .taken) (digit-low (getD s (l .i) 0) (omega (arith, c .before .wide-byte .ensures .0))) in
+    let p = c .before .before .before .before in
+    let l = p .loop in
+    let s = p .before .before .args .text .now in
+    let h =
+    digits-stop s (l .i) (l .v) (c .before .before .before .loop-test .taken)
+    (digit-low (getD s (l .i) 0) (omega (arith, c .before .wide-byte .ensures .0))) in
     (omega (arith, h .count, l .inv .0), omega (arith, h .number, l .inv .1, l .inv .2))
 
 returns-2 : tie.Need-returns-2 Inv-loop μ-loop
 returns-2 c =
-    let l = c .before .before .before .before .before .loop in
-    let s = c .before .before .before .before .before .before .before .args .text .now in
-    let h = digits-stop s (l .i) (l .v) (c .before .before .before .before .loop-test .taken) (digit-high (getD s (l .i) 0) (omega (arith, c .before .before .wide-byte .ensures .0))) in
+    let p = c .before .before .before .before in
+    let l = p .before .loop in
+    let s = p .before .before .before .args .text .now in
+    let h = digits-stop s (l .i) (l .v) (p .loop-test .taken) (digit-high (getD s (l .i) 0) (omega (arith, c .before .before .wide-byte .ensures .0))) in
     (omega (arith, h .count, l .inv .0), omega (arith, h .number, l .inv .1, l .inv .2))
 
 more-requires : tie.Need-more-requires Inv-loop μ-loop
@@ -51,12 +55,17 @@ loop-less c = omega arith
 
 loop-again : tie.Need-loop-again Inv-loop μ-loop
 loop-again c =
-    let l = c .before .before .before .before .before .before .loop in
-    let s = c .before .before .before .before .before .before .before .before .args .text .now in
+    let p = c .before .before .before .before .before in
+    let l = p .before .loop in
+    let s = p .before .before .before .args .text .now in
     let w = c .before .before .before .wide-byte .ensures .0 in
-    let h = digits-more s (l .i) (l .v) (c .before .before .before .before .before .loop-test .taken) (digit-is (getD s (l .i) 0) (omega arith) (omega arith)) in
-    let n : min 255 (c .more .result) ≡ min 255 (10 * l .v + (getD s (l .i) 0 - 48)) = omega (arith, c .more .ensures, w) in
-    (omega (arith, h .count, l .inv .0), value-capped (drop (l .i + 1) s) (c .more .result) (10 * l .v + (getD s (l .i) 0 - 48)) n ∙ ap (min 255) (sym (h .number)) ∙ l .inv .1, omega (arith, c .more .ensures))
+    let h = digits-more s (l .i) (l .v) (p .loop-test .taken) (digit-is (getD s (l .i) 0) (omega arith) (omega arith)) in
+    let n : min 255 (c .more .result) ≡ min 255 (10 * l .v + (getD s (l .i) 0 - 48)) = omega (arith, c .more .ensures, w) in (
+      omega (arith, h .count, l .inv .0),
+      value-capped (drop (l .i + 1) s) (c .more .result) (10 * l .v + (getD s (l .i) 0 - 48)) n
+          ∙ ap (min 255) (sym (h .number)) ∙ l .inv .1,
+      omega (arith, c .more .ensures),
+    )
 
 returns-3 : tie.Need-returns-3 Inv-loop μ-loop
 returns-3 c =

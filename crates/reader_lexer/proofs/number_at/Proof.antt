@@ -11,7 +11,9 @@ numeral-requires : tie.Need-numeral-requires
 numeral-requires c κs = search needs
 
 returns : tie.Need-returns
-returns c = number-found (c .before .before .before .args .text .now) (c .before .before .before .args .at) (c .before .skip .result) (c .before .skip .ensures) (c .numeral .result) (c .numeral .ensures)
+returns c =
+    number-found (c .before .before .before .args .text .now) (c .before .before .before .args .at) (c .before .skip .result)
+    (c .before .skip .ensures) (c .numeral .result) (c .numeral .ensures)
 
 pub number-at-spec : {M : Type 1} → statement M
 number-at-spec = tie.close (tie.spec skip-requires numeral-requires returns)

@@ -11,7 +11,9 @@ digits-requires : tie.Need-digits-requires
 digits-requires c κs = search needs
 
 returns : tie.Need-returns
-returns c = no-digit (c .before .before .before .args .text .now) (c .before .before .before .args .d) (c .before .digits .result .end) (c .before .digits .result .value) (c .before .digits .ensures .0) (c .before .digits .ensures .1) (c .if1 .taken)
+returns c =
+    no-digit (c .before .before .before .args .text .now) (c .before .before .before .args .d) (c .before .digits .result .end)
+    (c .before .digits .result .value) (c .before .digits .ensures .0) (c .before .digits .ensures .1) (c .if1 .taken)
 
 add-if2 : tie.Need-add-if2
 add-if2 c = search needs
@@ -22,13 +24,22 @@ shared-slice-read-if3 c =
     omega (arith, c .before .before .before .digits .ensures .0, digits-le (drop (a .d) (a .text .now)), length-drop (a .d) (a .text .now))
 
 returns-2 : tie.Need-returns-2
-returns-2 c = zero-first (c .before .before .before .before .before .before .args .text .now) (c .before .before .before .before .before .before .args .d) (c .before .before .before .before .digits .result .end) (c .before .before .before .before .digits .result .value) (c .before .before .before .before .digits .ensures .0) (c .before .before .before .before .digits .ensures .1) (c .before .before .if2 .taken) (c .if3 .taken)
+returns-2 c =
+    let p = c .before .before .before .before in
+    zero-first (p .before .before .args .text .now) (p .before .before .args .d) (p .digits .result .end) (p .digits .result .value)
+    (p .digits .ensures .0) (p .digits .ensures .1) (c .before .before .if2 .taken) (c .if3 .taken)
 
 returns-3 : tie.Need-returns-3
-returns-3 c = many-digits (c .before .before .before .before .before .before .args .text .now) (c .before .before .before .before .before .before .args .d) (c .before .before .before .before .digits .result .end) (c .before .before .before .before .digits .result .value) (c .before .before .before .before .digits .ensures .0) (c .before .before .before .before .digits .ensures .1) (c .before .before .if2 .taken) (c .if3 .left)
+returns-3 c =
+    let p = c .before .before .before .before in
+    many-digits (p .before .before .args .text .now) (p .before .before .args .d) (p .digits .result .end) (p .digits .result .value)
+    (p .digits .ensures .0) (p .digits .ensures .1) (c .before .before .if2 .taken) (c .if3 .left)
 
 returns-4 : tie.Need-returns-4
-returns-4 c = one-digit (c .before .before .before .before .args .text .now) (c .before .before .before .before .args .d) (c .before .before .digits .result .end) (c .before .before .digits .result .value) (c .before .before .digits .ensures .0) (c .before .before .digits .ensures .1) (c .before .if1 .left) (c .if2 .left)
+returns-4 c =
+    let p = c .before .before .before .before in
+    one-digit (p .args .text .now) (p .args .d) (c .before .before .digits .result .end) (c .before .before .digits .result .value)
+    (c .before .before .digits .ensures .0) (c .before .before .digits .ensures .1) (c .before .if1 .left) (c .if2 .left)
 
 pub numeral-spec : {M : Type 1} → statement M
 numeral-spec =

@@ -11,7 +11,9 @@ sign-at-requires : tie.Need-sign-at-requires
 sign-at-requires c κs = search needs
 
 returns : tie.Need-returns
-returns c = past-found (c .before .before .before .args .text .now) (c .before .before .before .args .at) (c .before .skip .result) (c .before .skip .ensures) (c .sign-at .result) (c .before .before .before .args .byte) (c .sign-at .ensures .0)
+returns c =
+    past-found (c .before .before .before .args .text .now) (c .before .before .before .args .at) (c .before .skip .result) (c .before .skip .ensures)
+    (c .sign-at .result) (c .before .before .before .args .byte) (c .sign-at .ensures .0)
 
 pub past-spec : {M : Type 1} → statement M
 past-spec = tie.close (tie.spec skip-requires sign-at-requires returns)

@@ -17,16 +17,24 @@ numeral-requires : tie.Need-numeral-requires
 numeral-requires c κs = search needs
 
 returns : tie.Need-returns
-returns c = letter-found (c .before .before .before .before .before .before .args .text .now) (c .before .before .before .before .before .before .args .at) (c .before .before .before .before .skip .result) (c .before .before .before .before .skip .ensures) (c .numeral .result) (c .before .before .before .if1 .taken) (c .before .if2 .taken) (c .numeral .ensures)
+returns c =
+    let p = c .before .before .before .before in
+    letter-found (p .before .before .args .text .now) (p .before .before .args .at) (p .skip .result) (p .skip .ensures) (c .numeral .result)
+    (c .before .before .before .if1 .taken) (c .before .if2 .taken) (c .numeral .ensures)
 
 add-t11 : tie.Need-add-t11
 add-t11 c = search needs
 
 returns-2 : tie.Need-returns-2
-returns-2 c = sign-found (c .before .before .before .before .before .args .text .now) (c .before .before .before .before .before .args .at) (c .before .before .before .skip .result) (c .before .before .before .skip .ensures) (c .before .before .if1 .taken) (c .if2 .left)
+returns-2 c =
+    let p = c .before .before .before .before .before in
+    sign-found (p .args .text .now) (p .args .at) (c .before .before .before .skip .result) (c .before .before .before .skip .ensures)
+    (c .before .before .if1 .taken) (c .if2 .left)
 
 returns-3 : tie.Need-returns-3
-returns-3 c = text-over (c .before .before .before .args .text .now) (c .before .before .before .args .at) (c .before .skip .result) (c .before .skip .ensures) (c .if1 .left)
+returns-3 c =
+    text-over (c .before .before .before .args .text .now) (c .before .before .before .args .at) (c .before .skip .result) (c .before .skip .ensures)
+    (c .if1 .left)
 
 pub token-at-spec : {M : Type 1} → statement M
 token-at-spec =

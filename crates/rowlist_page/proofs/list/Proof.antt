@@ -4,7 +4,9 @@ use Prim.Native.Nat.{_*_}
 use native.Mathlib.Omega.{arith}
 use lib.ListN.{replicate}
 use lib.Seq.{length-take-le}
-use Rattle.rowlist_page.specs.Outcomes.{table-ready, listing-refused, listing-rows}
+use Rattle.program_rule.specs.Sizes.{tableRoom}
+use Rattle.program_rule.specs.Outcomes.{table-ready, refusal-printed, work-printed}
+use Rattle.rowlist_page.specs.Page.{listingText, listWork, listing}
 use borrow.Author.Needs.{needs}
 use Rattle.rowlist_page.proofs.list.Statement.{statement}
 use Rattle.rowlist_page.proofs.list.Tie as tie
@@ -31,7 +33,8 @@ mul-end c =
     let a = w .before .before .before .args in
     let v = n .n .given in
     let l = w .read-rule .last .1 .1 .1 .0 in
-    let k = table-ready (a .t) (a .m) (a .text .now) (replicate 1024 0) l (w .read-rule .result) (v .0 .0) (w .read-rule .ensures .0) (w .read-rule .ensures .1) (v .1) in
+    let k = table-ready (a .t) (a .m) (a .text .now) (replicate tableRoom 0) l (w .read-rule .result) (v .0 .0) (w .read-rule .ensures .0)
+    (w .read-rule .ensures .1) (v .1) in
     omega (arith, k .read .few)
 
 array-share-prefix-table : tie.Need-array-share-prefix-table
@@ -41,7 +44,8 @@ array-share-prefix-table c =
     let a = w .before .before .before .args in
     let v = n .n .given in
     let l = w .read-rule .last .1 .1 .1 .0 in
-    let k = table-ready (a .t) (a .m) (a .text .now) (replicate 1024 0) l (w .read-rule .result) (v .0 .0) (w .read-rule .ensures .0) (w .read-rule .ensures .1) (v .1) in
+    let k = table-ready (a .t) (a .m) (a .text .now) (replicate tableRoom 0) l (w .read-rule .result) (v .0 .0) (w .read-rule .ensures .0)
+    (w .read-rule .ensures .1) (v .1) in
     k .table .holds
 
 slice-aggregate-list-table : tie.Need-slice-aggregate-list-table
@@ -51,7 +55,8 @@ slice-aggregate-list-table c =
     let a = w .before .before .before .args in
     let v = n .n .given in
     let l = w .read-rule .last .1 .1 .1 .0 in
-    let k = table-ready (a .t) (a .m) (a .text .now) (replicate 1024 0) l (w .read-rule .result) (v .0 .0) (w .read-rule .ensures .0) (w .read-rule .ensures .1) (v .1) in
+    let k = table-ready (a .t) (a .m) (a .text .now) (replicate tableRoom 0) l (w .read-rule .result) (v .0 .0) (w .read-rule .ensures .0)
+    (w .read-rule .ensures .1) (v .1) in
     sym (length-take-le (8 * v .0 .0) l (k .table .holds))
 
 list-table-requires : tie.Need-list-table-requires
@@ -61,28 +66,34 @@ list-table-requires c κs =
     let a = w .before .before .before .args in
     let v = n .n .given in
     let l = w .read-rule .last .1 .1 .1 .0 in
-    let k = table-ready (a .t) (a .m) (a .text .now) (replicate 1024 0) l (w .read-rule .result) (v .0 .0) (w .read-rule .ensures .0) (w .read-rule .ensures .1) (v .1) in
+    let k = table-ready (a .t) (a .m) (a .text .now) (replicate tableRoom 0) l (w .read-rule .result) (v .0 .0) (w .read-rule .ensures .0)
+    (w .read-rule .ensures .1) (v .1) in
     k .read .few
 
 returns : tie.Need-returns
+unfolding listing
 returns c =
     let k = c .before .before .before in
     let w = k .before .before .before in
     let a = w .before .before .before .args in
     let v = k .refusal .given in
-    let p = c .put-refusal .ensures in
-    (rw (listing-refused (a .t) (a .m) (a .text .now) (w .read-rule .result) (v .0 .0) (w .read-rule .ensures .0) (v .1)) (p .0), omega (arith, p .1))
+    let p = c .put-refusal .ensures in (
+      rw (refusal-printed listWork listingText (a .t) (a .m) (a .text .now) (w .read-rule .result) (v .0 .0) (w .read-rule .ensures .0) (v .1)) (p .0),
+      omega (arith, p .1),
+    )
 
 returns-2 : tie.Need-returns-2
+unfolding listing
 returns-2 c =
     let n = c .before .before .before .before in
     let w = n .before .before .before in
     let a = w .before .before .before .args in
     let v = n .n .given in
     let l = w .read-rule .last .1 .1 .1 .0 in
-    let k = table-ready (a .t) (a .m) (a .text .now) (replicate 1024 0) l (w .read-rule .result) (v .0 .0) (w .read-rule .ensures .0) (w .read-rule .ensures .1) (v .1) in
+    let k = table-ready (a .t) (a .m) (a .text .now) (replicate tableRoom 0) l (w .read-rule .result) (v .0 .0) (w .read-rule .ensures .0)
+    (w .read-rule .ensures .1) (v .1) in
     let p = c .list-table .ensures in
-    (rw (listing-rows (a .t) (a .m) (v .0 .0) (a .text .now) l k) (p .0), p .1)
+    (rw (work-printed listWork listingText (a .t) (a .m) (a .text .now) (v .0 .0) l k) (p .0), p .1)
 
 pub list-spec : {M : Type 1} → statement M
 list-spec =

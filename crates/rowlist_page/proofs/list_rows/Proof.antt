@@ -6,6 +6,7 @@ use native.Mathlib.Omega.{arith}
 use lib.ListN.{length}
 use lib.Seq.{length-take-le, take-all}
 use Rattle.rules.specs.Rows.{Row, rowsIn}
+use Rattle.rowlist_text.specs.Sizes.{rowsRoom}
 use Rattle.rowlist_text.specs.RowText.{Whole, headText, rowsText}
 use Rattle.rowlist_page.specs.Outcomes.{rows-ready, printed-rows, printed-refused}
 use borrow.Author.Needs.{needs}
@@ -30,7 +31,8 @@ slice-reshare-prefix-put-listing c =
     let w = c .before .before .before .before .before .write-rows in
     let n = c .before .count .given in
     let l = w .last .1 .1 .1 .1 .0 in
-    let k = rows-ready (s .args .t) (s .args .m) (s .args .table .now) (s .args .rows .now) l (w .result) (n .0 .0) (s .pre .1) (w .ensures .0) (w .ensures .1) (n .1) in
+    let k = rows-ready (s .args .t) (s .args .m) (s .args .table .now) (s .args .rows .now) l (w .result) (n .0 .0) (s .pre .1) (w .ensures .0)
+    (w .ensures .1) (n .1) in
     omega (arith, k .size-is)
 
 slice-aggregate-put-listing : tie.Need-slice-aggregate-put-listing
@@ -39,8 +41,9 @@ slice-aggregate-put-listing c =
     let w = c .before .before .before .before .before .before .write-rows in
     let n = c .before .before .count .given in
     let l = w .last .1 .1 .1 .1 .0 in
-    let k = rows-ready (s .args .t) (s .args .m) (s .args .table .now) (s .args .rows .now) l (w .result) (n .0 .0) (s .pre .1) (w .ensures .0) (w .ensures .1) (n .1) in
-    sym (length-take-le 65536 l (omega (arith, k .size-is)))
+    let k = rows-ready (s .args .t) (s .args .m) (s .args .table .now) (s .args .rows .now) l (w .result) (n .0 .0) (s .pre .1) (w .ensures .0)
+    (w .ensures .1) (n .1) in
+    sym (length-take-le rowsRoom l (omega (arith, k .size-is)))
 
 put-listing-requires : tie.Need-put-listing-requires
 put-listing-requires c κs =
@@ -48,8 +51,9 @@ put-listing-requires c κs =
     let w = c .before .before .before .before .before .before .before .write-rows in
     let n = c .before .before .before .count .given in
     let l = w .last .1 .1 .1 .1 .0 in
-    let k = rows-ready (s .args .t) (s .args .m) (s .args .table .now) (s .args .rows .now) l (w .result) (n .0 .0) (s .pre .1) (w .ensures .0) (w .ensures .1) (n .1) in
-    let f = take-all 65536 l (omega (arith, k .size-is)) in
+    let k = rows-ready (s .args .t) (s .args .m) (s .args .table .now) (s .args .rows .now) l (w .result) (n .0 .0) (s .pre .1) (w .ensures .0)
+    (w .ensures .1) (n .1) in
+    let f = take-all rowsRoom l (omega (arith, k .size-is)) in
     ((s .pre .0, k .written .slots, k .written .atoms, omega (arith, ap length f, k .size-is)), subst⁻¹ (Whole (n .0 .0)) f (k .whole))
 
 same-length : tie.Need-same-length
@@ -61,7 +65,8 @@ returns c =
     let w = c .before .before .before .before .before .before .before .write-rows in
     let n = c .before .before .before .refusal .given in
     let p = c .put-refusal .ensures in (
-      rw (printed-refused (s .args .t) (s .args .m) (s .args .n) (s .args .table .now) (s .args .rows .now) (w .result) (n .0 .0) (s .pre .1) (w .ensures .0) (n .1)) (p .0),
+      rw (printed-refused (s .args .t) (s .args .m) (s .args .n) (s .args .table .now) (s .args .rows .now) (w .result) (n .0 .0) (s .pre .1) (w .ensures .0)
+          (n .1)) (p .0),
       omega (arith, p .1),
     )
 
@@ -74,8 +79,9 @@ returns-2 c =
     let w = c .before .before .before .before .before .before .before .before .write-rows in
     let n = c .before .before .before .before .count .given in
     let l = w .last .1 .1 .1 .1 .0 in
-    let k = rows-ready (s .args .t) (s .args .m) (s .args .table .now) (s .args .rows .now) l (w .result) (n .0 .0) (s .pre .1) (w .ensures .0) (w .ensures .1) (n .1) in
-    let f = take-all 65536 l (omega (arith, k .size-is)) in
+    let k = rows-ready (s .args .t) (s .args .m) (s .args .table .now) (s .args .rows .now) l (w .result) (n .0 .0) (s .pre .1) (w .ensures .0)
+    (w .ensures .1) (n .1) in
+    let f = take-all rowsRoom l (omega (arith, k .size-is)) in
     let p = c .put-listing .ensures in
     let text = ap (λ (rs : List Row). headText (n .0 .0) ((s .args .m + s .args .n) * s .args .t) ++ rowsText 0 rs) (ap (rowsIn (n .0 .0)) f ∙ k .said) in
     (rw (printed-rows (s .args .t) (s .args .m) (s .args .n) (n .0 .0) (k .bytes) _ (k .is)) (rw text at (p .0)), p .1)

@@ -1,7 +1,10 @@
 -- `rowlist_page::page_of` meets its contract.
 use Prim.Native.Nat.{ℕ}
 use lib.ListN.{replicate, length-replicate}
-use Rattle.rowlist_page.specs.Exact.{fed-page}
+use Rattle.program_rule.specs.Sizes.{textRoom}
+use Rattle.program_rule.specs.Whole.{fed-output}
+use Rattle.rowlist_page.specs.Page.{listing}
+use Rattle.rowlist_page.specs.Exact.{listing-cut}
 use borrow.Author.Needs.{needs}
 use Rattle.rowlist_page.proofs.page_of.Statement.{statement}
 use Rattle.rowlist_page.proofs.page_of.Tie as tie
@@ -25,7 +28,10 @@ returns : tie.Need-returns
 returns c =
     let f = c .before .before .before .before .feed in
     let s = c .before .before .before .before .before .before .start in
-    let e = fed-page (s .result) (f .result) (replicate 1025 0) (f .last .1 .1 .0) (c .before .before .before .before .before .before .before .before .args .bytes .now) (length-replicate {A = ℕ} 1025 0) (s .ensures) (f .ensures .0) in
+    let input = c .before .before .before .before .before .before .before .before .args .bytes .now in
+    let e =
+    fed-output listing listing-cut (s .result) (f .result) (replicate textRoom 0) (f .last .1 .1 .0) input
+    (length-replicate {A = ℕ} textRoom 0) (s .ensures) (f .ensures .0) in
     rw (← e) (c .print .ensures)
 
 pub page-of-spec : {M : Type 1} → statement M

@@ -2,7 +2,8 @@
 use mathlib.Core.Path.{sym}
 use native.Mathlib.Omega.{arith}
 use lib.Seq.{length-take-le}
-use Rattle.rowlist_page.specs.Outcomes.{shown-listing, shown-bad}
+use Rattle.program_rule.specs.Outcomes.{shown-rule, shown-bad}
+use Rattle.rowlist_page.specs.Page.{listing}
 use borrow.Author.Needs.{needs}
 use Rattle.rowlist_page.proofs.print.Statement.{statement}
 use Rattle.rowlist_page.proofs.print.Tie as tie
@@ -26,22 +27,19 @@ returns c =
     let q = c .before .before .before .before .before .is-shaped in
     let n = c .before .before .before .smaller in
     let p = c .list .ensures in
-    let e = shown-listing (a .scan) (a .text .now) (q .result) (n .result) (q .ensures) (c .before .before .before .before .if1 .taken) (n .ensures) in
+    let e = shown-rule listing (a .scan) (a .text .now) (q .result) (q .ensures) (n .result) (c .before .before .before .before .if1 .taken) (n .ensures) in
     rw e ((omega (arith, p .0 .ends), p .1), p .0 .content)
 
-slice-aggregate-put-bytes : tie.Need-slice-aggregate-put-bytes
-slice-aggregate-put-bytes c = search needs
-
-put-bytes-requires : tie.Need-put-bytes-requires
-put-bytes-requires c κs = search needs
+put-bad-input-requires : tie.Need-put-bad-input-requires
+put-bad-input-requires c κs = search needs
 
 returns-2 : tie.Need-returns-2
 returns-2 c =
-    let a = c .before .before .before .before .before .before .args in
-    let q = c .before .before .before .before .is-shaped in
-    let p = c .put-bytes .ensures in
-    let e = shown-bad (a .scan) (a .text .now) (q .result) (q .ensures) (c .before .before .before .if1 .left) in
-    rw e ((omega (arith, p .ends), omega (arith, p .ends)), p .content)
+    let a = c .before .before .before .before .before .args in
+    let q = c .before .before .before .is-shaped in
+    let p = c .put-bad-input .ensures in
+    let e = shown-bad listing (a .scan) (a .text .now) (q .result) (q .ensures) (c .before .before .if1 .left) in
+    rw e ((omega (arith, p .0 .ends), omega (arith, p .1)), p .0 .content)
 
 pub print-spec : {M : Type 1} → statement M
 print-spec =
@@ -52,6 +50,5 @@ print-spec =
     slice-aggregate-list
     list-requires
     returns
-    slice-aggregate-put-bytes
-    put-bytes-requires
+    put-bad-input-requires
     returns-2)

@@ -104,7 +104,9 @@ put-terms-put-term-requires : (t : ℕ) → put-terms-lts.Need-put-term-requires
   put-terms-below t,
   put-terms.Post,
 ) (put-terms-at t) put-terms.Post
-put-terms-put-term-requires t c κs = (omega (arith, c .before .before .before .before .before .if1 .left, c .before .before .before .before .before .before .before .pre), c .before .before .variable .ensures .1)
+put-terms-put-term-requires t c κs =
+    let i = c .before .before .before .before .before in
+    (omega (arith, i .if1 .left, i .before .before .pre), c .before .before .variable .ensures .1)
 
 put-terms-add-put-terms : (t : ℕ) → put-terms-lts.Need-add-put-terms (
   variable-reads.Asked,
@@ -152,7 +154,8 @@ put-terms-returns-2 t c =
     let n = c .before .before .before .before .before .before .before .before .if1 .left in
     let p = c .before .before .put-term .ensures in
     let q = c .put-terms .ensures in (
-      rw (terms-more (a .k) (a .p) (c .before .before .before .before .before .variable .result) (a .bytes .now) n (c .before .before .before .before .before .variable .ensures .0)) (also (p .0) (q .0)),
+      rw (terms-more (a .k) (a .p) (c .before .before .before .before .before .variable .result) (a .bytes .now) n
+          (c .before .before .before .before .before .variable .ensures .0)) (also (p .0) (q .0)),
       omega (arith, n, p .1, q .1),
     )
 

@@ -1,7 +1,7 @@
 -- `rowlist_text::put_head` meets its contract.
 use native.Mathlib.Omega.{arith}
 use Rattle.text.specs.Put.{also}
-use Rattle.text.specs.Decimal.{below-100000}
+use Rattle.text.specs.DecimalLaws.{below-100000}
 use Rattle.rowlist_text.specs.RowText.{headText}
 use borrow.Author.Needs.{needs}
 use Rattle.rowlist_text.proofs.put_head.Statement.{statement}
@@ -24,7 +24,12 @@ slice-aggregate-put-bytes-2 c = search needs
 put-bytes-requires-2 : tie.Need-put-bytes-requires-2
 put-bytes-requires-2 c κs =
     let s = c .before .before .before .before .before .before .before in
-    omega (arith, c .before .before .before .before .put-bytes .ensures .ends, c .before .before .put-decimal .ensures .ends, below-100000 (s .args .count) (s .pre .0))
+    omega (
+      arith,
+      c .before .before .before .before .put-bytes .ensures .ends,
+      c .before .before .put-decimal .ensures .ends,
+      below-100000 (s .args .count) (s .pre .0),
+    )
 
 put-decimal-requires-2 : tie.Need-put-decimal-requires-2
 put-decimal-requires-2 c κs =

@@ -1,7 +1,7 @@
 -- `rowlist_text::put_row` meets its contract.
 use native.Mathlib.Omega.{arith}
 use Rattle.text.specs.Put.{also}
-use Rattle.text.specs.Decimal.{below-100000}
+use Rattle.text.specs.DecimalLaws.{below-100000}
 use Rattle.rowlist_text.specs.Records.{row-at}
 use borrow.Author.Needs.{needs}
 use Rattle.rowlist_text.proofs.put_row.Statement.{statement}

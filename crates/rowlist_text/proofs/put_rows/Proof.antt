@@ -18,8 +18,14 @@ abbrev μ-loop : tie.MeasureT-loop
 
 loop-holds : tie.Need-loop-holds Inv-loop μ-loop
 loop-holds c =
-    let a = c .before .args in
-    (omega arith, omega arith, omega arith, omega arith, whole-start (a .count) (a .rows .now) (c .before .pre .1), lines-start (a .count) (a .from) (a .rows .now) (a .out .now))
+    let a = c .before .args in (
+      omega arith,
+      omega arith,
+      omega arith,
+      omega arith,
+      whole-start (a .count) (a .rows .now) (c .before .pre .1),
+      lines-start (a .count) (a .from) (a .rows .now) (a .out .now),
+    )
 
 put-row-requires : tie.Need-put-row-requires Inv-loop μ-loop
 put-row-requires c κs =

@@ -4,7 +4,7 @@ use Prim.Native.Nat.{suc, _-_}
 use native.Mathlib.Omega.{arith}
 use borrow.Author.Tests.{lt-ltb, le-ltb}
 use Rattle.text.specs.Put.{also}
-use Rattle.text.specs.Decimal.{below-1000}
+use Rattle.text.specs.DecimalLaws.{below-1000}
 use borrow.Author.Needs.{needs}
 use Rattle.rowlist_text.proofs.put_signed.Statement.{statement}
 use Rattle.rowlist_text.proofs.put_signed.Tie as tie
@@ -34,7 +34,8 @@ returns-2 c =
     let p = c .before .before .put-byte .ensures in
     let q = c .put-decimal2 .ensures in
     let z : 256 - a .b ≡ suc (255 - a .b) = omega (arith, c .before .before .before .before .before .fits) in
-    rw (le-ltb (a .b) 128 (c .before .before .before .before .if1 .left), ← z) (also p q, omega (arith, p .ends, q .ends, below-1000 (256 - a .b) (omega arith)))
+    rw (le-ltb (a .b) 128 (c .before .before .before .before .if1 .left), ← z)
+    (also p q, omega (arith, p .ends, q .ends, below-1000 (256 - a .b) (omega arith)))
 
 pub put-signed-spec : {M : Type 1} → statement M
 put-signed-spec =

@@ -5,15 +5,18 @@ use native.Mathlib.Omega.{arith}
 use lib.ListN.{length}
 use Rattle.rules.specs.Table.{NodeGood}
 use Rattle.rules.specs.TableTest.{nodesIn, recordCount}
+use Rattle.row.specs.Placed.{nodeRowLimit}
 use Rattle.row.specs.Kinds.{allowed}
 use Rattle.row.specs.NodeRows.{rows-none, count-more}
+use Rattle.rows.specs.Sizes.{nodeByteLimit}
 use Rattle.rows.specs.Parts.{countTo, lengthTo, length-none, length-more}
 use Rattle.rows.proofs.measure.Statement.{statement}
 use Rattle.rows.proofs.measure.Tie as tie
 
 abbrev Inv-loop : tie.InvT-loop
 Inv-loop table n t m l rows₀ bytes₀ i₀ rows bytes i =
-    (i ≤ n) × (rows ≡ countTo t m l (nodesIn table) i) × (bytes ≡ lengthTo t m l (nodesIn table) i) × (rows ≤ 8320 * i) × (bytes ≤ 116480 * i)
+    (i ≤ n) × (rows ≡ countTo t m l (nodesIn table) i) × (bytes ≡ lengthTo t m l (nodesIn table) i) × (rows ≤ nodeRowLimit * i) ×
+    (bytes ≤ nodeByteLimit * i)
 
 abbrev μ-loop : tie.MeasureT-loop
 μ-loop table n t m l rows₀ bytes₀ i₀ rows bytes i = n - i

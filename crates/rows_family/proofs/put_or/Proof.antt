@@ -15,29 +15,52 @@ above-requires-2 : tie.Need-above-requires-2
 above-requires-2 c κs = search needs
 
 put-row-requires-2 : tie.Need-put-row-requires-2
-put-row-requires-2 c κs = omega (arith, record-length (c .before .before .before .before .before .above .result) (c .before .before .before .before .before .above .ensures), record-length (c .above2 .result) (c .above2 .ensures), c .before .before .before .before .put-row .ensures .0)
+put-row-requires-2 c κs =
+    let p = c .before .before .before .before in
+    omega (
+      arith,
+      record-length (p .before .above .result) (p .before .above .ensures),
+      record-length (c .above2 .result) (c .above2 .ensures),
+      p .put-row .ensures .0,
+    )
 
 covered-requires : tie.Need-covered-requires
 covered-requires c κs = search needs
 
 put-row-requires-3 : tie.Need-put-row-requires-3
-put-row-requires-3 c κs = omega (arith, record-length (c .before .before .before .before .before .before .before .before .before .before .above .result) (c .before .before .before .before .before .before .before .before .before .before .above .ensures), record-length (c .before .before .before .before .before .above2 .result) (c .before .before .before .before .before .above2 .ensures), record-length (c .covered .result) (c .covered .ensures), c .before .before .before .before .before .before .before .before .before .put-row .ensures .0, c .before .before .before .before .put-row2 .ensures .0)
+put-row-requires-3 c κs =
+    let p = c .before .before .before .before in
+    let q = p .before .before .before .before .before in
+    omega (
+      arith,
+      record-length (q .before .above .result) (q .before .above .ensures),
+      record-length (p .before .above2 .result) (p .before .above2 .ensures),
+      record-length (c .covered .result) (c .covered .ensures),
+      q .put-row .ensures .0,
+      p .put-row2 .ensures .0,
+    )
 
 same-length : tie.Need-same-length
 same-length c = search needs
 
 returns : tie.Need-returns
 returns c =
-    let r1 = c .before .before .before .before .before .before .before .before .before .before .before .before .before .above in
-    let p1 = c .before .before .before .before .before .before .before .before .before .before .before .before .put-row in
+    let p = c .before .before .before .before .before .before .before in
+    let q = p .before .before .before .before .before in
+    let r = q .before .before .before .before in
+    let r1 = q .before .above in
+    let p1 = q .put-row in
     let l1 = record-length (r1 .result) (r1 .ensures) in
-    let r2 = c .before .before .before .before .before .before .before .before .above2 in
-    let p2 = c .before .before .before .before .before .before .before .put-row2 in
+    let r2 = p .before .above2 in
+    let p2 = p .put-row2 in
     let l2 = record-length (r2 .result) (r2 .ensures) in
     let r3 = c .before .before .before .covered in
     let p3 = c .before .before .put-row3 in
     let l3 = record-length (r3 .result) (r3 .ensures) in
-    put-more (put-more (put-more (put-none _ _) (r1 .result) (r1 .ensures) (omega (arith, c .before .before .before .before .before .before .before .before .before .before .before .before .before .before .before .before .pre)) (p1 .ensures .0) (p1 .ensures .1)) (r2 .result) (r2 .ensures) (omega (arith, l1, p1 .ensures .0, c .before .before .before .before .before .before .before .before .before .before .before .before .before .before .before .before .pre)) (p2 .ensures .0) (p2 .ensures .1)) (r3 .result) (r3 .ensures) (omega (arith, l1, p1 .ensures .0, l2, p2 .ensures .0, c .before .before .before .before .before .before .before .before .before .before .before .before .before .before .before .before .pre)) (p3 .ensures .0) (p3 .ensures .1)
+    put-more
+    (put-more (put-more (put-none _ _) (r1 .result) (r1 .ensures) (omega (arith, r .pre)) (p1 .ensures .0) (p1 .ensures .1))
+    (r2 .result) (r2 .ensures) (omega (arith, l1, p1 .ensures .0, r .pre)) (p2 .ensures .0) (p2 .ensures .1))
+    (r3 .result) (r3 .ensures) (omega (arith, l1, p1 .ensures .0, l2, p2 .ensures .0, r .pre)) (p3 .ensures .0) (p3 .ensures .1)
 
 pub put-or-spec : {M : Type 1} → statement M
 put-or-spec =

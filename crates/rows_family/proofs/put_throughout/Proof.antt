@@ -37,27 +37,36 @@ put-head-requires c κs =
 
 put-term-requires : tie.Need-put-term-requires
 put-term-requires c κs =
-    let s = c .before .before .before .before .before .before .before .before .before .before .before in
+    let p = c .before .before .before .before .before .before .before .before in
+    let s = p .before .before .before in
     let t = throughout-total (s .args .node) (s .args .looks) (s .args .p) in
-    omega (arith, s .pre .1, t, c .before .before .before .before .before .before .before .before .put-below-each .ensures .0, c .before .before .before .put-head .ensures .0)
+    omega (arith, s .pre .1, t, p .put-below-each .ensures .0, c .before .before .before .put-head .ensures .0)
 
 put-terms-requires : tie.Need-put-terms-requires
 put-terms-requires c κs =
-    let s = c .before .before .before .before .before .before .before .before .before .before .before .before .before .before .before in
-    let t = throughout-total (s .args .node) (s .args .looks) (s .args .p) in
-    ((s .pre .0 .0, s .pre .0 .1), omega (arith, s .pre .1, t, c .before .before .before .before .before .before .before .before .before .before .before .before .put-below-each .ensures .0, c .before .before .before .before .before .before .before .put-head .ensures .0, c .before .before .before .put-term .ensures .0))
+    let p = c .before .before .before .before .before .before .before in
+    let q = p .before .before .before .before .before in
+    let s = q .before .before .before in
+    let t = throughout-total (s .args .node) (s .args .looks) (s .args .p) in (
+      (s .pre .0 .0, s .pre .0 .1),
+      omega (arith, s .pre .1, t, q .put-below-each .ensures .0, p .put-head .ensures .0, c .before .before .before .put-term .ensures .0),
+    )
 
 same-length : tie.Need-same-length
 same-length c = search needs
 
 returns : tie.Need-returns
 returns c =
-    let s = c .before .before .before .before .before .before .before .before .before .before .before .before .before .before .before .before .before .before in
-    let h = c .before .before .before .before .before .before .before .before .before .before .put-head .ensures in
+    let p = c .before .before .before .before .before .before in
+    let q = p .before .before .before .before in
+    let u = q .before .before .before .before .before in
+    let s = u .before .before .before in
+    let h = q .put-head .ensures in
     let k = s .args .looks .count in
-    let r = toZ-ofZ {w = w8} {z = c .before .before .before .before .before .before .before .before .before .before .before .less-one .result} (search needs) ∙ c .before .before .before .before .before .before .before .before .before .before .before .less-one .ensures in
-    put-four (s .args .at) _ _ _ _ _ (throughout-bytes (s .args .node) (s .args .looks) (s .args .p)) (s .pre .1) (c .before .before .before .before .before .before .before .before .before .before .before .before .before .before .before .put-below-each .ensures)
-    (omega (arith, h .0, head-length (k + 1) (negℤ (pos (k - 1)))), splice-as _ _ (h .1) (ap (headOf AtLeast (k + 1)) r)) (c .before .before .before .before .before .before .put-term .ensures) (c .before .before .put-terms .ensures)
+    let r = toZ-ofZ {w = w8} {z = q .before .less-one .result} (search needs) ∙ q .before .less-one .ensures in
+    put-four (s .args .at) _ _ _ _ _ (throughout-bytes (s .args .node) (s .args .looks) (s .args .p)) (s .pre .1) (u .put-below-each .ensures)
+    (omega (arith, h .0, head-length (k + 1) (negℤ (pos (k - 1)))), splice-as _ _ (h .1) (ap (headOf AtLeast (k + 1)) r)) (p .put-term .ensures)
+    (c .before .before .put-terms .ensures)
 
 pub put-throughout-spec : {M : Type 1} → statement M
 put-throughout-spec =

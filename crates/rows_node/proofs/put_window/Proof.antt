@@ -21,8 +21,10 @@ put-within-requires : tie.Need-put-within-requires
 put-within-requires c κs =
     let a = c .before .before .before in
     let x = a .args in
-    let vs = variables (x .looks) (x .p) in
-    (a .pre .0, subst (λ (w : Bool). x .at + length (rowsBytes (overRows (windowBy w) (x .node) vs)) ≤ length (x .out .now)) (c .before .if1 .taken) (a .pre .1))
+    let vs = variables (x .looks) (x .p) in (
+      a .pre .0,
+      subst (λ (w : Bool). x .at + length (rowsBytes (overRows (windowBy w) (x .node) vs)) ≤ length (x .out .now)) (c .before .if1 .taken) (a .pre .1),
+    )
 
 same-length : tie.Need-same-length
 same-length c = search needs

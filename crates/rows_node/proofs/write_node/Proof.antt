@@ -9,6 +9,7 @@ use Rattle.rules.specs.Rule.Window.{within, throughout}
 use Rattle.table.specs.Looping.{loopsBy}
 use Rattle.table.specs.declared.Kind.{Kind}
 use Rattle.row.specs.declared.Block.{Block}
+use Rattle.row.specs.Placed.{firstLimit}
 use Rattle.rows_family.specs.Put.{one-room, one-done}
 use Rattle.rows_node.specs.declared.Reach.{Reach}
 use Rattle.rows_node.specs.Slots.{windows}
@@ -20,8 +21,8 @@ use Rattle.rows_node.proofs.write_node.Tie as tie
 
 -- the bytes of a window's rows, and what they are written from
 module _ (own : Block) (T L : ℕ) {r : Reach} (is : r ≡ blockReach own T L) where
-  window-fits : 1 ≤ L → L ≤ T → T ≤ 64 → own .own ≤ 25600 → own .left ≤ 25600 → own .from ≤ own .to → own .to ≤ 63 →
-      (1 ≤ r .l) × (r .l ≤ r .t) × (r .t ≤ 64) × (own .own ≤ 25600) × (own .left ≤ 25600) × (r .from ≤ r .to) × (r .to ≤ 63)
+  window-fits : 1 ≤ L → L ≤ T → T ≤ 64 → own .own ≤ firstLimit → own .left ≤ firstLimit → own .from ≤ own .to → own .to ≤ 63 →
+      (1 ≤ r .l) × (r .l ≤ r .t) × (r .t ≤ 64) × (own .own ≤ firstLimit) × (own .left ≤ firstLimit) × (r .from ≤ r .to) × (r .to ≤ 63)
   window-fits a b c d e f g = rw is (a, b, c, d, e, f, g)
 
 window-bytes : (w : Window) (own : Block) (T L v : ℕ) {r : Reach} → r ≡ blockReach own T L → {k : Kind} → own .kind ≡ k → loopsBy k ≡ false →

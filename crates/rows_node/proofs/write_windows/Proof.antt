@@ -35,7 +35,9 @@ put-window-requires c κs =
     let a = c .before .before .before .before .before in
     let test = c .before .before .loop-test in
     let h : l .loop .s < a .args .reach .t = omega arith in
-    let e = ap (λ (vs : List ℕ). rowsBytes (overRows (windowBy (a .args .within)) (a .args .node + l .loop .s) vs)) (c .before .look .ensures .is (a .args .p)) in
+    let e =
+    ap (λ (vs : List ℕ). rowsBytes (overRows (windowBy (a .args .within)) (a .args .node + l .loop .s) vs))
+    (c .before .look .ensures .is (a .args .p)) in
     ((c .before .look .ensures .are-few, a .pre .0 .4), rw e (filled-room (l .loop .inv .1) (a .args .reach .t) h (a .pre .1)))
 
 add-s : tie.Need-add-s Inv-loop μ-loop

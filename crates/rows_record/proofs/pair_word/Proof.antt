@@ -47,7 +47,10 @@ add-result-2 : tie.Need-add-result-2
 add-result-2 c = search needs
 
 returns : tie.Need-returns
-returns c = let a = c .before .before .before .before .args in pair-word-bytes (a .right) (a .a .sign) (a .a .variable) (a .b .sign) (a .b .variable) (search needs) (search needs) (search needs) (search needs) (search needs)
+returns c =
+    let a = c .before .before .before .before .args in
+    pair-word-bytes (a .right) (a .a .sign) (a .a .variable) (a .b .sign) (a .b .variable) (search needs) (search needs)
+    (search needs) (search needs) (search needs)
 
 pub pair-word-spec : {M : Type 1} → statement M
 pair-word-spec =

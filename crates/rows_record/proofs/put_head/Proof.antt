@@ -60,7 +60,8 @@ returns : tie.Need-returns
 returns c =
     let s = c .before .before .before in (
       refl,
-      splice-as _ _ (stores-splice _ _ _ _ (omega arith)) (head-is _ (s .args .count) _ (c .before .relation-byte .ensures) (c .signed-byte .ensures ∙ ap signedByte (toZ-ofZ (s .fits .right)))),
+      splice-as _ _ (stores-splice _ _ _ _ (omega arith))
+          (head-is _ (s .args .count) _ (c .before .relation-byte .ensures) (c .signed-byte .ensures ∙ ap signedByte (toZ-ofZ (s .fits .right)))),
     )
 
 pub put-head-spec : {M : Type 1} → statement M

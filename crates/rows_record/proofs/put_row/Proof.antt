@@ -63,12 +63,16 @@ same-length c = search needs
 
 returns : tie.Need-returns
 returns c =
-    let s = c .before .before .before .before .before .before .before .before .before .before .before .before in
+    let p = c .before .before .before .before .before .before in
+    let q = p .before .before .before .before in
+    let s = q .before .before in
     let row = s .args .row in
     let u = c .before .before .put-single .ensures in
-    let t = c .before .before .before .before .before .before .terms .given .1 in (
+    let t = p .terms .given .1 in (
       omega (arith, u .0, single-length row t),
-      splice-as _ _ (u .1) (single-bytes row (c .before .before .before .before .before .before .before .before .before .before .relation-byte .ensures) (c .before .before .before .before .before .before .before .before .signed-byte .ensures ∙ ap signedByte (toZ-ofZ {w = w8} {z = row .right} (search needs))) _ t (c .before .before .before .pack .ensures)),
+      splice-as _ _ (u .1) (single-bytes row (q .relation-byte .ensures)
+          (p .before .before .signed-byte .ensures ∙ ap signedByte (toZ-ofZ {w = w8} {z = row .right} (search needs))) _ t
+          (c .before .before .before .pack .ensures)),
     )
 
 same-length-2 : tie.Need-same-length-2
@@ -76,12 +80,16 @@ same-length-2 c = search needs
 
 returns-2 : tie.Need-returns-2
 returns-2 c =
-    let s = c .before .before .before .before .before .before .before .before .before .before .before .before .before in
+    let p = c .before .before .before .before in
+    let q = p .before .before .before .before .before in
+    let s = q .before .before .before .before in
     let row = s .args .row in
     let u = c .before .before .put-pair .ensures in
-    let t = c .before .before .before .before .before .before .before .terms2 .given .1 in (
+    let t = p .before .before .before .terms2 .given .1 in (
       omega (arith, u .0, pair-length row t),
-      splice-as _ _ (u .1) (pair-bytes row (c .before .before .before .before .before .before .before .before .before .before .before .relation-byte .ensures) (c .before .before .before .before .before .before .before .before .before .signed-byte .ensures ∙ ap signedByte (toZ-ofZ {w = w8} {z = row .right} (search needs))) _ _ t (c .before .before .before .before .pack2 .ensures) (c .before .before .before .pack3 .ensures)),
+      splice-as _ _ (u .1) (pair-bytes row (q .before .before .relation-byte .ensures)
+          (q .signed-byte .ensures ∙ ap signedByte (toZ-ofZ {w = w8} {z = row .right} (search needs))) _ _ t (p .pack2 .ensures)
+          (c .before .before .before .pack3 .ensures)),
     )
 
 same-length-3 : tie.Need-same-length-3
@@ -89,12 +97,16 @@ same-length-3 c = search needs
 
 returns-3 : tie.Need-returns-3
 returns-3 c =
-    let s = c .before .before .before .before .before .before .before .before .before .before .before .before .before .before in
+    let p = c .before .before .before .before in
+    let q = p .before .before .before .before in
+    let s = q .before .before .before .before .before .before in
     let row = s .args .row in
     let u = c .before .before .put-triple .ensures in
-    let t = c .before .before .before .before .before .before .before .before .terms3 .given .1 in (
+    let t = q .terms3 .given .1 in (
       omega (arith, u .0, triple-length row t),
-      splice-as _ _ (u .1) (triple-bytes row (c .before .before .before .before .before .before .before .before .before .before .before .before .relation-byte .ensures) (c .before .before .before .before .before .before .before .before .before .before .signed-byte .ensures ∙ ap signedByte (toZ-ofZ {w = w8} {z = row .right} (search needs))) _ _ _ t (c .before .before .before .before .before .pack4 .ensures) (c .before .before .before .before .pack5 .ensures) (c .before .before .before .pack6 .ensures)),
+      splice-as _ _ (u .1) (triple-bytes row (q .before .before .before .before .relation-byte .ensures)
+          (q .before .before .signed-byte .ensures ∙ ap signedByte (toZ-ofZ {w = w8} {z = row .right} (search needs))) _ _ _ t (p .before .pack4 .ensures)
+          (p .pack5 .ensures) (c .before .before .before .pack6 .ensures)),
     )
 
 pub put-row-spec : {M : Type 1} → statement M

@@ -14,7 +14,8 @@ same-length : tie.Need-same-length
 same-length c = search needs
 
 returns : tie.Need-returns
-returns c = (c .before .before .put-eight .ensures .0, splice-as _ _ (c .before .before .put-eight .ensures .1) (c .before .before .before .first-word .ensures))
+returns c =
+    (c .before .before .put-eight .ensures .0, splice-as _ _ (c .before .before .put-eight .ensures .1) (c .before .before .before .first-word .ensures))
 
 pub put-single-spec : {M : Type 1} → statement M
 put-single-spec = tie.close (tie.spec first-word-requires put-eight-requires same-length returns)

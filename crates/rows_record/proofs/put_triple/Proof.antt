@@ -28,8 +28,10 @@ same-length c = search needs
 
 returns : tie.Need-returns
 returns c =
-    let p = splice-as _ _ (c .before .before .before .before .before .before .before .before .before .before .before .before .put-four .ensures .1) (c .before .before .before .before .before .before .before .before .before .before .before .before .before .head-word .ensures) in
-    let q = splice-as _ _ (c .before .before .before .before .before .before .before .put-two .ensures .1) (c .before .before .before .before .before .before .before .before .right-word .ensures) in
+    let r = c .before .before .before .before .before .before .before in
+    let u = r .before .before .before .before .before in
+    let p = splice-as _ _ (u .put-four .ensures .1) (u .before .head-word .ensures) in
+    let q = splice-as _ _ (r .put-two .ensures .1) (r .before .right-word .ensures) in
     let t = splice-as _ _ (c .before .before .put-eight .ensures .1) (c .before .before .before .triple-word .ensures) in
     (omega arith, splice-then _ _ _ _ _ _ _ (splice-then _ _ _ _ _ _ _ p q (omega arith) (omega arith)) t (omega arith) (omega arith))
 

@@ -44,7 +44,10 @@ add-result-2 : tie.Need-add-result-2
 add-result-2 c = search needs
 
 returns : tie.Need-returns
-returns c = let a = c .before .before .before .before .before .args in triple-word-bytes (a .a .variable) (a .b .sign) (a .b .variable) (a .c .sign) (a .c .variable) (search needs) (search needs) (search needs) (search needs) (search needs)
+returns c =
+    let a = c .before .before .before .before .before .args in
+    triple-word-bytes (a .a .variable) (a .b .sign) (a .b .variable) (a .c .sign) (a .c .variable) (search needs) (search needs)
+    (search needs) (search needs) (search needs)
 
 pub triple-word-spec : {M : Type 1} → statement M
 triple-word-spec =

@@ -6,17 +6,17 @@ use Prim.Native.Nat.{ℕ, _+_, _-_, _*_, _≤_, _<_, min}
 use native.Mathlib.Nat.{mul-le-mul-right}
 use native.Mathlib.Omega.{arith}
 use lib.Dec.{T as Is, eqb, ltb, ltb→lt, nltb→le}
-use lib.ListN.{length, getD}
+use lib.ListN.{length}
 use lib.IntN.{ℤ, pos, _-ℤ_, natAbs}
 use Rattle.lists.specs.Every.{Every, every-append, at-every}
-use Rattle.rules.specs.Quantities.{one, LoopAllowed}
+use Rattle.rules.specs.Quantities.{one, ofTruth, LoopAllowed}
 use Rattle.rules.specs.Table.{Node, nodeAt, ruleAt, root}
 use Rattle.rules.specs.TableRules.{NodesGood}
-use Rattle.rules.specs.Truth.{Holds, HoldsKept, endless, TruthBit}
+use Rattle.rules.specs.Truth.{Holds, HoldsKept, endless, TruthOf}
 use Rattle.rules.specs.Evaluation.{bitOf, bitSet, truth, kept, nextTruth, truth-holds, kept-holds, truth-now, kept-now}
 use Rattle.rules.specs.Rows.{valueAt, atomVariable, slack, loops, loopSlack, variableCount, goesOn, nextSlack, rowsOf, slackRows, goalRow}
-use Rattle.rules.specs.Judge.{None, OutsideAt, NotBinaryAt, BrokenAt}
-use Rattle.rules.specs.Judge.Judged.{is-passed}
+use Rattle.rules.specs.Judge.{Broken, None, noRow, rowAt, OutsideAt, NotBinaryAt, BrokenAt}
+use Rattle.rules.specs.Judge.JudgedBy.{is-passed}
 use Rattle.rules.specs.RunOfBits.{runOf, run-good, run-bit}
 use Rattle.rules.specs.Exactness.Tests.{at-least as bounded}
 use Rattle.rules.specs.Solution.Ranked.{by-rank}
@@ -50,7 +50,7 @@ data Slack : Type 0 where
 module _ (T M L e : ℕ) (ns : List Node) (xs : List ℤ) (f : ℕ → ℕ) (run : List ℕ) (loop : LoopAllowed T L) (good : NodesGood M ns)
     (count : length xs ≡ variableCount T M L ns)
     (figures : ErrorFigures T M L e ns f) (rounded : Rounded T M xs run)
-    (limits : None (OutsideAt T M L e ns xs)) (binary : None (NotBinaryAt T M L e ns xs)) (rows : None (BrokenAt T M L e ns xs)) where
+    (limits : None (OutsideAt e xs)) (binary : None (NotBinaryAt (M * T) e xs)) (rows : None (BrokenAt (Broken e xs) (rowsOf T M L ns))) where
   abbrev N : ℕ
   N = length ns
 
@@ -61,8 +61,7 @@ module _ (T M L e : ℕ) (ns : List Node) (xs : List ℤ) (f : ℕ → ℕ) (run
   d = downAt xs
 
   held : Every (Held one e u d) (rowsOf T M L ns)
-  held = at-every (Held one e u d) (goalRow T M ns) (rowsOf T M L ns)
-      (λ i h. unbroken-held xs e (getD (rowsOf T M L ns) i (goalRow T M ns)) (λ k. rows i (h, k)))
+  held = at-every (Held one e u d) noRow (rowsOf T M L ns) (λ i h. unbroken-held xs e (rowAt (rowsOf T M L ns) i) (λ k. rows i (h, k)))
 
   both : Every (Held one e u d) (slackRows T M L ns) × Every (Held one e u d) (goalRow T M ns ∷ [])
   both = every-append (Held one e u d) (slackRows T M L ns) (goalRow T M ns ∷ []) .0 held
@@ -135,15 +134,12 @@ module _ (T M L e : ℕ) (ns : List Node) (xs : List ℤ) (f : ℕ → ℕ) (run
   near = by-rank rank Ok step
 
   -- from the truth as a test to the truth
-  distance : (P : Type 0) (v k : ℕ) (c : Bool) → (P → Is c) → (Is c → P) → Near one u d k v c → (b : ℕ) → TruthBit P b →
-      natAbs (valueAt xs v -ℤ pos (b * one)) ≤ k
-  distance P v k c to from z b bit = go c to from z bit
-    where
-      go : {b : ℕ} (c : Bool) → (P → Is c) → (Is c → P) → Near one u d k v c → TruthBit P b → natAbs (valueAt xs v -ℤ pos (b * one)) ≤ k
-      go true to from z (TruthBit.true y) = near-iff xs k v true .1 z
-      go true to from z (TruthBit.false y) = absurd (y (from tt))
-      go false to from z (TruthBit.true y) = absurd (to y)
-      go false to from z (TruthBit.false y) = near-iff xs k v false .1 z
+  distance : (P : Type 0) (v k : ℕ) (c : Bool) → (P → Is c) → (Is c → P) → Near one u d k v c → (b : Bool) → TruthOf P b →
+      natAbs (valueAt xs v -ℤ pos (ofTruth b)) ≤ k
+  distance P v k true to from z true y = near-iff xs k v true .1 z
+  distance P v k true to from z false y = absurd (y (from tt))
+  distance P v k false to from z true y = absurd (to y)
+  distance P v k false to from z false y = near-iff xs k v false .1 z
 
   -- the goal row: the root is within e of 1,000,000, and so not within its error figure, which is e or more, of 0
   satisfied : 1 ≤ N → f (slack T M (root ns) 1) < trustLimit → Holds (endless T L run) (ruleAt ns (root ns)) 1
@@ -158,15 +154,15 @@ module _ (T M L e : ℕ) (ns : List Node) (xs : List ℤ) (f : ℕ → ℕ) (run
           let goal = both .1 .0 in
           absurd (omega arith)
 
-  within : (n t b : ℕ) → n < N → 1 ≤ t → t ≤ T → f (slack T M n t) < one → TruthBit (Holds (endless T L run) (ruleAt ns n) t) b →
-      natAbs (valueAt xs (slack T M n t) -ℤ pos (b * one)) ≤ f (slack T M n t)
+  within : (n t : ℕ) (b : Bool) → n < N → 1 ≤ t → t ≤ T → f (slack T M n t) < one → TruthOf (Holds (endless T L run) (ruleAt ns n) t) b →
+      natAbs (valueAt xs (slack T M n t) -ℤ pos (ofTruth b)) ≤ f (slack T M n t)
   within n t b h l v small bit =
       let iff = truth-holds T L loop run (ruleAt ns n) t l v in
       distance (Holds (endless T L run) (ruleAt ns n) t) (slack T M n t) (f (slack T M n t)) (truth T L run (ruleAt ns n) t) (iff .0) (iff .1)
       (near (own n t) h l v small) b bit
 
-  kept-within : (n t b : ℕ) → n < N → loops (nodeAt ns n) ≡ true → L < T → 1 ≤ t → t ≤ T → f (loopSlack T M ns n t) < one →
-      TruthBit (HoldsKept T (endless T L run) (ruleAt ns n) t) b → natAbs (valueAt xs (loopSlack T M ns n t) -ℤ pos (b * one)) ≤ f (loopSlack T M ns n t)
+  kept-within : (n t : ℕ) (b : Bool) → n < N → loops (nodeAt ns n) ≡ true → L < T → 1 ≤ t → t ≤ T → f (loopSlack T M ns n t) < one →
+      TruthOf (HoldsKept T (endless T L run) (ruleAt ns n) t) b → natAbs (valueAt xs (loopSlack T M ns n t) -ℤ pos (ofTruth b)) ≤ f (loopSlack T M ns n t)
   kept-within n t b h k w l v small bit =
       let iff = kept-holds T L loop run (ruleAt ns n) t l v in
       distance (HoldsKept T (endless T L run) (ruleAt ns n) t) (loopSlack T M ns n t) (f (loopSlack T M ns n t))
@@ -174,10 +170,10 @@ module _ (T M L e : ℕ) (ns : List Node) (xs : List ℤ) (f : ℕ → ℕ) (run
       (near (kept-to-T n t) h k w l v small) b bit
 
 pub passed-is-near : PassedIsNear
-passed-is-near T M L e count carried table ns xs f run loop good length-is figures rounded (is-passed {error} limits binary rows own-figures) = record {
+passed-is-near T M L e count carried table ns xs f run loop good length-is figures rounded (is-passed limits binary rows (error, own-figures, is)) = record {
   within = within T M L e ns xs f run loop (good .nodes) length-is figures rounded limits binary rows;
   kept-within = kept-within T M L e ns xs f run loop (good .nodes) length-is figures rounded limits binary rows;
-  satisfied = satisfied T M L e ns xs error run loop (good .nodes) length-is own-figures rounded limits binary rows (good .some);
+  satisfied = λ low. satisfied T M L e ns xs error run loop (good .nodes) length-is own-figures rounded limits binary rows (good .some) (rw is at low);
 }
 
 -- ---- figures can always be rounded

@@ -59,24 +59,64 @@ module _ (M : ℕ) (text : List ℕ) (room : ℕ) where
     rule-exact : (x : Option Rule) → reading text ≡ x → Exact (ReadRefused M text room) ReadIs (ruleChecked M room x)
     rule-exact none e =
         refuse (ReadRefused M text room) ReadIs 4
-        (λ j. read-from (place 4) (record { two = λ h. m; three = λ h. l; four = λ h. absurd (omega arith); five = λ h. absurd (omega arith); twelve = λ h. absurd (omega arith); six = λ h. absurd (omega arith); eleven = λ h. absurd (omega arith) }))
+        (λ j. read-from (place 4) (record {
+          two = λ h. m;
+          three = λ h. l;
+          four = λ h. absurd (omega arith);
+          five = λ h. absurd (omega arith);
+          twelve = λ h. absurd (omega arith);
+          six = λ h. absurd (omega arith);
+          eleven = λ h. absurd (omega arith);
+        }))
         (ReadRefused.text-refused (TextRefused.no-rule (λ p s. let f = reading-complete text p s in let z : _≡_ {A = ℕ} 0 1 = cc in absurd (omega arith))))
     rule-exact (some p) e =
         let s = reading-sound text p e in
         rung (ReadRefused M text room) ReadIs (atomsBelow M p) 5 _
-        (λ j. read-from (place 5) (record { two = λ h. m; three = λ h. l; four = λ h. (p, s); five = λ h. absurd (omega arith); twelve = λ h. absurd (omega arith); six = λ h. absurd (omega arith); eleven = λ h. absurd (omega arith) }))
+        (λ j. read-from (place 5) (record {
+          two = λ h. m;
+          three = λ h. l;
+          four = λ h. (p, s);
+          five = λ h. absurd (omega arith);
+          twelve = λ h. absurd (omega arith);
+          six = λ h. absurd (omega arith);
+          eleven = λ h. absurd (omega arith);
+        }))
         (λ f. ReadRefused.text-refused (TextRefused.atom-high s (failed (atomsBelow M p) (atoms-true M p .1) f)))
         (λ t. let a = of-one p s (AtomsBelow M) (atoms-true M p .0 (passes (atomsBelow M p) t)) in
         rung (ReadRefused M text room) ReadIs (windowsGood p) 12 _
-        (λ j. read-from (place 12) (record { two = λ h. m; three = λ h. l; four = λ h. (p, s); five = λ h. a; twelve = λ h. absurd (omega arith); six = λ h. absurd (omega arith); eleven = λ h. absurd (omega arith) }))
+        (λ j. read-from (place 12) (record {
+          two = λ h. m;
+          three = λ h. l;
+          four = λ h. (p, s);
+          five = λ h. a;
+          twelve = λ h. absurd (omega arith);
+          six = λ h. absurd (omega arith);
+          eleven = λ h. absurd (omega arith);
+        }))
         (λ f. ReadRefused.text-refused (TextRefused.window-bad s (failed (windowsGood p) (windows-true p .1) f)))
         (λ t. let w = of-one p s WindowsAllowed (windows-true p .0 (passes (windowsGood p) t)) in
         rung (ReadRefused M text room) ReadIs (leb (size p) 128) 6 _
-        (λ j. read-from (place 6) (record { two = λ h. m; three = λ h. l; four = λ h. (p, s); five = λ h. a; twelve = λ h. w; six = λ h. absurd (omega arith); eleven = λ h. absurd (omega arith) }))
+        (λ j. read-from (place 6) (record {
+          two = λ h. m;
+          three = λ h. l;
+          four = λ h. (p, s);
+          five = λ h. a;
+          twelve = λ h. w;
+          six = λ h. absurd (omega arith);
+          eleven = λ h. absurd (omega arith);
+        }))
         (λ f. ReadRefused.text-refused (TextRefused.nodes s (leb-false (size p) 128 f)))
         (λ t. let n = of-one p s (λ q. size q ≤ 128) (leb-true (size p) 128 t) in
         rung (ReadRefused M text room) ReadIs (leb (8 * size p) room) 11 _
-        (λ j. read-from (place 11) (record { two = λ h. m; three = λ h. l; four = λ h. (p, s); five = λ h. a; twelve = λ h. w; six = λ h. n; eleven = λ h. absurd (omega arith) }))
+        (λ j. read-from (place 11) (record {
+          two = λ h. m;
+          three = λ h. l;
+          four = λ h. (p, s);
+          five = λ h. a;
+          twelve = λ h. w;
+          six = λ h. n;
+          eleven = λ h. absurd (omega arith);
+        }))
         (λ f. ReadRefused.short s (leb-false (8 * size p) room f))
         (λ t. let r = of-one p s (λ q. 8 * size q ≤ room) (leb-true (8 * size p) room t) in
         exact-answered (ReadRefused M text room) ReadIs (wrote (size p) (tableBytes (nodesOf p)))
@@ -92,10 +132,28 @@ pub read-exact : ReaderExact readOutcome
 unfolding readOutcome
 read-exact M text room =
     rung (ReadRefused M text room) (ReadIs M text room) (between 1 16 M) 2 _
-    (λ j. read-from M text room (place 2) (record { two = λ h. absurd (omega arith); three = λ h. absurd (omega arith); four = λ h. absurd (omega arith); five = λ h. absurd (omega arith); twelve = λ h. absurd (omega arith); six = λ h. absurd (omega arith); eleven = λ h. absurd (omega arith) }))
+    (λ j. read-from M text room (place 2)
+    (record {
+      two = λ h. absurd (omega arith);
+      three = λ h. absurd (omega arith);
+      four = λ h. absurd (omega arith);
+      five = λ h. absurd (omega arith);
+      twelve = λ h. absurd (omega arith);
+      six = λ h. absurd (omega arith);
+      eleven = λ h. absurd (omega arith);
+    }))
     (λ f. ReadRefused.text-refused (TextRefused.atoms (between-false 1 16 M f)))
     (λ t. let m = between-true 1 16 M t in
     rung (ReadRefused M text room) (ReadIs M text room) (leb (length text) 1024) 3 _
-    (λ j. read-from M text room (place 3) (record { two = λ h. m; three = λ h. absurd (omega arith); four = λ h. absurd (omega arith); five = λ h. absurd (omega arith); twelve = λ h. absurd (omega arith); six = λ h. absurd (omega arith); eleven = λ h. absurd (omega arith) }))
+    (λ j. read-from M text room (place 3)
+    (record {
+      two = λ h. m;
+      three = λ h. absurd (omega arith);
+      four = λ h. absurd (omega arith);
+      five = λ h. absurd (omega arith);
+      twelve = λ h. absurd (omega arith);
+      six = λ h. absurd (omega arith);
+      eleven = λ h. absurd (omega arith);
+    }))
     (λ f. ReadRefused.text-refused (TextRefused.long (leb-false (length text) 1024 f)))
     (λ t. rule-exact M text room m (leb-true (length text) 1024 t) (reading text) refl))

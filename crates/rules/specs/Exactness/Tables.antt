@@ -52,7 +52,8 @@ module _ (T M L : ℕ) (table : List ℕ) where
         (before-8 (place 2) (omega arith) (λ h. s) (λ h. absurd (omega arith)) (λ h. absurd (omega arith)) (λ h. absurd (omega arith)))
         (λ e. up 2 (TableRefused.atoms (between-false 1 16 M e)))
         (λ e. let m = between-true 1 16 M e in
-        rung Refused AnswerIs (between 1 T L) 13 _ (before-8 (place 13) (omega arith) (λ h. s) (λ h. m) (λ h. absurd (omega arith)) (λ h. absurd (omega arith)))
+        rung Refused AnswerIs (between 1 T L) 13 _
+        (before-8 (place 13) (omega arith) (λ h. s) (λ h. m) (λ h. absurd (omega arith)) (λ h. absurd (omega arith)))
         (λ e. up 13 (TableRefused.loop (between-false 1 T L e)))
         (λ e. let l = between-true 1 T L e in
         rung Refused AnswerIs (good M table) 7 rest (before-8 (place 7) (omega arith) (λ h. s) (λ h. m) (λ h. l) (λ h. absurd (omega arith)))

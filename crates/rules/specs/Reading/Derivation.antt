@@ -9,17 +9,22 @@ use Rattle.rules.specs.Rule.Binary.{and, or, implies, until}
 use Rattle.rules.specs.Grammar.{Level, tighter, sign}
 use Rattle.rules.specs.Grammar.Level.{of, single}
 use Rattle.rules.specs.Reading.Lexer.{Token, tokenAt, signAt, sign-other}
-use Rattle.rules.specs.Reading.Parser.{Parsed, Start, startOf, join, goOn, pair, closeAt, close, apply, Spanned, spanAt, opens, windowOf, applyWindow, overSpan, operate, begin, lead, rank, rank-tighter, parse, measure, parsed, single-law, pair-law}
+use Rattle.rules.specs.Reading.Parser.{Parsed, Start, startOf, join, goOn, pair, closeAt, close, apply, Spanned, spanAt, opens, windowOf}
+use Rattle.rules.specs.Reading.Parser.{applyWindow, overSpan, operate, begin, lead, rank, rank-tighter, parse, measure, parsed, single-law}
+use Rattle.rules.specs.Reading.Parser.{pair-law}
 
 -- the text s from one position to another is a phrase of a level, and says a rule
 pub data Derives (s : List ℕ) : Level → ℕ → ℕ → Rule → Type 0 where
   alone : {o : Binary} {at next : ℕ} {p : Rule} → Derives s (tighter o) at next p → Derives s (of o) at next p
-  joined : {o : Binary} {at next q end : ℕ} {p r : Rule} → Derives s (tighter o) at next p → signAt s next (sign o) ≡ suc q → Derives s (of o) (suc q) end r → Derives s (of o) at end (Rule.binary o p r)
+  joined : {o : Binary} {at next q end : ℕ} {p r : Rule} → Derives s (tighter o) at next p → signAt s next (sign o) ≡ suc q → Derives s (of o) (suc q) end r →
+      Derives s (of o) at end (Rule.binary o p r)
   number : {a at next : ℕ} → tokenAt s at ≡ Token.atom a next → Derives s single at next (Rule.atom a)
-  prefixed : {b at next end : ℕ} {u : Unary} {p : Rule} → tokenAt s at ≡ Token.sign b next → startOf b ≡ Start.operator u → opens u s next ≡ 0 → Derives s single next end p → Derives s single at end (Rule.unary u p)
+  prefixed : {b at next end : ℕ} {u : Unary} {p : Rule} → tokenAt s at ≡ Token.sign b next → startOf b ≡ Start.operator u → opens u s next ≡ 0 →
+      Derives s single next end p → Derives s single at end (Rule.unary u p)
   timed : {b at next q i j past end : ℕ} {u : Unary} {p : Rule} → tokenAt s at ≡ Token.sign b next → startOf b ≡ Start.operator u → opens u s next ≡ suc q →
       spanAt s (suc q) ≡ Spanned.span i j past → Derives s single past end p → Derives s single at end (Rule.windowed (windowOf u) i j p)
-  bracket : {b at next end q : ℕ} {p : Rule} → tokenAt s at ≡ Token.sign b next → startOf b ≡ Start.bracket → Derives s (of implies) next end p → signAt s end 41 ≡ suc q → Derives s single at (suc q) p
+  bracket : {b at next end q : ℕ} {p : Rule} → tokenAt s at ≡ Token.sign b next → startOf b ≡ Start.bracket → Derives s (of implies) next end p →
+      signAt s end 41 ≡ suc q → Derives s single at (suc q) p
 
 -- ---- sound
 
@@ -28,11 +33,13 @@ Sound s l at Parsed.fail = Unit {0}
 Sound s l at (Parsed.part p next) = Derives s l at next p
 
 module _ (s : List ℕ) (at : ℕ) where
-  join-sound : (o : Binary) (p : Rule) (next q : ℕ) (x : Parsed) → Derives s (tighter o) at next p → signAt s next (sign o) ≡ suc q → Sound s (of o) (suc q) x → Sound s (of o) at (join o p x)
+  join-sound : (o : Binary) (p : Rule) (next q : ℕ) (x : Parsed) → Derives s (tighter o) at next p → signAt s next (sign o) ≡ suc q →
+      Sound s (of o) (suc q) x → Sound s (of o) at (join o p x)
   join-sound o p next q Parsed.fail h e k = tt
   join-sound o p next q (Parsed.part r end) h e k = joined h e k
 
-  goOn-sound : (o : Binary) (p : Rule) (next x : ℕ) (g : ℕ → Parsed) → Derives s (tighter o) at next p → signAt s next (sign o) ≡ x → ((q : ℕ) → Sound s (of o) q (g q)) → Sound s (of o) at (goOn o p next x g)
+  goOn-sound : (o : Binary) (p : Rule) (next x : ℕ) (g : ℕ → Parsed) → Derives s (tighter o) at next p → signAt s next (sign o) ≡ x →
+      ((q : ℕ) → Sound s (of o) q (g q)) → Sound s (of o) at (goOn o p next x g)
   goOn-sound o p next zero g h e k = alone h
   goOn-sound o p next (suc q) g h e k = join-sound o p next q (g (suc q)) h e (k (suc q))
 
@@ -41,7 +48,8 @@ module _ (s : List ℕ) (at : ℕ) where
   pair-sound o (Parsed.part p next) g h k = goOn-sound o p next (signAt s next (sign o)) g h refl k
 
   module _ (b next : ℕ) (token-is : tokenAt s at ≡ Token.sign b next) where
-    closeAt-sound : (p : Rule) (end x : ℕ) → startOf b ≡ Start.bracket → Derives s (of implies) next end p → signAt s end 41 ≡ x → Sound s single at (closeAt p x)
+    closeAt-sound : (p : Rule) (end x : ℕ) → startOf b ≡ Start.bracket → Derives s (of implies) next end p → signAt s end 41 ≡ x →
+        Sound s single at (closeAt p x)
     closeAt-sound p end zero f h e = tt
     closeAt-sound p end (suc q) f h e = bracket token-is f h e
 
@@ -53,24 +61,29 @@ module _ (s : List ℕ) (at : ℕ) where
     apply-sound u Parsed.fail f o h = tt
     apply-sound u (Parsed.part p end) f o h = prefixed token-is f o h
 
-    window-sound : (u : Unary) (q i j past : ℕ) (x : Parsed) → startOf b ≡ Start.operator u → opens u s next ≡ suc q → spanAt s (suc q) ≡ Spanned.span i j past → Sound s single past x → Sound s single at (applyWindow (windowOf u) i j x)
+    window-sound : (u : Unary) (q i j past : ℕ) (x : Parsed) → startOf b ≡ Start.operator u → opens u s next ≡ suc q →
+        spanAt s (suc q) ≡ Spanned.span i j past → Sound s single past x → Sound s single at (applyWindow (windowOf u) i j x)
     window-sound u q i j past Parsed.fail f o e h = tt
     window-sound u q i j past (Parsed.part p end) f o e h = timed token-is f o e h
 
-    span-sound : (u : Unary) (q : ℕ) (x : Spanned) (f : ℕ → Parsed) → startOf b ≡ Start.operator u → opens u s next ≡ suc q → spanAt s (suc q) ≡ x → ((q : ℕ) → Sound s single q (f q)) → Sound s single at (overSpan (windowOf u) x f)
+    span-sound : (u : Unary) (q : ℕ) (x : Spanned) (f : ℕ → Parsed) → startOf b ≡ Start.operator u → opens u s next ≡ suc q → spanAt s (suc q) ≡ x →
+        ((q : ℕ) → Sound s single q (f q)) → Sound s single at (overSpan (windowOf u) x f)
     span-sound u q Spanned.fail f e o k h = tt
     span-sound u q (Spanned.span i j past) f e o k h = window-sound u q i j past (f past) e o k (h past)
 
-    operate-sound : (u : Unary) (x : ℕ) (f : ℕ → Parsed) → startOf b ≡ Start.operator u → opens u s next ≡ x → ((q : ℕ) → Sound s single q (f q)) → Sound s single at (operate u s next x f)
+    operate-sound : (u : Unary) (x : ℕ) (f : ℕ → Parsed) → startOf b ≡ Start.operator u → opens u s next ≡ x → ((q : ℕ) → Sound s single q (f q)) →
+        Sound s single at (operate u s next x f)
     operate-sound u zero f e o h = apply-sound u (f next) e o (h next)
     operate-sound u (suc q) f e o h = span-sound u q (spanAt s (suc q)) f e o refl h
 
-    begin-sound : (x : Start) (f g : ℕ → Parsed) → startOf b ≡ x → ((q : ℕ) → Sound s single q (f q)) → ((q : ℕ) → Sound s (of implies) q (g q)) → Sound s single at (begin s next x f g)
+    begin-sound : (x : Start) (f g : ℕ → Parsed) → startOf b ≡ x → ((q : ℕ) → Sound s single q (f q)) → ((q : ℕ) → Sound s (of implies) q (g q)) →
+        Sound s single at (begin s next x f g)
     begin-sound Start.bracket f g e h k = close-sound (g next) e (k next)
     begin-sound (Start.operator u) f g e h k = operate-sound u (opens u s next) f e refl h
     begin-sound Start.nothing f g e h k = tt
 
-  lead-sound : (t : Token) (f g : ℕ → Parsed) → tokenAt s at ≡ t → ((q : ℕ) → Sound s single q (f q)) → ((q : ℕ) → Sound s (of implies) q (g q)) → Sound s single at (lead s t f g)
+  lead-sound : (t : Token) (f g : ℕ → Parsed) → tokenAt s at ≡ t → ((q : ℕ) → Sound s single q (f q)) → ((q : ℕ) → Sound s (of implies) q (g q)) →
+      Sound s single at (lead s t f g)
   lead-sound Token.none f g e h k = tt
   lead-sound (Token.atom a next) f g e h k = number e
   lead-sound (Token.sign b next) f g e h k = begin-sound b next e (startOf b) f g refl h k
@@ -128,7 +141,8 @@ complete {s} (alone {o} {at} {next} {p} d) stops =
     ∙ ap (λ (x : ℕ). goOn o p next x (parsed (of o) s)) (stops o (le-refl (rank (of o))))
 complete {s} (joined {o} {at} {next} {q} {end} {p} {r} d e f) stops =
     pair-law o s at
-    ∙ ap (λ (x : Parsed). pair o s x (parsed (of o) s)) (complete d (λ i h. sign-other s next (sign o) (sign i) q (sign-apart o i (omega (arith, rank-tighter o))) e))
+    ∙ ap (λ (x : Parsed). pair o s x (parsed (of o) s))
+    (complete d (λ i h. sign-other s next (sign o) (sign i) q (sign-apart o i (omega (arith, rank-tighter o))) e))
     ∙ ap (λ (x : ℕ). goOn o p next x (parsed (of o) s)) e
     ∙ ap (join o p) (complete f stops)
 complete {s} (number {a} {at} {next} e) stops = single-law s at ∙ ap (λ (t : Token). lead s t (parsed single s) (parsed (of implies) s)) e

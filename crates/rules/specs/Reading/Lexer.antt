@@ -200,7 +200,8 @@ is-token : (s : List ℕ) (p : ℕ) → Is s p (tokenFrom s p)
 is-token s p =
     let other = Token.sign (getD s p 0) (p + 1) in
     is-cond s p (ltb p (length s)) (cond (eqb (getD s p 0) 97) (atomAt s (p + 1)) other) Token.none
-    (λ h. is-cond s p (eqb (getD s p 0) 97) (atomAt s (p + 1)) other (λ e. is-atom s p (ltb-true p (length s) h) (eqb-true (getD s p 0) 97 e)) (λ e. record { inside = ltb-true p (length s) h; byte = refl; past = refl }))
+    (λ h. is-cond s p (eqb (getD s p 0) 97) (atomAt s (p + 1)) other (λ e. is-atom s p (ltb-true p (length s) h) (eqb-true (getD s p 0) 97 e))
+    (λ e. record { inside = ltb-true p (length s) h; byte = refl; past = refl }))
     (λ h. tt)
 
 pub sign-is : (s : List ℕ) (at b next : ℕ) → tokenAt s at ≡ Token.sign b next → IsSign s (start s at) b next
@@ -234,7 +235,8 @@ number-ends s at a next e =
     omega (arith, g .past, g .numeric .one-up, digits-le (drop (start s at) s), length-drop (start s at) s)
 
 -- the number where its digits begin at p
-pub number-at : (s : List ℕ) (at p : ℕ) → p ≡ start s at → Numeric (digits (drop p s)) (getD s p 0) → numberAt s at ≡ Token.atom (value 0 (drop p s)) (p + digits (drop p s))
+pub number-at : (s : List ℕ) (at p : ℕ) → p ≡ start s at → Numeric (digits (drop p s)) (getD s p 0) →
+    numberAt s at ≡ Token.atom (value 0 (drop p s)) (p + digits (drop p s))
 unfolding numberAt
 number-at s at p e n = ap (atomAt s) (sym e) ∙ rw (numeral-is (digits (drop p s)) (getD s p 0) n) refl
 
@@ -273,7 +275,8 @@ module _ (s : List ℕ) (at p : ℕ) (past : p ≡ start s at) where
   pub token-bad : p < length s → getD s p 0 ≡ 97 → isNumeral (digits (drop (p + 1) s)) (getD s (p + 1) 0) ≡ false → tokenAt s at ≡ Token.none
   token-bad h e f = token-letter h e ∙ rw f refl
 
-  pub token-atom : p < length s → getD s p 0 ≡ 97 → Numeric (digits (drop (p + 1) s)) (getD s (p + 1) 0) → tokenAt s at ≡ Token.atom (value 0 (drop (p + 1) s)) (p + 1 + digits (drop (p + 1) s))
+  pub token-atom : p < length s → getD s p 0 ≡ 97 → Numeric (digits (drop (p + 1) s)) (getD s (p + 1) 0) →
+      tokenAt s at ≡ Token.atom (value 0 (drop (p + 1) s)) (p + 1 + digits (drop (p + 1) s))
   token-atom h e f = token-letter h e ∙ rw (numeral-is (digits (drop (p + 1) s)) (getD s (p + 1) 0) f) refl
 
 -- ---- signs

@@ -21,7 +21,8 @@ first-digit : (c n m : ℕ) (b : Bool) → isDigit c ≡ b → cond b (suc n) 0 
 first-digit c n m true e h = (e, omega arith)
 first-digit c n m false e h = absurd (omega arith)
 
-pub digits-append : (ds rest : List ℕ) (v : ℕ) → digits ds ≡ length ds → (digits (ds ++ rest) ≡ length ds + digits rest) × (value v (ds ++ rest) ≡ value (value v ds) rest)
+pub digits-append : (ds rest : List ℕ) (v : ℕ) → digits ds ≡ length ds →
+    (digits (ds ++ rest) ≡ length ds + digits rest) × (value v (ds ++ rest) ≡ value (value v ds) rest)
 unfolding digits value
 digits-append [] rest v h = (omega arith, refl)
 digits-append (c ∷ ds) rest v h =
@@ -45,7 +46,8 @@ pub record Front (l : List ℕ) (v : ℕ) : Type 0 where
   pub number : value v (take (digits l) l) ≡ value v l
 
 front-step : (c : ℕ) (l : List ℕ) (v : ℕ) (b : Bool) → isDigit c ≡ b → Front l (10 * v + (c - 48))
-    → (digits (take (cond b (suc (digits l)) 0) (c ∷ l)) ≡ cond b (suc (digits l)) 0) × (value v (take (cond b (suc (digits l)) 0) (c ∷ l)) ≡ cond b (value (10 * v + (c - 48)) l) v)
+    → (digits (take (cond b (suc (digits l)) 0) (c ∷ l)) ≡ cond b (suc (digits l)) 0) ×
+    (value v (take (cond b (suc (digits l)) 0) (c ∷ l)) ≡ cond b (value (10 * v + (c - 48)) l) v)
 unfolding digits value
 front-step c l v true e h = rw e (ap suc (h .count), h .number)
 front-step c l v false e h = (refl, refl)
@@ -102,8 +104,10 @@ extend front (c ∷ ds) n m l h =
     let k = first-digit c (digits ds) (length ds) (isDigit c) refl h in
     let b = digit-true c (k .0) in
     let e : 48 + (c - 48) ≡ c = omega arith in
-    let longer : Numeral (front ++ (c ∷ [])) (10 * n + (c - 48)) = subst (λ (x : ℕ). Numeral (front ++ (x ∷ [])) (10 * n + (c - 48))) e (more m l (omega arith)) in
-    rw (k .0) (subst (λ (x : List ℕ). Numeral x (value (10 * n + (c - 48)) ds)) (append-assoc front (c ∷ []) ds) (extend (front ++ (c ∷ [])) ds (10 * n + (c - 48)) longer (omega arith) (k .1)))
+    let longer : Numeral (front ++ (c ∷ [])) (10 * n + (c - 48)) =
+    subst (λ (x : ℕ). Numeral (front ++ (x ∷ [])) (10 * n + (c - 48))) e (more m l (omega arith)) in
+    rw (k .0) (subst (λ (x : List ℕ). Numeral x (value (10 * n + (c - 48)) ds)) (append-assoc front (c ∷ []) ds)
+    (extend (front ++ (c ∷ [])) ds (10 * n + (c - 48)) longer (omega arith) (k .1)))
 
 lone : (c : ℕ) → isDigit c ≡ true → Numeral (c ∷ []) (c - 48)
 lone c h =

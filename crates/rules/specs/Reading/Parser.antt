@@ -185,7 +185,8 @@ module _ (s : List ℕ) (at a b next : ℕ) where
   no-span : Clash Spanned.fail → IsSpan s at a b next
   no-span h = let z : _≡_ {A = ℕ} 0 1 = cc in absurd (omega arith)
 
-  end-span : (i c q j : ℕ) (x y : ℕ) → numberAt s at ≡ Token.atom i c → signAt s c 44 ≡ suc q → numberAt s (suc q) ≡ Token.atom j x → signAt s x 93 ≡ y → Clash (endSpan i j y) → IsSpan s at a b next
+  end-span : (i c q j : ℕ) (x y : ℕ) → numberAt s at ≡ Token.atom i c → signAt s c 44 ≡ suc q → numberAt s (suc q) ≡ Token.atom j x → signAt s x 93 ≡ y →
+      Clash (endSpan i j y) → IsSpan s at a b next
   end-span i c q j x zero e f g k h = no-span h
   end-span i c q j x (suc r) e f g k h =
       let u : i ≡ a = cc in
@@ -203,7 +204,8 @@ module _ (s : List ℕ) (at a b next : ℕ) where
         past = sym w;
       }
 
-  second-span : (i c q : ℕ) (t : Token) → numberAt s at ≡ Token.atom i c → signAt s c 44 ≡ suc q → numberAt s (suc q) ≡ t → Clash (secondNumber s i t) → IsSpan s at a b next
+  second-span : (i c q : ℕ) (t : Token) → numberAt s at ≡ Token.atom i c → signAt s c 44 ≡ suc q → numberAt s (suc q) ≡ t → Clash (secondNumber s i t) →
+      IsSpan s at a b next
   second-span i c q Token.none e f g h = no-span h
   second-span i c q (Token.sign d x) e f g h = no-span h
   second-span i c q (Token.atom j x) e f g h = end-span i c q j x (signAt s x 93) e f g refl h
@@ -260,7 +262,8 @@ module _ (s : List ℕ) (at : ℕ) where
   join-within o p next q Parsed.fail h b k = tt
   join-within o p next q (Parsed.part r end) h b k = record { low = omega arith; high = k .high }
 
-  goOn-within : (o : Binary) (p : Rule) (next x : ℕ) (g : ℕ → Parsed) → Within s at p next → signAt s next (sign o) ≡ x → ((q : ℕ) → Bounded s q (g q)) → Bounded s at (goOn o p next x g)
+  goOn-within : (o : Binary) (p : Rule) (next x : ℕ) (g : ℕ → Parsed) → Within s at p next → signAt s next (sign o) ≡ x → ((q : ℕ) → Bounded s q (g q)) →
+      Bounded s at (goOn o p next x g)
   goOn-within o p next zero g h e k = h
   goOn-within o p next (suc q) g h e k = join-within o p next (suc q) (g (suc q)) h (sign-ends s next (sign o) q e .0) (k (suc q))
 
@@ -290,11 +293,14 @@ module _ (s : List ℕ) (at : ℕ) where
   span-within w q Spanned.fail f l e h = tt
   span-within w q (Spanned.span a b end) f l e h = window-within w a b end (f end) (omega (arith, span-ends s q a b end e)) (h end)
 
-  operate-within : (u : Unary) (next x : ℕ) (f : ℕ → Parsed) → at < next → opens u s next ≡ x → ((q : ℕ) → Bounded s q (f q)) → Bounded s at (operate u s next x f)
+  operate-within : (u : Unary) (next x : ℕ) (f : ℕ → Parsed) → at < next → opens u s next ≡ x → ((q : ℕ) → Bounded s q (f q)) →
+      Bounded s at (operate u s next x f)
   operate-within u next zero f l e h = apply-within u next (f next) l (h next)
-  operate-within u next (suc q) f l e h = span-within (windowOf u) (suc q) (spanAt s (suc q)) f (omega (arith, sign-ends s next 91 q (opens-sign u s next q e))) refl h
+  operate-within u next (suc q) f l e h =
+      span-within (windowOf u) (suc q) (spanAt s (suc q)) f (omega (arith, sign-ends s next 91 q (opens-sign u s next q e))) refl h
 
-  begin-within : (next : ℕ) (x : Start) (f g : ℕ → Parsed) → at < next → ((q : ℕ) → Bounded s q (f q)) → ((q : ℕ) → Bounded s q (g q)) → Bounded s at (begin s next x f g)
+  begin-within : (next : ℕ) (x : Start) (f g : ℕ → Parsed) → at < next → ((q : ℕ) → Bounded s q (f q)) → ((q : ℕ) → Bounded s q (g q)) →
+      Bounded s at (begin s next x f g)
   begin-within next Start.bracket f g b h k = close-within next (g next) b (k next)
   begin-within next (Start.operator u) f g b h k = operate-within u next (opens u s next) f b refl h
   begin-within next Start.nothing f g b h k = tt
@@ -321,7 +327,8 @@ abbrev Same : List ℕ → ℕ → (ℕ → Parsed) → (ℕ → Parsed) → Typ
 Same s at f g = (q : ℕ) → at < q → q ≤ length s → f q ≡ g q
 
 module _ (s : List ℕ) (at : ℕ) where
-  goOn-same : (o : Binary) (p : Rule) (next x : ℕ) (f g : ℕ → Parsed) → Within s at p next → signAt s next (sign o) ≡ x → Same s at f g → goOn o p next x f ≡ goOn o p next x g
+  goOn-same : (o : Binary) (p : Rule) (next x : ℕ) (f g : ℕ → Parsed) → Within s at p next → signAt s next (sign o) ≡ x → Same s at f g →
+      goOn o p next x f ≡ goOn o p next x g
   goOn-same o p next zero f g h e k = refl
   goOn-same o p next (suc q) f g h e k =
       let b = sign-ends s next (sign o) q e in
@@ -337,12 +344,14 @@ module _ (s : List ℕ) (at : ℕ) where
       let k = span-ends s q a b end e in
       ap (applyWindow w a b) (h end (omega arith) (k .1))
 
-  operate-same : (u : Unary) (next x : ℕ) (f g : ℕ → Parsed) → (at < next) × (next ≤ length s) → opens u s next ≡ x → Same s at f g → operate u s next x f ≡ operate u s next x g
+  operate-same : (u : Unary) (next x : ℕ) (f g : ℕ → Parsed) → (at < next) × (next ≤ length s) → opens u s next ≡ x → Same s at f g →
+      operate u s next x f ≡ operate u s next x g
   operate-same u next zero f g b e h = ap (apply u) (h next (b .0) (b .1))
   operate-same u next (suc q) f g b e h =
       span-same (windowOf u) (suc q) (spanAt s (suc q)) f g (omega (arith, sign-ends s next 91 q (opens-sign u s next q e))) refl h
 
-  begin-same : (next : ℕ) (x : Start) (f f′ g g′ : ℕ → Parsed) → (at < next) × (next ≤ length s) → Same s at f f′ → Same s at g g′ → begin s next x f g ≡ begin s next x f′ g′
+  begin-same : (next : ℕ) (x : Start) (f f′ g g′ : ℕ → Parsed) → (at < next) × (next ≤ length s) → Same s at f f′ → Same s at g g′ →
+      begin s next x f g ≡ begin s next x f′ g′
   begin-same next Start.bracket f f′ g g′ b h k = ap (close s) (k next (b .0) (b .1))
   begin-same next (Start.operator u) f f′ g g′ b h k = operate-same u next (opens u s next) f f′ b refl h
   begin-same next Start.nothing f f′ g g′ b h k = refl
@@ -366,19 +375,22 @@ stable (suc k) (suc m) (of o) s at h i =
 
 -- ---- the laws, without a count of calls
 
-single-unfold : (s : List ℕ) (at k : ℕ) → measure single s at ≡ suc k → parse (suc k) single s at ≡ lead s (tokenAt s at) (parsed single s) (parsed (of implies) s)
+single-unfold : (s : List ℕ) (at k : ℕ) → measure single s at ≡ suc k →
+    parse (suc k) single s at ≡ lead s (tokenAt s at) (parsed single s) (parsed (of implies) s)
 unfolding parse parsed
 single-unfold s at k e =
     lead-same s at (tokenAt s at) _ _ _ _ (token-ends s at)
     (λ q lo hi. stable k (measure single s q) single s q (omega arith) (omega arith))
     (λ q lo hi. stable k (measure (of implies) s q) (of implies) s q (omega arith) (omega arith))
 
-pair-unfold : (o : Binary) (s : List ℕ) (at k : ℕ) → measure (of o) s at ≡ suc k → parse (suc k) (of o) s at ≡ pair o s (parsed (tighter o) s at) (parsed (of o) s)
+pair-unfold : (o : Binary) (s : List ℕ) (at k : ℕ) → measure (of o) s at ≡ suc k →
+    parse (suc k) (of o) s at ≡ pair o s (parsed (tighter o) s at) (parsed (of o) s)
 unfolding parse parsed
 pair-unfold o s at k e =
     let m = measure (tighter o) s at in
     ap (λ (x : Parsed). pair o s x (λ q. parse k (of o) s q)) (stable k m (tighter o) s at (omega (arith, rank-tighter o)) (omega arith))
-    ∙ pair-same s at o (parse m (tighter o) s at) _ _ (parse-within m (tighter o) s at) (λ q lo hi. stable k (measure (of o) s q) (of o) s q (omega arith) (omega arith))
+    ∙ pair-same s at o (parse m (tighter o) s at) _ _ (parse-within m (tighter o) s at)
+    (λ q lo hi. stable k (measure (of o) s q) (of o) s q (omega arith) (omega arith))
 
 one-call : (l : Level) (s : List ℕ) (at : ℕ) → measure l s at ≡ suc (measure l s at - 1)
 one-call l s at = omega (arith, rank-bounds l)

@@ -17,7 +17,9 @@ use Rattle.rules.specs.Rule.Binary.{and, or, implies, until}
 use Rattle.rules.specs.Rule.Window.{within, throughout}
 use Rattle.rules.specs.Grammar.{Level, Numeral, Number, Span, Phrase, sign, prefix, letter}
 use Rattle.rules.specs.Grammar.Level.{of, single}
-use Rattle.rules.specs.Reading.Lexer.{Token, spaces, digits, value, isDigit, digit-true, start, tokenFrom, tokenAt, signAt, numberAt, atomAt, Numeric, IsAtom, pastSign, number-is, number-at, token-sign, token-atom, token-past, sign-token, sign-is, atom-is, digits-le}
+use Rattle.rules.specs.Reading.Lexer.{Token, spaces, digits, value, isDigit, digit-true, start, tokenFrom, tokenAt, signAt, numberAt, atomAt}
+use Rattle.rules.specs.Reading.Lexer.{Numeric, IsAtom, pastSign, number-is, number-at, token-sign, token-atom, token-past, sign-token, sign-is}
+use Rattle.rules.specs.Reading.Lexer.{atom-is, digits-le}
 use Rattle.rules.specs.Reading.Numerals.{digits-append, value-none, front, numeral-run, run-numeral}
 use Rattle.rules.specs.Reading.Parser.{Start, startOf, starting, unaryOf, Spanned, spanAt, opens, windowOf, opens-sign, span-is, is-span}
 use Rattle.rules.specs.Reading.Derivation.{Derives}
@@ -75,7 +77,8 @@ numeral-no-space [] rest h l = absurd (omega arith)
 numeral-no-space (c ∷ ds) rest h l = no-space c (ds ++ rest) (first-no-space c (digits ds) ds (isDigit c) refl h)
 
 -- the letter a and a numeral, with no digit behind, are an atom
-atom-here : (s : List ℕ) (at : ℕ) (ds rest : List ℕ) (a : ℕ) → drop at s ≡ 97 ∷ (ds ++ rest) → digits rest ≡ 0 → Numeral ds a → tokenAt s at ≡ Token.atom a (at + 1 + length ds)
+atom-here : (s : List ℕ) (at : ℕ) (ds rest : List ℕ) (a : ℕ) → drop at s ≡ 97 ∷ (ds ++ rest) → digits rest ≡ 0 → Numeral ds a →
+    tokenAt s at ≡ Token.atom a (at + 1 + length ds)
 atom-here s at ds rest a e z n =
     let r = numeral-run n in
     let f : drop (at + 1) s ≡ ds ++ rest = ap (λ (k : ℕ). drop k s) (add-one at) ∙ drop-next s at 97 (ds ++ rest) e in
@@ -89,7 +92,8 @@ atom-here s at ds rest a e z n =
     ∙ ap (λ (x : ℕ). Token.atom x (at + 1 + digits (drop (at + 1) s))) val ∙ ap (λ (x : ℕ). Token.atom a (at + 1 + x)) len
 
 -- a numeral, with no digit behind, is a number
-numeral-here : (s : List ℕ) (at : ℕ) (ds rest : List ℕ) (a : ℕ) → drop at s ≡ ds ++ rest → digits rest ≡ 0 → Numeral ds a → numberAt s at ≡ Token.atom a (at + length ds)
+numeral-here : (s : List ℕ) (at : ℕ) (ds rest : List ℕ) (a : ℕ) → drop at s ≡ ds ++ rest → digits rest ≡ 0 → Numeral ds a →
+    numberAt s at ≡ Token.atom a (at + length ds)
 numeral-here s at ds rest a e z n =
     let r = numeral-run n in
     let k = digits-append ds rest 0 (r .all) in
@@ -231,7 +235,8 @@ window-plain : (w : Window) → windowOf (plain w) ≡ w
 window-plain within = refl
 window-plain throughout = refl
 
-pub placed : {l : Level} {w : List ℕ} {p : Rule} → Phrase l w p → (s : List ℕ) (at : ℕ) (rest : List ℕ) → drop at s ≡ w ++ rest → digits rest ≡ 0 → Placed s l at (at + length w) p
+pub placed : {l : Level} {w : List ℕ} {p : Rule} → Phrase l w p → (s : List ℕ) (at : ℕ) (rest : List ℕ) → drop at s ≡ w ++ rest → digits rest ≡ 0 →
+    Placed s l at (at + length w) p
 placed (Phrase.alone d) s at rest e z =
     let g = placed d s at rest e z in
     record { next = g .next; derives = Derives.alone (g .derives); ends = g .ends }
@@ -251,7 +256,12 @@ placed (Phrase.number {ds} {a} n) s at rest e z =
 placed (Phrase.prefixed {u} {s = w} {p} d) s at rest e z =
     let k = prefix-sign u in
     let g = placed d s (suc at) rest (drop-next s at (prefix u) (w ++ rest) e) z in
-    record { next = g .next; derives = Derives.prefixed (sign-here s at (prefix u) (w ++ rest) e (k .0) (k .1)) (k .2) (no-window u s (suc at) (single-open (g .derives))) (g .derives); ends = g .ends ∙ ap (start s) (omega arith) }
+    record {
+      next = g .next;
+      derives = Derives.prefixed (sign-here s at (prefix u) (w ++ rest) e (k .0) (k .1)) (k .2)
+          (no-window u s (suc at) (single-open (g .derives))) (g .derives);
+      ends = g .ends ∙ ap (start s) (omega arith);
+    }
 placed (Phrase.timed {w = i} {s = x} {t = y} {a} {b} {p} m d) s at rest e z =
     let k = letter-sign i in
     let e₀ : drop at s ≡ letter i ∷ (x ++ (y ++ rest)) = e ∙ ap (λ (l : List ℕ). letter i ∷ l) (append-assoc x y rest) in
@@ -271,17 +281,26 @@ placed (Phrase.bracket {s = w} {p} d) s at rest e z =
     let e₂ = drop-past s (suc at) w (41 ∷ rest) e₁ in
     record {
       next = suc (suc at + length w);
-      derives = Derives.bracket (sign-here s at 40 (w ++ (41 ∷ rest)) e₀ (omega arith) (omega arith)) refl (g .derives) (sign-from s (g .next) (suc at + length w) 41 rest e₂ (omega arith) (omega arith) (g .ends));
+      derives = Derives.bracket (sign-here s at 40 (w ++ (41 ∷ rest)) e₀ (omega arith) (omega arith)) refl (g .derives)
+          (sign-from s (g .next) (suc at + length w) 41 rest e₂ (omega arith) (omega arith) (g .ends));
       ends = ap (start s) (omega (arith, length-append w (41 ∷ [])));
     }
 placed (Phrase.space-before {s = w} {p} d) s at rest e z =
     let g = placed d s (suc at) rest (drop-next s at 32 (w ++ rest) e) z in
-    record { next = g .next; derives = shift (g .derives) at (token-start s at (suc at) (start-later s at (w ++ rest) e)); ends = g .ends ∙ ap (start s) (omega arith) }
+    record {
+      next = g .next;
+      derives = shift (g .derives) at (token-start s at (suc at) (start-later s at (w ++ rest) e));
+      ends = g .ends ∙ ap (start s) (omega arith);
+    }
 placed (Phrase.space-after {s = w} {p} d) s at rest e z =
     let e₁ : drop at s ≡ w ++ (32 ∷ rest) = e ∙ append-assoc w (32 ∷ []) rest in
     let g = placed d s at (32 ∷ rest) e₁ (no-digit rest .1) in
     let e₂ = drop-past s at w (32 ∷ rest) e₁ in
-    record { next = g .next; derives = g .derives; ends = g .ends ∙ start-later s (at + length w) rest e₂ ∙ ap (start s) (omega (arith, length-append w (32 ∷ []))) }
+    record {
+      next = g .next;
+      derives = g .derives;
+      ends = g .ends ∙ start-later s (at + length w) rest e₂ ∙ ap (start s) (omega (arith, length-append w (32 ∷ [])));
+    }
 
 -- ---- spaces about a phrase of any level
 
@@ -297,7 +316,8 @@ before (Phrase.space-after d) = Phrase.space-before (Phrase.space-after d)
 
 after : {l : Level} {w : List ℕ} {p : Rule} → Phrase l w p → Phrase l (w ++ (32 ∷ [])) p
 after (Phrase.alone d) = Phrase.alone (after d)
-after (Phrase.joined {o} {s = x} {t = y} {p} {q} d f) = subst (λ (w : List ℕ). Phrase (of o) w (Rule.binary o p q)) (sym (append-assoc x (sign o ∷ y) (32 ∷ []))) (Phrase.joined d (after f))
+after (Phrase.joined {o} {s = x} {t = y} {p} {q} d f) =
+    subst (λ (w : List ℕ). Phrase (of o) w (Rule.binary o p q)) (sym (append-assoc x (sign o ∷ y) (32 ∷ []))) (Phrase.joined d (after f))
 after (Phrase.number n) = Phrase.space-after (Phrase.number n)
 after (Phrase.prefixed d) = Phrase.space-after (Phrase.prefixed d)
 after (Phrase.timed m d) = Phrase.space-after (Phrase.timed m d)
@@ -315,7 +335,8 @@ all-after {l} {w} {p} (suc k) d = subst (λ (x : List ℕ). Phrase l x p) (appen
 
 -- ---- a derivation is a phrase
 
-split-step : (c : ℕ) (l : List ℕ) (b : Bool) → eqb c 32 ≡ b → l ≡ replicate (spaces l) 32 ++ drop (spaces l) l → c ∷ l ≡ replicate (cond b (suc (spaces l)) 0) 32 ++ drop (cond b (suc (spaces l)) 0) (c ∷ l)
+split-step : (c : ℕ) (l : List ℕ) (b : Bool) → eqb c 32 ≡ b → l ≡ replicate (spaces l) 32 ++ drop (spaces l) l →
+    c ∷ l ≡ replicate (cond b (suc (spaces l)) 0) 32 ++ drop (cond b (suc (spaces l)) 0) (c ∷ l)
 split-step c l true e h = ap (λ (x : ℕ). x ∷ l) (eqb-true c 32 e) ∙ ap (λ (x : List ℕ). 32 ∷ x) h
 split-step c l false e h = refl
 
@@ -325,18 +346,21 @@ spaces-split [] = refl
 spaces-split (c ∷ l) = split-step c l (eqb c 32) refl (spaces-split l)
 
 -- spaces, and the byte behind them
-past-spaces : (s : List ℕ) (at c : ℕ) → start s at < length s → getD s (start s at) 0 ≡ c → drop at s ≡ replicate (spaces (drop at s)) 32 ++ (c ∷ drop (start s at + 1) s)
+past-spaces : (s : List ℕ) (at c : ℕ) → start s at < length s → getD s (start s at) 0 ≡ c →
+    drop at s ≡ replicate (spaces (drop at s)) 32 ++ (c ∷ drop (start s at + 1) s)
 past-spaces s at c h e =
     spaces-split (drop at s)
     ∙ ap (λ (l : List ℕ). replicate (spaces (drop at s)) 32 ++ l)
-    (drop-drop (spaces (drop at s)) at s ∙ drop-cons s (start s at) 0 h ∙ ap (λ (x : ℕ). x ∷ drop (suc (start s at)) s) e ∙ ap (λ (k : ℕ). c ∷ drop k s) (sym (add-one (start s at))))
+    (drop-drop (spaces (drop at s)) at s ∙ drop-cons s (start s at) 0 h ∙ ap (λ (x : ℕ). x ∷ drop (suc (start s at)) s) e
+    ∙ ap (λ (k : ℕ). c ∷ drop k s) (sym (add-one (start s at))))
 
 sign-split : (s : List ℕ) (at b next : ℕ) → tokenAt s at ≡ Token.sign b next → drop at s ≡ replicate (spaces (drop at s)) 32 ++ (b ∷ drop next s)
 sign-split s at b next e =
     let g = sign-is s at b next e in
     past-spaces s at b (g .inside) (g .byte) ∙ ap (λ (k : ℕ). replicate (spaces (drop at s)) 32 ++ (b ∷ drop k s)) (sym (g .past))
 
-unary-cases : (b : ℕ) (u : Unary) (x y z : Bool) → eqb b 33 ≡ x → eqb b 70 ≡ y → eqb b 71 ≡ z → cond x (some not) (cond y (some eventually) (cond z (some always) none)) ≡ some u → b ≡ prefix u
+unary-cases : (b : ℕ) (u : Unary) (x y z : Bool) → eqb b 33 ≡ x → eqb b 70 ≡ y → eqb b 71 ≡ z →
+    cond x (some not) (cond y (some eventually) (cond z (some always) none)) ≡ some u → b ≡ prefix u
 unary-cases b u true y z e f g h = let w : not ≡ u = cc in eqb-true b 33 e ∙ ap prefix w
 unary-cases b u false true z e f g h = let w : eventually ≡ u = cc in eqb-true b 70 f ∙ ap prefix w
 unary-cases b u false false true e f g h = let w : always ≡ u = cc in eqb-true b 71 g ∙ ap prefix w
@@ -365,7 +389,8 @@ front-numeral s i a next g =
     let k = front l 0 in
     let m : length (take (digits l) l) ≡ digits l = length-take-le (digits l) l (digits-le l) in
     let n = g .numeric in
-    let first : 1 ≤ digits l → getD (take (digits l) l) 0 0 ≡ getD s (i + 1) 0 = λ h. getD-take (digits l) l 0 0 h ∙ getD-drop (i + 1) s 0 0 ∙ ap (λ (j : ℕ). getD s j 0) (add-zero (i + 1)) in
+    let first : 1 ≤ digits l → getD (take (digits l) l) 0 0 ≡ getD s (i + 1) 0 =
+    λ h. getD-take (digits l) l 0 0 h ∙ getD-drop (i + 1) s 0 0 ∙ ap (λ (j : ℕ). getD s j 0) (add-zero (i + 1)) in
     run-numeral (record {
       all = k .count ∙ sym m;
       numeric = record { one-up = omega arith; no-zero = λ h e. n .no-zero (omega arith) (sym (first (omega arith)) ∙ e) };
@@ -389,7 +414,8 @@ number-worded s at a next e =
     let f = front l 0 in
     let m : length (take (digits l) l) ≡ digits l = length-take-le (digits l) l (digits-le l) in
     let n = g .numeric in
-    let first : 1 ≤ digits l → getD (take (digits l) l) 0 0 ≡ getD s i 0 = λ h. getD-take (digits l) l 0 0 h ∙ getD-drop i s 0 0 ∙ ap (λ (j : ℕ). getD s j 0) (add-zero i) in
+    let first : 1 ≤ digits l → getD (take (digits l) l) 0 0 ≡ getD s i 0 =
+    λ h. getD-take (digits l) l 0 0 h ∙ getD-drop i s 0 0 ∙ ap (λ (j : ℕ). getD s j 0) (add-zero i) in
     let numeral : Numeral (take (digits l) l) a =
     run-numeral (record {
       all = f .count ∙ sym m;
@@ -400,7 +426,8 @@ number-worded s at a next e =
       replicate k 32 ++ take (digits l) l,
       spaces-split (drop at s)
           ∙ ap (λ (x : List ℕ). replicate k 32 ++ x)
-          (drop-drop k at s ∙ sym (take-append-drop (digits l) l) ∙ ap (λ (x : List ℕ). take (digits l) l ++ x) (drop-drop (digits l) i s ∙ ap (λ (j : ℕ). drop j s) (sym (g .past))))
+          (drop-drop k at s ∙ sym (take-append-drop (digits l) l)
+          ∙ ap (λ (x : List ℕ). take (digits l) l ++ x) (drop-drop (digits l) i s ∙ ap (λ (j : ℕ). drop j s) (sym (g .past))))
           ∙ sym (append-assoc (replicate k 32) (take (digits l) l) (drop next s)),
       spaced k numeral,
     )
@@ -410,7 +437,8 @@ spaces-span zero d = d
 spaces-span (suc k) d = Span.space-before (spaces-span k d)
 
 -- a window, from the letter before it
-span-worded : (s : List ℕ) (at q a b next : ℕ) → signAt s at 91 ≡ suc q → spanAt s (suc q) ≡ Spanned.span a b next → (x : List ℕ) × (drop at s ≡ x ++ drop next s) × Span x a b
+span-worded : (s : List ℕ) (at q a b next : ℕ) → signAt s at 91 ≡ suc q → spanAt s (suc q) ≡ Spanned.span a b next →
+    (x : List ℕ) × (drop at s ≡ x ++ drop next s) × Span x a b
 span-worded s at q a b next o e =
     let g = span-is s (suc q) a b next e in
     let m = number-worded s (suc q) a (g .first-end) (g .first-is) in
@@ -419,7 +447,8 @@ span-worded s at q a b next o e =
     let i = spaces (drop (g .first-end) s) in
     let j = spaces (drop (g .second-end) s) in
     let last : drop (g .second-end) s ≡ replicate j 32 ++ (93 ∷ drop next s) =
-    sign-split s (g .second-end) 93 (suc (g .close)) (sign-token s (g .second-end) 93 (g .close) (g .close-is)) ∙ ap (λ (x : ℕ). replicate j 32 ++ (93 ∷ drop x s)) (sym (g .past)) in
+    sign-split s (g .second-end) 93 (suc (g .close)) (sign-token s (g .second-end) 93 (g .close) (g .close-is))
+    ∙ ap (λ (x : ℕ). replicate j 32 ++ (93 ∷ drop x s)) (sym (g .past)) in
     let second : drop (g .first-end) s ≡ replicate i 32 ++ (44 ∷ (n .0 ++ (replicate j 32 ++ (93 ∷ drop next s)))) =
     sign-split s (g .first-end) 44 (suc (g .comma)) (sign-token s (g .first-end) 44 (g .comma) (g .comma-is))
     ∙ ap (λ (x : List ℕ). replicate i 32 ++ (44 ∷ x)) (n .1 ∙ ap (λ (x : List ℕ). n .0 ++ x) last) in (
@@ -442,7 +471,9 @@ worded {s} (Derives.joined {o} {at} {next} {q} {end} {p} {r} d e f) =
     let k = spaces (drop next s) in
     record {
       word = (g .word ++ replicate k 32) ++ (sign o ∷ h .word);
-      splits = g .splits ∙ ap (λ (l : List ℕ). g .word ++ l) (sign-split s next (sign o) (suc q) (sign-token s next (sign o) q e) ∙ ap (λ (l : List ℕ). replicate k 32 ++ (sign o ∷ l)) (h .splits)) ∙ simp append-assoc;
+      splits = g .splits ∙ ap (λ (l : List ℕ). g .word ++ l)
+          (sign-split s next (sign o) (suc q) (sign-token s next (sign o) q e) ∙ ap (λ (l : List ℕ). replicate k 32 ++ (sign o ∷ l)) (h .splits))
+          ∙ simp append-assoc;
       phrase = Phrase.joined (all-after k (g .phrase)) (h .phrase);
     }
 worded {s} (Derives.number {a} {at} {next} e) =
@@ -452,7 +483,9 @@ worded {s} (Derives.number {a} {at} {next} e) =
     record {
       word = replicate (spaces (drop at s)) 32 ++ (97 ∷ take (digits l) l);
       splits = past-spaces s at 97 (g .inside) (g .letter)
-          ∙ ap (λ (x : List ℕ). replicate (spaces (drop at s)) 32 ++ (97 ∷ x)) (sym (take-append-drop (digits l) l) ∙ ap (λ (x : List ℕ). take (digits l) l ++ x) (drop-drop (digits l) (i + 1) s ∙ ap (λ (k : ℕ). drop k s) (sym (g .past))))
+          ∙ ap (λ (x : List ℕ). replicate (spaces (drop at s)) 32 ++ (97 ∷ x))
+          (sym (take-append-drop (digits l) l)
+          ∙ ap (λ (x : List ℕ). take (digits l) l ++ x) (drop-drop (digits l) (i + 1) s ∙ ap (λ (k : ℕ). drop k s) (sym (g .past))))
           ∙ sym (append-assoc (replicate (spaces (drop at s)) 32) (97 ∷ take (digits l) l) (drop next s));
       phrase = all-before (spaces (drop at s)) (Phrase.number (front-numeral s i a next g));
     }
@@ -485,6 +518,7 @@ worded {s} (Derives.bracket {b} {at} {next} {end} {q} {p} e f d g) =
       word = replicate k 32 ++ (40 ∷ ((h .word ++ replicate j 32) ++ (41 ∷ [])));
       splits = sign-split s at b next e
           ∙ ap (λ (c : ℕ). replicate k 32 ++ (c ∷ drop next s)) (start-bracket b (eqb b 40) (unaryOf b) refl f)
-          ∙ ap (λ (l : List ℕ). replicate k 32 ++ (40 ∷ l)) (h .splits ∙ ap (λ (l : List ℕ). h .word ++ l) (sign-split s end 41 (suc q) (sign-token s end 41 q g))) ∙ simp append-assoc;
+          ∙ ap (λ (l : List ℕ). replicate k 32 ++ (40 ∷ l))
+          (h .splits ∙ ap (λ (l : List ℕ). h .word ++ l) (sign-split s end 41 (suc q) (sign-token s end 41 q g))) ∙ simp append-assoc;
       phrase = all-before k (Phrase.bracket (all-after j (h .phrase)));
     }

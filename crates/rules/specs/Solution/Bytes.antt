@@ -35,13 +35,13 @@ use Rattle.rules.specs.Exactness.Evaluate.{evaluate-exact, truth-bit, wo
 use Rattle.rules.specs.Solution.Truths.{only-the-truth}
 
 -- what a text has that gives no ground to refuse
-record Plain (M : ℕ) (text : List ℕ) : Type 0 where
-  allowed : AtomsAllowed M
-  rule : Rule
-  says : Says text rule
-  atoms : AtomsBelow M rule
-  windows : WindowsAllowed rule
-  nodes : size rule ≤ 128
+pub record Plain (M : ℕ) (text : List ℕ) : Type 0 where
+  pub allowed : AtomsAllowed M
+  pub rule : Rule
+  pub says : Says text rule
+  pub atoms : AtomsBelow M rule
+  pub windows : WindowsAllowed rule
+  pub nodes : size rule ≤ 128
 
 module _ (M : ℕ) (text : List ℕ) (ok : None (TextRefused M text)) where
   atoms-allowed : (b : Bool) → between 1 16 M ≡ b → AtomsAllowed M
@@ -60,7 +60,7 @@ module _ (M : ℕ) (text : List ℕ) (ok : None (TextRefused M text)) where
   few-nodes p s true e = leb-true (size p) 128 e
   few-nodes p s false e = absurd (ok 6 (TextRefused.nodes s (leb-false (size p) 128 e)))
 
-  plain : Plain M text
+  pub plain : Plain M text
   plain = go (reading text) refl
     where
       go : (x : Option Rule) → reading text ≡ x → Plain M text

@@ -252,11 +252,13 @@ module _ (D : ℕ) (y : ℕ → ℕ) (v : ℕ → ℕ) (b : ℕ → Bool) where
 
     pub pin-window : (w : Window) → 1 ≤ length ss → Every (Met D y) (windowRows w P v ss) ↔ (y P ≡ scale D (windowNow w b ss))
     pin-window within n = Iff·trans (every-append (Met D y) (map upRow ss) (sumRow ∷ [])) (
-      λ h. squeeze D (length ss) (y P) (someOf b ss) top (any-join (y P) ss r (within-each .0 (h .0))) (omega (arith, h .1 .0, plus-up P ss, minus-up P ss, any-high ss r)),
+      λ h. squeeze D (length ss) (y P) (someOf b ss) top (any-join (y P) ss r (within-each .0 (h .0)))
+          (omega (arith, h .1 .0, plus-up P ss, minus-up P ss, any-high ss r)),
       λ e. (within-each .1 (any-part (y P) ss r (omega arith)), (omega (arith, plus-up P ss, minus-up P ss, any-low ss r), tt)),
     )
     pin-window throughout n = Iff·trans (every-append (Met D y) (map downRow ss) (lessRow ∷ [])) (
-      λ h. squeeze-all D (length ss) (y P) (sum ss) (everyOf b ss) top (all-join (y P) top ss r (throughout-each .0 (h .0))) (all-low ss r) (less-met n .0 (h .1 .0)),
+      λ h. squeeze-all D (length ss) (y P) (sum ss) (everyOf b ss) top (all-join (y P) top ss r (throughout-each .0 (h .0)))
+          (all-low ss r) (less-met n .0 (h .1 .0)),
       λ e. (throughout-each .1 (all-part (y P) ss r (omega arith)), (less-met n .1 (omega (arith, all-high ss r)), tt)),
     )
 

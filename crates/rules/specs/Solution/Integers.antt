@@ -93,7 +93,8 @@ module _ (D : ℕ) (xs : List ℤ) (y : ℕ → ℕ) (e : (v : ℕ) → valueAt 
   pub meets-met : (r : Row) → Meets D xs r ↔ Met D y r
   meets-met r = go (r .relation)
     where
-      go : (o : Relation) → MeetsBy o (r .right *ℤ pos D) (sumOf xs (r .terms)) ↔ MetBy o (up (r .right) * D + minusOf y (r .terms)) (plusOf y (r .terms) + down (r .right) * D)
+      go : (o : Relation) →
+          MeetsBy o (r .right *ℤ pos D) (sumOf xs (r .terms)) ↔ MetBy o (up (r .right) * D + minusOf y (r .terms)) (plusOf y (r .terms) + down (r .right) * D)
       go at-least =
           diff-le (r .right *ℤ pos D) (sumOf xs (r .terms)) (up (r .right) * D) (down (r .right) * D) (plusOf y (r .terms)) (minusOf y (r .terms))
           (diff-mul (r .right) D) (diff-sum (r .terms))

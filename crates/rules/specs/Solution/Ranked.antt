@@ -105,7 +105,8 @@ module _ (X : Type 0) (D A count : ℕ) (atoms : List ℤ) (rows : List Row) (s 
           let l = f .limits (s .place x) (rw (f .counted) (s .place-lt x z)) in
           rw (at-slack xs (s .place x)) (abs-le (valueAt xs (s .place x)) D (l .0) (l .1))
 
-      step : (x : X) → ((z : X) → s .rank z < s .rank x → s .slack z → abs xs (A + s .place z) ≡ scale D (s .want z)) → s .slack x → abs xs (A + s .place x) ≡ scale D (s .want x)
+      step : (x : X) → ((z : X) → s .rank z < s .rank x → s .slack z → abs xs (A + s .place z) ≡ scale D (s .want z)) →
+          s .slack x → abs xs (A + s .place x) ≡ scale D (s .want x)
       step x ih z = s .pins (abs xs) (at-atom xs) x z (top x z) (λ w u l. ih w l u) .0 (met x z)
 
   abbrev truthAt : ℕ → ℕ

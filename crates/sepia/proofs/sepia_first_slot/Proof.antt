@@ -1,8 +1,8 @@
 -- `sepia::sepia_first_slot` meets its contract, from that of the call.
 use mathlib.Core.Path.{sym, ap, _∙_}
 use native.Mathlib.Omega.{arith}
-use Rattle.evaluator_words.specs.Meaning.{firstSlotOf}
-use Rattle.evaluator_words.specs.First.{slot-most}
+use Rattle.evaluator.specs.Meaning.{firstSlotOf}
+use Rattle.evaluator.specs.First.{slot-most}
 use Rattle.sepia.specs.Boundary.{slotInC}
 use borrow.Author.Needs.{needs}
 use Rattle.sepia.proofs.sepia_first_slot.Statement.{statement}

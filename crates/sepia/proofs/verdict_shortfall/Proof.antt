@@ -31,7 +31,7 @@ returns-2 : tie.Need-returns-2
 returns-2 c = shortfall-of (c .enum-told2 .given .1)
 
 returns-3 : tie.Need-returns-3
-returns-3 c = toZ-ofZ {w = w64} {z = c .before .verdict .given .0 .1 .0} (search needs) ∙ shortfall-of (c .before .verdict .given .1)
+returns-3 c = toZ-ofZ {w = w64} {z = c .before .verdict .given .0 .0} (search needs) ∙ shortfall-of (c .before .verdict .given .1)
 
 returns-4 : tie.Need-returns-4
 returns-4 c = shortfall-of (c .enum-told3 .given .1)

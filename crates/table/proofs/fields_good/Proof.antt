@@ -33,12 +33,14 @@ enum-told c = search needs
 
 returns : tie.Need-returns
 returns c =
-    let a = c .before .before .before .before .before .before .before .before .before .args in
-    let e : kindIn (a .kind) ≡ Known (c .before .before .read .given .0 .0) = sym (c .before .before .before .before .kind-of .ensures) ∙ c .before .before .read .given .1 in
-    let l = c .before .before .before .before .before .before .before .before .wide-byte .ensures .0 in
-    let r = c .before .before .before .before .before .before .before .wide-byte2 .ensures .0 in
-    let i = c .before .before .before .before .before .before .wide-byte3 .ensures .0 in
-    let j = c .before .before .before .before .before .wide-byte4 .ensures .0 in
+    let p = c .before .before .before .before in
+    let q = p .before .before .before .before in
+    let a = q .before .args in
+    let e : kindIn (a .kind) ≡ Known (c .before .before .read .given .0 .0) = sym (p .kind-of .ensures) ∙ c .before .before .read .given .1 in
+    let l = q .wide-byte .ensures .0 in
+    let r = p .before .before .before .wide-byte2 .ensures .0 in
+    let i = p .before .before .wide-byte3 .ensures .0 in
+    let j = p .before .wide-byte4 .ensures .0 in
     c .parts-good .ensures ∙ rw (nodeIn-kind (a .left) (a .right) (a .from) (a .to) (a .kind), e, l, r, i, j) refl
 
 returns-2 : tie.Need-returns-2

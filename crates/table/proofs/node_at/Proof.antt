@@ -64,20 +64,31 @@ enum-told c = search needs
 
 returns : tie.Need-returns
 returns c =
-    let a = c .before .before .before .before .before .before .before .before .before .before .before .before .before .before .args in
-    let e : kindIn (byteAt (a .table .now) (a .n) 2) ≡ Known (c .before .read .given .0 .0) = sym (c .before .before .before .kind-of .ensures) ∙ c .before .read .given .1 in
-    let l = c .before .before .before .before .before .before .before .before .before .before .before .wide-byte .ensures in
-    let r = c .before .before .before .before .before .before .before .before .before .wide-byte2 .ensures in
-    let i = c .before .before .before .before .before .before .before .wide-byte3 .ensures in
-    let j = c .before .before .before .before .before .wide-byte4 .ensures in
-    let h = c .before .before .before .before .before .before .before .before .before .before .before .before .before .before .pre in
+    let p = c .before .before .before .before .before in
+    let q = p .before .before .before .before in
+    let u = q .before .before .before .before .before in
+    let a = u .args in
+    let e : kindIn (byteAt (a .table .now) (a .n) 2) ≡ Known (c .before .read .given .0 .0) =
+    sym (c .before .before .before .kind-of .ensures) ∙ c .before .read .given .1 in
+    let l = q .before .before .wide-byte .ensures in
+    let r = q .wide-byte2 .ensures in
+    let i = p .before .before .wide-byte3 .ensures in
+    let j = p .wide-byte4 .ensures in
+    let h = u .pre in
     record { is = rw (l .0, r .0, i .0, j .0) (known-is (a .table .now) (a .n) _ h e); left-byte = l .1; right-byte = r .1; from-byte = i .1; to-byte = j .1 }
 
 returns-2 : tie.Need-returns-2
 returns-2 c =
-    let a = c .before .before .before .before .before .before .before .before .before .before .before .before .before .args in
+    let p = c .before .before .before .before .before .before .before .before .before .before .before .before .before in
+    let a = p .args in
     let e : kindIn (byteAt (a .table .now) (a .n) 2) ≡ Unknown = sym (c .before .before .kind-of .ensures) ∙ c .enum-told .given .1 in
-    record { is = unknown-is (a .table .now) (a .n) (c .before .before .before .before .before .before .before .before .before .before .before .before .before .pre) e; left-byte = omega arith; right-byte = omega arith; from-byte = omega arith; to-byte = omega arith }
+    record {
+      is = unknown-is (a .table .now) (a .n) (p .pre) e;
+      left-byte = omega arith;
+      right-byte = omega arith;
+      from-byte = omega arith;
+      to-byte = omega arith;
+    }
 
 pub node-at-spec : {M : Type 1} → statement M
 node-at-spec =

@@ -50,8 +50,9 @@ both-requires c κs = search needs
 
 returns : tie.Need-returns
 returns c =
-    let a = c .before .before .before .before .before .before .before .before .before .args in
-    c .both .ensures ∙ rw (c .before .before .before .before .before .before .before .marked .ensures, c .before .fields-good .ensures, add-zero (8 * a .n)) refl
+    let p = c .before .before .before .before .before .before .before in
+    let a = p .before .before .args in
+    c .both .ensures ∙ rw (p .marked .ensures, c .before .fields-good .ensures, add-zero (8 * a .n)) refl
 
 pub node-good-spec : {M : Type 1} → statement M
 node-good-spec =

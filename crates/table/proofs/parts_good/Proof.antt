@@ -37,10 +37,12 @@ both-requires-3 c κs = search needs
 
 returns : tie.Need-returns
 returns c =
-    let a = c .before .before .before .before .before .before .before .before .before .args in
-    let left = c .before .before .before .before .before .before .before .pick .ensures ∙ ap (λ (b : Bool). cond b (a .m) (a .n)) (c .before .before .before .before .before .before .before .before .is-atom .ensures) in
-    let right = c .before .before .before .before .before .pick2 .ensures ∙ ap (λ (b : Bool). cond b (a .n) 1) (c .before .before .before .before .before .before .is-binary .ensures) in
-    let to = c .before .before .before .pick3 .ensures ∙ ap (λ (b : Bool). cond b 64 1) (c .before .before .before .before .has-window .ensures) in
+    let p = c .before .before .before .before in
+    let q = p .before .before .before .before in
+    let a = q .before .args in
+    let left = p .before .before .before .pick .ensures ∙ ap (λ (b : Bool). cond b (a .m) (a .n)) (q .is-atom .ensures) in
+    let right = p .before .pick2 .ensures ∙ ap (λ (b : Bool). cond b (a .n) 1) (p .before .before .is-binary .ensures) in
+    let to = c .before .before .before .pick3 .ensures ∙ ap (λ (b : Bool). cond b 64 1) (p .has-window .ensures) in
     let parts = c .before .before .both .ensures ∙ ap₂ (λ (x y : ℕ). ltb (a .left) x && ltb (a .right) y) left right in
     let window = c .before .both2 .ensures ∙ ap (λ (z : ℕ). leb (a .from) (a .to) && ltb (a .to) z) to in
     c .both3 .ensures ∙ ap₂ _&&_ parts window ∙ under-ends (a .m) (a .n) (a .left) (a .right) (a .from) (a .to) (a .kind)

@@ -2,7 +2,7 @@
 use native.Mathlib.Omega.{arith}
 use borrow.Author.Needs.{needs}
 use Rattle.text.specs.Put.{also}
-use Rattle.text.specs.Decimal.{decimal-low, decimal-pair, decimal-pairs, length-low, length-pair, length-pairs}
+use Rattle.text.specs.DecimalLaws.{decimal-low, decimal-pair, decimal-pairs, length-low, length-pair, length-pairs}
 use Prim.Native.Nat.{ℕ, _<_}
 use borrow.Fn.Kinds.{In}
 use borrow.Fn.PlainCycle.{Measures, is, falls, and}

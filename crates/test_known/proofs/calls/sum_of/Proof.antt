@@ -7,11 +7,12 @@ use lib.ListN.{length}
 use mir.Syntax.{w64}
 use mir.Val.{toZ}
 use Rattle.ints.specs.Stored.{back}
+use Rattle.millionths.specs.Bounds as Bounds
 use Rattle.test_known.proofs.calls.sum_of.Statement.{statement}
 use Rattle.test_known.proofs.calls.sum_of.Tie as tie
 
 abbrev Inv-loop : tie.InvT-loop
-Inv-loop figures sum₀ i₀ i-end sum i = (i ≤ length figures) × (natAbs (toZ w64 sum) ≤ 2147483648 * i)
+Inv-loop figures sum₀ i₀ i-end sum i = (i ≤ length figures) × (natAbs (toZ w64 sum) ≤ Bounds.figure * i)
 
 abbrev μ-loop : tie.MeasureT-loop
 μ-loop figures sum₀ i₀ i-end sum i = length figures - i
@@ -25,4 +26,5 @@ loop-again c =
 
 pub sum-of-spec : {M : Type 1} → statement M
 sum-of-spec =
-    tie.close (tie.spec Inv-loop μ-loop (λ c. search needs) (λ c. search needs) (λ c. search needs) (λ c κs. search needs) (λ c. search needs) (λ c. search needs) loop-again (λ c. search needs))
+    tie.close (tie.spec Inv-loop μ-loop (λ c. search needs) (λ c. search needs) (λ c. search needs) (λ c κs. search needs) (λ c. search needs)
+    (λ c. search needs) loop-again (λ c. search needs))

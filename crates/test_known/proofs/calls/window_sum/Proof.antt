@@ -3,14 +3,14 @@ use mathlib.Core.Path.{refl, sym}
 use mathlib.Core.List.{List, [], _∷_}
 use borrow.Author.Needs.{needs}
 use lib.IntN.{ℤ}
-use mir.Syntax.{w32, w64}
+use mir.Syntax.{w64}
 use mir.Val.{toZ, ofZ}
 use Rattle.judge_sums.specs.Windows.{sum-plus}
 use Rattle.test_known.proofs.calls.window_sum.Statement.{statement}
 use Rattle.test_known.proofs.calls.window_sum.Tie as tie
 
 abbrev figures : tie.Start → List ℤ
-figures c = toZ w64 (ofZ w64 (c .args .sum)) ∷ toZ w32 (ofZ w32 (c .args .x)) ∷ []
+figures c = toZ w64 (ofZ w64 (c .args .sum)) ∷ c .args .x .value ∷ []
 
 returns : tie.Need-returns
 returns c =

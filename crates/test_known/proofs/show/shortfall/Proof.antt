@@ -23,4 +23,5 @@ cast-number c =
 
 pub shortfall-spec : {M : Type 1} → statement M
 shortfall-spec =
-    tie.close (tie.spec (λ c. search needs) (λ c κs. search needs) (λ c. search needs) cast-number (λ c κs. search needs) (λ c. search needs) (λ c. search needs))
+    tie.close (tie.spec (λ c. search needs) (λ c κs. search needs) (λ c. search needs) cast-number (λ c κs. search needs) (λ c. search needs)
+    (λ c. search needs))

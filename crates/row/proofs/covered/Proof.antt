@@ -1,0 +1,19 @@
+-- `row::covered` meets its contract.
+use borrow.Author.Needs.{needs}
+use Rattle.row.proofs.covered.Statement.{statement}
+use Rattle.row.proofs.covered.Tie as tie
+
+plus-requires : tie.Need-plus-requires
+plus-requires c κs = search needs
+
+plus-requires-2 : tie.Need-plus-requires-2
+plus-requires-2 c κs = search needs
+
+minus-requires : tie.Need-minus-requires
+minus-requires c κs = search needs
+
+returns : tie.Need-returns
+returns c = cc
+
+pub covered-spec : {M : Type 1} → statement M
+covered-spec = tie.close (tie.spec plus-requires plus-requires-2 minus-requires returns)
