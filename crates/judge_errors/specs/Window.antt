@@ -6,6 +6,7 @@ use native.Mathlib.Numerals.{add-one}
 use native.Mathlib.Omega.{arith}
 use borrow.Author.Tests.{lt-ltb, le-ltb}
 use lib.ListN.{getD}
+use Rattle.lists.specs.Sums as Sums
 use Rattle.lists.specs.Tabulate.{tabulate}
 use Rattle.rules.specs.Rows.{windowSlots}
 use Rattle.rules.specs.Errors.Sums.{sumOver, sum-map, sum-same}
@@ -14,31 +15,18 @@ use Rattle.window.specs.declared.Looks.{Looks}
 use Rattle.window.specs.Slots.{variableAt, variables, Looking}
 use Rattle.judge_errors.specs.Worked.{figureAt, Worked, worked-below}
 
--- f 0 to f (k - 1)
-abbrev sumFirst : (f : ℕ → ℕ) (k : ℕ) → ℕ
-sumFirst f zero = 0
-sumFirst f (suc k) = sumFirst f k + f k
-
-first-apart : (f : ℕ → ℕ) (k : ℕ) → sumFirst f (suc k) ≡ f 0 + sumFirst (λ i. f (suc i)) k
+first-apart : (f : ℕ → ℕ) (k : ℕ) → Sums.sumTo f (suc k) ≡ f 0 + Sums.sumTo (λ i. f (suc i)) k
 first-apart f zero = omega arith
 first-apart f (suc k) = omega (arith, first-apart f k)
 
-sum-tabulate : (g h : ℕ → ℕ) (k : ℕ) → sumOver g (tabulate k h) ≡ sumFirst (λ i. g (h i)) k
+sum-tabulate : (g h : ℕ → ℕ) (k : ℕ) → sumOver g (tabulate k h) ≡ Sums.sumTo (λ i. g (h i)) k
 sum-tabulate g h zero = refl
 sum-tabulate g h (suc k) = ap (λ (y : ℕ). g (h 0) + y) (sum-tabulate g (λ i. h (suc i)) k) ∙ sym (first-apart (λ i. g (h i)) k)
-
-first-same : (f g : ℕ → ℕ) (k : ℕ) → ((i : ℕ) → i < k → f i ≡ g i) → sumFirst f k ≡ sumFirst g k
-first-same f g zero h = refl
-first-same f g (suc k) h = ap₂ _+_ (first-same f g k (λ i z. h i (omega arith))) (h k (omega arith))
-
-first-joined : (f : ℕ → ℕ) (j k : ℕ) → sumFirst f j + sumFirst (λ i. f (j + i)) k ≡ sumFirst f (j + k)
-first-joined f j zero = let z : j + zero ≡ j = omega arith in rw z (omega arith)
-first-joined f j (suc k) = let z : j + suc k ≡ suc (j + k) = omega arith in rw z (omega (arith, first-joined f j k))
 
 -- the figures of k places, the i-th of which is `at i`
 module _ (l : List ℕ) where
   unfoldable pub sumTo : (at : ℕ → ℕ) (k : ℕ) → ℕ
-  sumTo at k = sumFirst (λ i. getD l (at i) 0) k
+  sumTo at k = Sums.sumTo (λ i. getD l (at i) 0) k
 
   pub sum-none : (at : ℕ → ℕ) → sumTo at 0 ≡ 0
   unfolding sumTo
@@ -52,18 +40,18 @@ module _ (l : List ℕ) where
   module _ (w : Looks) (p from head : ℕ) (f : from ≡ p + w .first) (g : head ≡ w .head) where
     in-head : sumTo (λ i. from + i) head ≡ sumTo (variableAt w p) head
     unfolding sumTo
-    in-head = first-same _ _ head (λ i z. ap (λ (v : ℕ). getD l v 0) (rw (lt-ltb i (w .head) (omega arith)) (omega arith)))
+    in-head = Sums.sum-same _ _ head (λ i z. ap (λ (v : ℕ). getD l v 0) (rw (lt-ltb i (w .head) (omega arith)) (omega arith)))
 
     pub sum-one : head ≡ w .count → sumTo (λ i. from + i) head ≡ sumTo (variableAt w p) (w .count)
     sum-one z = in-head ∙ ap (sumTo (variableAt w p)) z
 
     in-rest : (rest k : ℕ) → rest ≡ from + head + w .skip → sumTo (λ i. rest + i) k ≡ sumTo (λ i. variableAt w p (head + i)) k
     unfolding sumTo
-    in-rest rest k e = first-same _ _ k (λ i z. ap (λ (v : ℕ). getD l v 0) (rw (le-ltb (head + i) (w .head) (omega arith)) (omega arith)))
+    in-rest rest k e = Sums.sum-same _ _ k (λ i z. ap (λ (v : ℕ). getD l v 0) (rw (le-ltb (head + i) (w .head) (omega arith)) (omega arith)))
 
     joined : (k : ℕ) → sumTo (variableAt w p) head + sumTo (λ i. variableAt w p (head + i)) k ≡ sumTo (variableAt w p) (head + k)
     unfolding sumTo
-    joined k = first-joined (λ i. getD l (variableAt w p i) 0) head k
+    joined k = sym (Sums.sum-split (λ i. getD l (variableAt w p i) 0) head k)
 
     pub sum-two : (rest k : ℕ) → rest ≡ from + head + w .skip → head + k ≡ w .count →
         sumTo (λ i. from + i) head + sumTo (λ i. rest + i) k ≡ sumTo (variableAt w p) (w .count)

@@ -18,7 +18,7 @@ use Rattle.table.specs.declared.Kind.{Kind}
 use Rattle.table.specs.declared.Node as Table
 use Rattle.row.specs.declared.Block.{Block}
 use Rattle.row.specs.Kinds.{Allowed, allowed}
-use Rattle.row.specs.Placed.{Placed}
+use Rattle.row.specs.Placed.{firstLimit, Placed}
 use Rattle.row.specs.NodeRows.{Own, Kept, blockOn, blockRows, both-rows, partRows}
 use Rattle.judge_slot.specs.declared.Search.{Search}
 use Rattle.judge_slot.specs.Counts as Counts
@@ -33,7 +33,7 @@ pub record BlockReady (T L : ℕ) (b : Block) : Type 0 where
 
 pub record NodeReady (T L : ℕ) (b : Block) (v : ℕ) : Type 0 where
   pub block : BlockReady T L b
-  pub place-low : v ≤ 25600
+  pub place-low : v ≤ firstLimit
 
 -- the i-th of a node's two blocks
 pub record NthBlock (v : ℕ) (b : Block) (i : ℕ) (c : Block) : Type 0 where
@@ -150,7 +150,7 @@ module _ (T M L : ℕ) (ns : List Node) (n v : ℕ) (b : Block) (o : OwnIn T M L
 
 -- ---- a loop over the nodes, which counts those with a V
 
-pub own-ready : {T M L n v : ℕ} {nd : Table.Node} {b : Block} → T ≤ 64 → LoopAllowed T L → Own T M L n v nd b → Placed b → v ≤ 25600 →
+pub own-ready : {T M L n v : ℕ} {nd : Table.Node} {b : Block} → T ≤ 64 → LoopAllowed T L → Own T M L n v nd b → Placed b → v ≤ firstLimit →
     NodeGood M n (nodeOf nd) → NodeReady T L b v
 own-ready {M = M} {n = n} {nd = nd} h l o p v g = record {
   block = record {

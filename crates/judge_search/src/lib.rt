@@ -13,7 +13,7 @@ ghost use Rattle.rules.specs.TableTest.{recordCount, nodesIn};
 ghost use Rattle.rules.specs.Judge.{shortfall};
 ghost use Rattle.table.specs.Checks.{Ready};
 ghost use Rattle.table.specs.Looping.{loopsBy};
-ghost use Rattle.row.specs.Placed.{Placed};
+ghost use Rattle.row.specs.Placed.{firstLimit, Placed};
 ghost use Rattle.row.specs.NodeRows.{partRows, rowsTo};
 ghost use Rattle.judge_slot.specs.Counts as Counts;
 ghost use Rattle.judge_slot.specs.Counts.{Fit};
@@ -281,7 +281,7 @@ fn first_block(block: Block, t: u16, l: u16) -> u16
 
 // The i-th of them, of the node with this block and v as the first variable of its V.
 fn nth_block(block: Block, v: u16, i: u16) -> Block
-    requires { ⌜ Placed block × (v ≤ 25600) × (i < 2) ⌝ }
+    requires { ⌜ Placed block × (v ≤ firstLimit) × (i < 2) ⌝ }
     ensures { λ r. ⌜ NthBlock v block i r × Placed r ⌝ }
 {
     if i == 0 {

@@ -22,8 +22,8 @@ pub record Listed : Type 0 where
 abbrev pub listingText : Listed → List ℕ
 listingText x = headText (length (x .rows)) (x .variables) ++ rowsText 0 (x .rows)
 
--- ---- exact: 11 where the rows of the rule have more bytes than it holds, and else its rows and variables. Request N8: the loop slot is T, "and rowlist uses
--- that".
+-- ---- exact: 11 where the rows of the rule have more bytes than it holds, and else its rows and variables.
+-- Request N8: the loop slot is T, "and rowlist uses that".
 
 abbrev pub ListExact : ((T M : ℕ) (text : List ℕ) → Answer Listed) → Type 0
 ListExact =

@@ -4,6 +4,7 @@ ghost use mathlib.Core.List.{[], _∷_};
 ghost use Prim.Native.Nat.{_+_, _≤_, _<_};
 ghost use lib.IntN.{natAbs};
 ghost use lib.ListN.{length};
+ghost use Rattle.ints.specs.Stored.{inside};
 ghost use Rattle.text.specs.Decimal.{decimal};
 ghost use Rattle.text.specs.DecimalLaws.{pairText};
 ghost use Rattle.text.specs.Put.{Put};
@@ -42,7 +43,7 @@ pub fn put_decimal(out: &mut [u8], at: usize, n: usize) -> usize
 
 // A number without its sign.
 pub fn magnitude(c: i64) -> usize
-    requires { ⌜ natAbs c ≤ 1099511627776 ⌝ }
+    requires { ⌜ natAbs c ≤ inside ⌝ }
     ensures { λ r. ⌜ r ≡ natAbs c ⌝ }
 {
     if c < 0 { (0 - c) as usize } else { c as usize }
