@@ -6,7 +6,7 @@ use std::fmt::{Debug, LowerHex};
 use crate::inputs;
 use crate::random::Random;
 use crate::reference::{self, Plan, Verdict, HEIGHT, NODE_BYTES};
-use crate::sepia;
+use crate::sepia::LINKED;
 use crate::shape;
 use crate::trust;
 
@@ -157,7 +157,7 @@ fn read(cases: u64, random: &mut Random, counts: &mut Counts) -> Result<(), Stri
         outputs.fill(random, room);
         let kept = text.clone();
         let expected = reference::read(&text, m, outputs.of_reference());
-        let answer = sepia::read(&text, m, outputs.of_sepia());
+        let answer = LINKED.read(&text, m, outputs.of_sepia());
         if let Some(difference) = compare_outputs(expected, answer, &outputs, kept == text) {
             return Err(format!(
                 "case {case}: {difference}\n  text {} ({:?})\n  M {m} room {room}",
@@ -190,7 +190,7 @@ fn evaluate(cases: u64, random: &mut Random, counts: &mut Counts) -> Result<(), 
         outputs.fill(random, room);
         let kept = (table.clone(), run.clone());
         let expected = reference::evaluate(&table, plan, &run, outputs.of_reference());
-        let answer = sepia::evaluate(&table, plan, &run, outputs.of_sepia());
+        let answer = LINKED.evaluate(&table, plan, &run, outputs.of_sepia());
         let difference = compare_outputs(expected, answer, &outputs, kept.0 == table && kept.1 == run)
             .or_else(|| compare_bytes(answer, &table, plan, &run, &mut outputs));
         if let Some(difference) = difference {
@@ -251,7 +251,7 @@ fn compare_bytes(
         }
     }
     let first = bytes[(nodes - 1) * t..][..t].iter().position(|&truth| truth == 1).map(|place| place + 1);
-    let slot = sepia::first_slot(words[nodes - 1]);
+    let slot = LINKED.first_slot(words[nodes - 1]);
     (first != slot).then(|| format!("the root's first slot: bytes {first:?}, sepia {slot:?}"))
 }
 
@@ -260,7 +260,7 @@ fn first_slot(cases: u64, random: &mut Random, counts: &mut Counts) -> Result<()
     let fixed = [0, u64::MAX].into_iter().chain((0..64).map(|bit| 1 << bit));
     let all = fixed.chain(std::iter::from_fn(|| Some(inputs::word(random))));
     for (case, word) in all.take(cases as usize).enumerate() {
-        let (expected, answer) = (reference::first_slot(word), sepia::first_slot(word));
+        let (expected, answer) = (reference::first_slot(word), LINKED.first_slot(word));
         if let Some(difference) = compare(&expected, &answer, true) {
             return Err(format!("case {case}: {difference}\n  word {word:016x}"));
         }
@@ -286,7 +286,7 @@ fn rows(cases: u64, random: &mut Random, counts: &mut Counts) -> Result<(), Stri
         outputs.fill(random, room);
         let kept = table.clone();
         let expected = reference::rows(&table, plan, outputs.of_reference());
-        let answer = sepia::rows(&table, plan, outputs.of_sepia());
+        let answer = LINKED.rows(&table, plan, outputs.of_sepia());
         if let Some(difference) = compare_outputs(expected, answer, &outputs, kept == table) {
             return Err(format!("case {case}: {difference}{} room {room}", shown(&table, plan)));
         }
@@ -378,7 +378,7 @@ fn mps(cases: u64, random: &mut Random, counts: &mut Counts) -> Result<(), Strin
         outputs.fill(random, room);
         let kept = table.clone();
         let expected = reference::mps_page(&table, plan, outputs.of_reference());
-        let answer = sepia::mps_page(&table, plan, outputs.of_sepia());
+        let answer = LINKED.mps_page(&table, plan, outputs.of_sepia());
         if let Some(difference) = compare_outputs(expected, answer, &outputs, kept == table) {
             return Err(format!("case {case}: {difference}{} room {room}", shown(&table, plan)));
         }
@@ -409,7 +409,7 @@ fn judge(cases: u64, random: &mut Random, counts: &mut Counts) -> Result<(), Str
         inputs::figures(random, &table, plan, e, &mut figures);
         let kept = (table.clone(), figures.clone());
         let expected = reference::judge(&table, plan, &figures, e);
-        let answer = sepia::judge(&table, plan, &figures, e);
+        let answer = LINKED.judge(&table, plan, &figures, e);
         let difference = compare(&expected, &answer, kept.0 == table && kept.1 == figures);
         let outcome = difference.map_or(Ok(()), Err).and_then(|()| {
             trust::compare_counts(&table, plan, e)?;

@@ -6,21 +6,21 @@ use std::hint::black_box;
 use crate::clock::processor_time;
 use crate::inputs;
 use crate::reference::{self, Plan, Verdict};
-use crate::sepia;
+use crate::sepia::LINKED;
 use crate::shape;
 
-const ROUNDS: usize = 7;
+pub const ROUNDS: usize = 7;
 /// Timings of each side in a round, taken in turn.
-const REPETITIONS: usize = 41;
+pub const REPETITIONS: usize = 41;
 /// What one timing takes at least, in nanoseconds.
 const TIMING: u64 = 100_000;
 /// The judge's tolerance.
-const E: i32 = 1000;
+pub const E: i32 = 1000;
 
-struct Input {
+pub struct Input {
     name: String,
     text: Vec<u8>,
-    t: usize,
+    pub t: usize,
     m: usize,
 }
 
@@ -28,7 +28,7 @@ fn input(name: &str, text: &[u8], t: usize, m: usize) -> Input {
     Input { name: name.into(), text: text.to_vec(), t, m }
 }
 
-fn all_inputs() -> [Input; 6] {
+pub fn all_inputs() -> [Input; 6] {
     let medium = b"G(a0&!a1>F(a2|a3))&(a4Ua5)Ua2>F(a3&a5)";
     let mixed = b"G(a0&!a1>F[0,5](a2|a3))&G[1,12](a4>F[2,9]a5)&a4Ua2>F[3,20](a3|F[0,63]G[0,4]!a1)";
     [
@@ -42,11 +42,11 @@ fn all_inputs() -> [Input; 6] {
 }
 
 /// Takes a call's answer, so that the call is not left out.
-fn finish<A>(answer: A) {
+pub fn finish<A>(answer: A) {
     black_box(answer);
 }
 
-fn median(mut values: Vec<f64>) -> f64 {
+pub fn median(mut values: Vec<f64>) -> f64 {
     values.sort_by(f64::total_cmp);
     values[values.len() / 2]
 }
@@ -60,7 +60,7 @@ fn time(calls: u32, side: &mut dyn FnMut()) -> f64 {
 }
 
 /// The median nanoseconds of each side in each round. The sides take turns, and so does who goes first.
-fn measure<const SIDES: usize>(mut sides: [&mut dyn FnMut(); SIDES]) -> Vec<[f64; SIDES]> {
+pub fn measure<const SIDES: usize>(mut sides: [&mut dyn FnMut(); SIDES]) -> Vec<[f64; SIDES]> {
     let calls: Vec<u32> = sides
         .iter_mut()
         .map(|side| {
@@ -115,22 +115,22 @@ fn print_pair(call: &str, input: &str, rounds: &[[f64; 2]]) {
 }
 
 /// A rule with all that the calls take.
-struct Case {
+pub struct Case {
     name: String,
-    label: String,
-    text: Vec<u8>,
-    table: Vec<u8>,
-    plan: Plan,
+    pub label: String,
+    pub text: Vec<u8>,
+    pub table: Vec<u8>,
+    pub plan: Plan,
     /// The number of its rows.
     rows: usize,
-    run: Vec<u16>,
+    pub run: Vec<u16>,
     /// Figures that pass.
-    figures: Vec<i32>,
+    pub figures: Vec<i32>,
     /// Figures that break the goal row alone.
     broken: Vec<i32>,
 }
 
-fn case(Input { name, text, t, m }: &Input, l: usize) -> Case {
+pub fn case(Input { name, text, t, m }: &Input, l: usize) -> Case {
     let plan = Plan { t: *t, m: *m, l };
     let mut table = vec![0; reference::MAX_NODES * reference::NODE_BYTES];
     let nodes = reference::read(text, *m, &mut table).expect("a rule");
@@ -151,7 +151,7 @@ fn time_read(Case { label, text, table, plan, .. }: &Case) -> String {
     let (mut one, mut two, mut three) = (vec![0; table.len()], vec![0; table.len()], vec![0; table.len()]);
     let rounds = measure([
         &mut || finish(reference::read(black_box(text), m, black_box(&mut one))),
-        &mut || finish(sepia::read(black_box(text), m, black_box(&mut two))),
+        &mut || finish(LINKED.read(black_box(text), m, black_box(&mut two))),
         &mut || finish(reference::read_by_levels(black_box(text), m, black_box(&mut three))),
     ]);
     assert_eq!(one, two);
@@ -166,7 +166,7 @@ fn time_evaluate(Case { label, table, plan, run, .. }: &Case) -> String {
     let (mut one, mut two, mut bytes) = (vec![0; nodes], vec![0; nodes], vec![0; nodes * plan.t]);
     let rounds = measure([
         &mut || finish(reference::evaluate(black_box(table), plan, black_box(run), black_box(&mut one))),
-        &mut || finish(sepia::evaluate(black_box(table), plan, black_box(run), black_box(&mut two))),
+        &mut || finish(LINKED.evaluate(black_box(table), plan, black_box(run), black_box(&mut two))),
         &mut || finish(reference::evaluate_bytes(black_box(table), plan, black_box(run), black_box(&mut bytes))),
     ]);
     assert_eq!(one, two);
@@ -183,7 +183,7 @@ fn time_rows(Case { name, label, table, plan, rows: count, .. }: &Case) -> Strin
     let source = one.clone();
     let rounds = measure([
         &mut || finish(reference::rows(black_box(table), plan, black_box(&mut one))),
-        &mut || finish(sepia::rows(black_box(table), plan, black_box(&mut two))),
+        &mut || finish(LINKED.rows(black_box(table), plan, black_box(&mut two))),
         &mut || black_box(&mut three).copy_from_slice(black_box(&source)),
     ]);
     assert_eq!(one, two);
@@ -201,7 +201,7 @@ fn time_page(Case { label, table, plan, .. }: &Case) {
     let bytes = reference::whole_page(table, plan).expect("a page").len();
     let (mut one, mut two) = (vec![0; bytes], vec![0; bytes]);
     let mut rust = || finish(reference::mps_page(black_box(table), plan, black_box(&mut one)));
-    let mut rattle = || finish(sepia::mps_page(black_box(table), plan, black_box(&mut two)));
+    let mut rattle = || finish(LINKED.mps_page(black_box(table), plan, black_box(&mut two)));
     let rounds = measure([&mut rust, &mut rattle]);
     assert_eq!(one, two);
     print_pair("mps", &format!("{label}, {bytes} bytes of page"), &rounds);
@@ -213,15 +213,15 @@ fn time_judge(Case { label, table, plan, rows, figures, broken, .. }: &Case) -> 
     let plan = *plan;
     let expected = reference::judge(table, plan, figures, E);
     assert!(matches!(expected, Ok(Verdict::Passed(count, _)) if count == *rows), "{expected:?}");
-    assert_eq!(expected, sepia::judge(table, plan, figures, E));
+    assert_eq!(expected, LINKED.judge(table, plan, figures, E));
     let goal = Ok(Verdict::Broken(rows - 1, reference::ONE));
     assert_eq!(goal, reference::judge(table, plan, broken, E));
-    assert_eq!(goal, sepia::judge(table, plan, broken, E));
+    assert_eq!(goal, LINKED.judge(table, plan, broken, E));
     let rounds = measure([
         &mut || finish(reference::judge(black_box(table), plan, black_box(figures), E)),
-        &mut || finish(sepia::judge(black_box(table), plan, black_box(figures), E)),
+        &mut || finish(LINKED.judge(black_box(table), plan, black_box(figures), E)),
         &mut || finish(reference::judge(black_box(table), plan, black_box(broken), E)),
-        &mut || finish(sepia::judge(black_box(table), plan, black_box(broken), E)),
+        &mut || finish(LINKED.judge(black_box(table), plan, black_box(broken), E)),
     ]);
     let both: Vec<[f64; 2]> = rounds.iter().map(|&[rust, rattle, ..]| [rust, rattle]).collect();
     print_pair("judge", label, &both);
@@ -236,9 +236,9 @@ fn time_judge(Case { label, table, plan, rows, figures, broken, .. }: &Case) -> 
 fn time_per_row(looped: &Case, stay: &Case) -> [String; 3] {
     let room = |case: &Case| vec![0; reference::whole_page(&case.table, case.plan).expect("a page").len()];
     let (mut one, mut two) = (room(looped), room(stay));
-    let rows = |case: &Case, out: &mut [u8]| finish(sepia::rows(black_box(&case.table), case.plan, black_box(out)));
-    let page = |case: &Case, out: &mut [u8]| finish(sepia::mps_page(black_box(&case.table), case.plan, black_box(out)));
-    let judge = |case: &Case| finish(sepia::judge(black_box(&case.table), case.plan, black_box(&case.figures), E));
+    let rows = |case: &Case, out: &mut [u8]| finish(LINKED.rows(black_box(&case.table), case.plan, black_box(out)));
+    let page = |case: &Case, out: &mut [u8]| finish(LINKED.mps_page(black_box(&case.table), case.plan, black_box(out)));
+    let judge = |case: &Case| finish(LINKED.judge(black_box(&case.table), case.plan, black_box(&case.figures), E));
     [
         per_row("rows", looped, stay, &measure([&mut || rows(looped, &mut one), &mut || rows(stay, &mut two)])),
         per_row("mps", looped, stay, &measure([&mut || page(looped, &mut one), &mut || page(stay, &mut two)])),

@@ -5,7 +5,7 @@ use table::Kind;
 use window::Looks;
 ghost use mathlib.Core.Path.{_≡_};
 ghost use Prim.Native.Nat.{_+_, _-_, _*_, _≤_, _<_, min};
-ghost use lib.ListN.{length};
+ghost use lib.ListN.{length, getD};
 ghost use Rattle.rules.specs.Quantities.{one, WindowAllowed, LoopAllowed};
 ghost use Rattle.rules.specs.Rule.Window.{within};
 ghost use Rattle.rules.specs.Table.{nodeAt};
@@ -13,15 +13,18 @@ ghost use Rattle.rules.specs.Table.Node.{windowed};
 ghost use Rattle.rules.specs.TableTest.{recordCount, nodesIn};
 ghost use Rattle.rules.specs.Errors.Figures.{rootError};
 ghost use Rattle.table.specs.Checks.{Ready};
-ghost use Rattle.window.specs.Slots.{Few, variableAt};
+ghost use Rattle.window.specs.Slots.{Few};
 ghost use Rattle.judge_errors.specs.Worked.{places, Room, Small, figureAt, Done, down};
-ghost use Rattle.judge_errors.specs.Window.{sumTo};
+ghost use Rattle.judge_errors.specs.Window.{Running, Rising, rise, windowRise};
 ghost use Rattle.judge_errors.specs.Count.{countingOf, PartsIn, PartsBelow, partsAt, laterAt};
 ghost use Rattle.judge_errors.specs.Count.{figureNow, figureAtom, figureHere, keptLater, laterEnd, figureLater};
 ghost use Rattle.judge_errors.specs.Known.{Known, Countable};
 
 // The places of the error figures of 128 nodes at 64 slots.
 const PLACES: usize = 8192;
+
+// The places of the sums of a part's first figures, of none up to all 64.
+const SUMS: usize = 65;
 
 // What a node counts beside e.
 enum Counting {
@@ -191,34 +194,37 @@ fn work_later(figures: &mut [u32], t: usize, l: usize, n: usize, parts: Parts, e
     }
 }
 
-// The k error figures from a place on, together.
-fn range_sum(figures: &[u32], from: usize, k: usize) -> u32
-    requires { ⌜ (from + k ≤ length (now figures)) × (k ≤ 64) × Small (now figures) ⌝ }
-    ensures { λ r. ⌜ (r ≡ sumTo (now (figures .entry)) (λ i. from + i) k) × (r ≤ one * k) ⌝ }
+// Puts the sums of the first figures of a part, whose t error figures stand from place p on: at place i that of the first i.
+fn sum_up(figures: &[u32], p: usize, t: usize, sums: &mut [u32])
+    requires { ⌜ (p + t ≤ length (now figures)) × (t ≤ 64) × (t < length (now sums)) × (getD (now sums) 0 0 ≡ 0) × Small (now figures) ⌝ }
+    ensures { λ _. ⌜ Running (now (figures .entry)) p t (now (sums .exit)) ⌝ }
 {
     let mut sum: u32 = 0;
     let mut i: usize = 0;
-    while i < k {
-        sum += figures[from + i];
+    while i < t {
+        sum += figures[p + i];
         i += 1;
+        sums[i] = sum;
     }
-    sum
 }
 
-// The error figures of a part at a window's slots, which are in one range or in two, together. p is the place of its figure at the first
-// slot of all.
-fn window_sum(figures: &[u32], p: usize, looks: Looks) -> u32
-    requires { ⌜ Few looks × (p + looks .first + looks .count + looks .skip ≤ length (now figures)) × (p ≤ places) × Small (now figures) ⌝ }
-    ensures { λ r. ⌜ (r ≡ sumTo (now (figures .entry)) (variableAt looks p) (looks .count)) × (r ≤ 64 * one) ⌝ }
+// The k figures from the i-th on, together, by these sums.
+fn between(sums: &[u32], i: usize, k: usize) -> u32
+    requires { ⌜ (i + k < length (now sums)) × (getD (now sums) i 0 ≤ getD (now sums) (i + k) 0) ⌝ }
+    ensures { λ r. ⌜ r ≡ rise (now (sums .entry)) i k ⌝ }
 {
-    let from = p + looks.first as usize;
+    sums[i + k] - sums[i]
+}
+
+// The figures at a window's slots, which are in one range or in two, together.
+fn window_sum(sums: &[u32], looks: Looks) -> u32
+    requires { ⌜ Few looks × Rising (looks .first + looks .count + looks .skip) (now sums) ⌝ }
+    ensures { λ r. ⌜ (r ≡ windowRise looks (now (sums .entry))) × (r ≤ 128 * one) ⌝ }
+{
+    let first = looks.first as usize;
     let head = looks.head as usize;
-    let rest = looks.rest as usize;
-    let first = range_sum(figures, from, head);
-    if 0 < rest {
-        return first + range_sum(figures, from + head + looks.skip as usize, rest);
-    }
-    first
+    let next = first + head + looks.skip as usize;
+    between(sums, first, head) + between(sums, next, looks.rest as usize)
 }
 
 // Writes the error figures of node n, which counts its part at the slots of its window.
@@ -228,12 +234,13 @@ fn work_window(figures: &mut [u32], t: usize, l: usize, n: usize, x: Windowed, e
         (now (figures .entry)) (now (figures .exit)) ⌝ }
 {
     let here = place(n, t);
-    let p = place(x.part, t);
+    let mut sums = [0u32; SUMS];
+    sum_up(figures, place(x.part, t), t, &mut sums);
     let mut s = t;
     while 0 < s {
         s -= 1;
         let looks = window::look(t as u16, l as u16, s as u16, x.from, x.to);
-        figures[here + s] = stopped(e as u32 + window_sum(figures, p, looks));
+        figures[here + s] = stopped(e as u32 + window_sum(&sums, looks));
     }
 }
 

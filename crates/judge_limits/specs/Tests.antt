@@ -13,6 +13,10 @@ abbrev pub found : Found → Option ℕ
 found (At v) = some v
 found Nowhere = none
 
+-- how many figures are tested at once
+abbrev pub atOnce : ℕ
+atOnce = 256
+
 abbrev pub outsideAt : (e : ℕ) → List ℤ → ℕ → Bool
 outsideAt e xs v = isOutside e (valueAt xs v)
 

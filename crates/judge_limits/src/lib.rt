@@ -1,15 +1,57 @@
 // The first variable whose figure fails a test.
 use millionths::Millionths;
 ghost use mathlib.Core.Path.{_≡_};
-ghost use Prim.Native.Nat.{_≤_};
+ghost use mathlib.Core.Bool.{cond};
+ghost use Prim.Native.Nat.{_+_, _-_, _≤_};
 ghost use lib.ListN.{length};
 ghost use Rattle.lists.specs.First.{first};
-ghost use Rattle.judge_limits.specs.Tests.{found, outsideAt, notBinaryAt};
+ghost use Rattle.lists.specs.Scan.{Passed};
+ghost use Rattle.judge_limits.specs.Tests.{found, atOnce, outsideAt, notBinaryAt};
 
 // The first variable that a search finds.
 pub enum Found {
     At(usize),
     Nowhere,
+}
+
+// How many figures are tested at once.
+const AT_ONCE: usize = 256;
+
+fn one_if(test: bool) -> u32
+    ensures { λ r. ⌜ (r ≡ cond test 1 0) × (r ≤ 1) ⌝ }
+{
+    if test { 1 } else { 0 }
+}
+
+// How many of the figures from one variable to another are outside, without a branch.
+fn count_outside(figures: &[i32], from: usize, to: usize, e: u16) -> u32
+    requires { ⌜ (from ≤ to) × (to ≤ from + atOnce) × (to ≤ length (now figures)) ⌝ }
+    ensures { λ r. ⌜ (r ≡ 0 → Passed (outsideAt e (now (figures .entry))) from to) ⌝ }
+{
+    let mut count: u32 = 0;
+    let mut v = from;
+    while v < to {
+        let figure = Millionths { value: figures[v] };
+        count += one_if(figure.is_outside(e));
+        v += 1;
+    }
+    count
+}
+
+// The lowest of the variables from one on to the n-th that is outside the limits.
+fn search_outside(figures: &[i32], from: usize, n: usize, e: u16) -> Found
+    requires { ⌜ (from ≤ n) × (n ≤ length (now figures)) ⌝ }
+    ensures { λ r. ⌜ found r ≡ first (outsideAt e (now (figures .entry))) (n - from) from ⌝ }
+{
+    let mut v = from;
+    while v < n {
+        let figure = Millionths { value: figures[v] };
+        if figure.is_outside(e) {
+            return Found::At(v);
+        }
+        v += 1;
+    }
+    Found::Nowhere
 }
 
 // The lowest of the first n variables that is outside the limits.
@@ -19,11 +61,11 @@ pub fn first_outside(figures: &[i32], n: usize, e: u16) -> Found
 {
     let mut v: usize = 0;
     while v < n {
-        let figure = Millionths { value: figures[v] };
-        if figure.is_outside(e) {
-            return Found::At(v);
+        let end = v + scalars::smaller(n - v, AT_ONCE);
+        if 0 < count_outside(figures, v, end, e) {
+            return search_outside(figures, v, n, e);
         }
-        v += 1;
+        v = end;
     }
     Found::Nowhere
 }

@@ -1,8 +1,8 @@
 -- A loop that looks upwards for the first number at which a test passes: of n numbers it is at number i.
-use mathlib.Core.Path.{_≡_, ap, _∙_}
+use mathlib.Core.Path.{_≡_, refl, sym, ap, _∙_}
 use mathlib.Core.Bool.{Bool, true, false, cond}
 use mathlib.Core.Option.{none, some}
-use Prim.Native.Nat.{ℕ, suc, _+_, _-_, _<_}
+use Prim.Native.Nat.{ℕ, suc, _+_, _-_, _≤_, _<_}
 use native.Mathlib.Omega.{arith}
 use native.Mathlib.Numerals.{add-one}
 use Rattle.lists.specs.First.{first}
@@ -27,3 +27,20 @@ module _ (f : ℕ → Bool) (n i : ℕ) where
 
 pub scan-start : (f : ℕ → Bool) (n : ℕ) → first f (n - 0) 0 ≡ first f n 0
 scan-start f n = let z : n - 0 ≡ n = omega arith in ap (λ (k : ℕ). first f k 0) z
+
+-- ---- several numbers at once
+
+-- none of the numbers from i to j passes the test: a search of any n numbers goes on from j
+abbrev pub Passed : (ℕ → Bool) → (i j : ℕ) → Type 0
+Passed f i j = (n : ℕ) → j ≤ n → first f (n - i) i ≡ first f (n - j) j
+
+pub passed-none : (f : ℕ → Bool) (i : ℕ) → Passed f i i
+passed-none f i n h = refl
+
+pub passed-more : (f : ℕ → Bool) (i j : ℕ) → Passed f i j → f j ≡ false → Passed f i (j + 1)
+passed-more f i j p t n h = p n (omega arith) ∙ scan-more f n j (omega arith) t
+
+-- by counting those that pass: while the count is 0, there is none
+pub passed-counted : (f : ℕ → Bool) (i j : ℕ) (b : Bool) {count : ℕ} → b ≡ f j → (count ≡ 0 → Passed f i j) → count + cond b 1 0 ≡ 0 → Passed f i (j + 1)
+passed-counted f i j true e p z = absurd (omega arith)
+passed-counted f i j false e p z = passed-more f i j (p (omega arith)) (sym e)

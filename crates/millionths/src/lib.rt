@@ -33,17 +33,17 @@ impl Millionths {
         self.value as i64
     }
 
-    // Below −e or above one and e.
+    // Below −e or above one and e. (With numbers of 32 bits, so that several figures are tested at once.)
     pub fn is_outside(self, e: u16) -> bool
         ensures { λ r. ⌜ r ≡ isOutside e (self .value) ⌝ }
     {
-        let x = self.wide();
-        let zero = Millionths::ZERO.wide();
-        let one = Millionths::ONE.wide();
-        if x < zero - e as i64 {
+        let x = self.value;
+        let zero = Millionths::ZERO.value;
+        let one = Millionths::ONE.value;
+        if x < zero - e as i32 {
             true
         } else {
-            one + (e as i64) < x
+            one + (e as i32) < x
         }
     }
 

@@ -28,7 +28,7 @@ use Rattle.rules.specs.Exactness.Rows.{rows-exact}
 use Rattle.rules.specs.Exactness.Judge.{judge-exact}
 use Rattle.mps.specs.Proved.{looping-le, if-le}
 use Rattle.mps_page.specs.Answers.{Short}
-use Rattle.sepia.specs.Boundary.{tooLarge, Fits, verdictValue, VerdictFits}
+use Rattle.sepia_answers.specs.Boundary.{tooLarge, Fits, verdictValue, VerdictFits}
 
 -- an outcome's result fits, where every result that it may have does
 fits : (Refused : ℕ → Type 0) (Is : Written → Type 0) (a : Answer Written) → Exact Refused Is a →

@@ -4,16 +4,14 @@ ghost use Prim.Native.Nat.{_≤_};
 ghost use lib.IntN.{natAbs};
 ghost use lib.ListN.{length};
 ghost use Rattle.millionths.specs.Bounds as Bounds;
-use crate::cases;
-use crate::cases::NUMBERS;
-use crate::show;
-use crate::show::FILL;
-use crate::show::FILL_WORD;
 use answers::Answer;
 use judge_sums::RowSum;
 use millionths::Millionths;
 use row::Term;
 use row::Terms;
+use test_cases::NUMBERS;
+use test_show::FILL;
+use test_show::FILL_WORD;
 
 // The length of a lent buffer's guard, and of all that can be lent, in bytes and in words.
 const GUARD: usize = 8;
@@ -43,8 +41,8 @@ fn lend(call: u8, list: &[usize; NUMBERS], bytes: &[u8], out: &mut [u8]) {
     }
     let room = out.len() - GUARD;
     let answer = made(call, list, bytes, &mut out[0..room]);
-    show::answer(answer);
-    show::buffer(out, call == b'm');
+    test_show::answer(answer);
+    test_show::buffer(out, call == b'm');
 }
 
 // A buffer's length with its guard, at most all that there is.
@@ -70,8 +68,8 @@ fn write(call: u8, list: &[usize; NUMBERS], bytes: &[u8]) {
 }
 
 fn evaluated(list: &[usize; NUMBERS], table: &[u8], out: &mut [u64]) -> Answer {
-    let run = cases::run(list);
-    let end = cases::end(list, 5);
+    let run = test_cases::run(list);
+    let end = test_cases::end(list, 5);
     evaluator::evaluate(table, list[2], list[3], list[4], &run[5..end], out)
 }
 
@@ -82,8 +80,8 @@ fn lend_words(list: &[usize; NUMBERS], table: &[u8], out: &mut [u64]) {
     }
     let room = out.len() - GUARD;
     let answer = evaluated(list, table, &mut out[0..room]);
-    show::answer(answer);
-    show::word_buffer(out);
+    test_show::answer(answer);
+    test_show::word_buffer(out);
 }
 
 fn lend_words_part(list: &[usize; NUMBERS], table: &[u8], space: &mut [u64]) {
@@ -99,23 +97,23 @@ fn evaluate(list: &[usize; NUMBERS], table: &[u8]) {
 
 // first WORD
 fn first(list: &[usize; NUMBERS]) {
-    show::text(b"slot");
-    show::slot(evaluator::first_slot(list[1] as u64));
-    show::text(b"\n");
+    test_show::text(b"slot");
+    test_show::slot(evaluator::first_slot(list[1] as u64));
+    test_show::text(b"\n");
 }
 
 // judge T M L E FIGURES:TABLE
 fn judge(list: &[usize; NUMBERS], table: &[u8]) {
-    let figures = cases::figures(list);
-    let end = cases::end(list, 5);
-    let e = cases::signed(list[4]);
-    show::ruling(judge::judge(table, list[1], list[2], list[3], &figures[5..end], e));
+    let figures = test_cases::figures(list);
+    let end = test_cases::end(list, 5);
+    let e = test_cases::signed(list[4]);
+    test_show::ruling(judge::judge(table, list[1], list[2], list[3], &figures[5..end], e));
 }
 
 fn judge_in(list: &[usize; NUMBERS], table: &[u8], space: &mut [i32]) {
-    let n = cases::counted(list, space);
-    let e = cases::signed(list[4]);
-    show::ruling(judge::judge(table, list[1], list[2], list[3], &space[0..n], e));
+    let n = test_cases::counted(list, space);
+    let e = test_cases::signed(list[4]);
+    test_show::ruling(judge::judge(table, list[1], list[2], list[3], &space[0..n], e));
 }
 
 // counted T M L E and pairs of a count and a figure:TABLE
@@ -128,23 +126,23 @@ fn judge_counted(list: &[usize; NUMBERS], table: &[u8]) {
 fn list_rows(input: &[u8]) {
     let mut page = [FILL; rowlist_text::LISTING];
     let n = rowlist_page::page_of(input, &mut page);
-    show::number(b"value ", n);
-    show::text(b"\n");
-    show::buffer(&page, true);
+    test_show::number(b"value ", n);
+    test_show::text(b"\n");
+    test_show::buffer(&page, true);
 }
 
 // sum X Y and terms of a coefficient and a variable, over the figures X and Y
 fn sum(list: &[usize; NUMBERS]) {
-    let figures = cases::figures(list);
+    let figures = test_cases::figures(list);
     show_sum(judge_sums::row_sum(&figures[1..3], terms(list)));
 }
 
 fn show_sum(sum: RowSum)
     requires { ⌜ (natAbs (sum .positive) ≤ Bounds.rowSum) × (natAbs (sum .whole) ≤ Bounds.rowSum) ⌝ }
 {
-    show::signed(b"positive ", sum.positive);
-    show::signed(b" whole ", sum.whole);
-    show::text(b"\n");
+    test_show::signed(b"positive ", sum.positive);
+    test_show::signed(b" whole ", sum.whole);
+    test_show::text(b"\n");
 }
 
 fn terms(list: &[usize; NUMBERS]) -> Terms {
@@ -160,7 +158,7 @@ fn terms(list: &[usize; NUMBERS]) -> Terms {
 
 fn term(coefficient: usize, variable: usize) -> Term {
     Term {
-        coefficient: cases::signed_byte(coefficient),
+        coefficient: test_cases::signed_byte(coefficient),
         variable: (variable % 65536) as u16,
     }
 }
@@ -200,8 +198,8 @@ fn window_sum(is_within: bool, sum: i64, x: Millionths) -> RowSum
 // total W X and figures: a window's last row, of F[a,b] where W is 1 and otherwise of G[a,b], over the node's figure X and
 // the part's at the slots of the window
 fn total(list: &[usize; NUMBERS]) {
-    let figures = cases::figures(list);
-    let end = slots_end(cases::end(list, 3));
+    let figures = test_cases::figures(list);
+    let end = slots_end(test_cases::end(list, 3));
     let sum = sum_of(&figures[3..end]);
     let x = Millionths { value: figures[2] };
     show_sum(window_sum(list[1] == 1, sum, x));
@@ -217,20 +215,20 @@ fn call_with(call: u8, list: &[usize; NUMBERS], bytes: &[u8]) {
         b's' => sum(list),
         b't' => total(list),
         b'r' | b'w' | b'm' => write(call, list, bytes),
-        _ => show::line(b"no such call"),
+        _ => test_show::line(b"no such call"),
     }
 }
 
 fn run(line: &[u8], call: u8) {
-    let list = cases::numbers(line);
-    let mut space = [0u8; cases::BYTES];
-    let n = cases::bytes(line, &mut space);
+    let list = test_cases::numbers(line);
+    let mut space = [0u8; test_cases::BYTES];
+    let n = test_cases::bytes(line, &mut space);
     call_with(call, &list, &space[0..n]);
 }
 
 // Prints a line and runs its case; a line with `#` is a note and is printed alone.
 pub fn run_line(line: &[u8]) {
-    show::case(line);
+    test_show::case(line);
     if line.len() == 0 {
         return;
     }

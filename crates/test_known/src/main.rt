@@ -1,7 +1,5 @@
 // Runs the cases of standard input, one a line.
 mod calls;
-mod cases;
-mod show;
 
 use libc::STDIN_FILENO;
 

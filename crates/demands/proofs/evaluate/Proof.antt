@@ -1,7 +1,7 @@
 -- `demands::evaluate` meets its contract: demands 1 and 2, and the bytes of before, from the contract of `evaluator::evaluate`.
 use Rattle.answers.specs.Meaning.{answerOf}
-use Rattle.demands.specs.Refusing.{evaluator-refuses}
-use Rattle.demands.specs.Answering.{evaluator-answers, evaluator-bytes}
+use Rattle.headlines.specs.Refusing.{evaluator-refuses}
+use Rattle.headlines.specs.Answering.{evaluator-answers, evaluator-bytes}
 use borrow.Author.Needs.{needs}
 use Rattle.demands.proofs.evaluate.Statement.{statement}
 use Rattle.demands.proofs.evaluate.Tie as tie

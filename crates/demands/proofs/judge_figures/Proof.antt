@@ -3,11 +3,11 @@ use mathlib.Core.Path.{ap, _∙_}
 use mir.Facts.{toZ-ofZ}
 use Rattle.rules.specs.Outcome.{judgeOutcome}
 use Rattle.judge.specs.Meaning.{rulingOf}
-use Rattle.demands.specs.Refusing.{judge-refuses}
-use Rattle.demands.specs.Answering.{judge-answers}
-use Rattle.demands.specs.Passing.{passed-means, passed-at-zero, passed-near}
-use Rattle.demands.specs.Carrying.{same-verdict, carries-shortfall}
-use Rattle.demands.specs.Summing.{summed-verdict}
+use Rattle.headlines.specs.Refusing.{judge-refuses}
+use Rattle.headlines.specs.Answering.{judge-answers}
+use Rattle.headlines.specs.Passing.{passed-means, passed-at-zero, passed-near}
+use Rattle.headlines.specs.Carrying.{same-verdict, carries-shortfall}
+use Rattle.headlines.specs.Summing.{summed-verdict}
 use borrow.Author.Needs.{needs}
 use Rattle.demands.proofs.judge_figures.Statement.{statement}
 use Rattle.demands.proofs.judge_figures.Tie as tie

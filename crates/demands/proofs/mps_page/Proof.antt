@@ -1,6 +1,6 @@
 -- `demands::mps_page` meets its contract: demands 1 and 2 and what the page says, from the contract of `mps_page::mps_page`.
 use Rattle.answers.specs.Meaning.{answerOf}
-use Rattle.demands.specs.Paging.{page-refuses, page-answers, page-means}
+use Rattle.headlines.specs.Paging.{page-refuses, page-answers, page-means}
 use borrow.Author.Needs.{needs}
 use Rattle.demands.proofs.mps_page.Statement.{statement}
 use Rattle.demands.proofs.mps_page.Tie as tie

@@ -3,8 +3,8 @@
 use mathlib.Core.Path.{sym, ap, _∙_}
 use native.Mathlib.Omega.{arith}
 use lib.Seq.{length-take-le}
-use Rattle.answers.specs.Meaning.{answerOf}
-use Rattle.demands.proofs.Calls.{read-room, read-refused, rows-refused, evaluate-refused, all-done, both}
+use Rattle.answers.specs.Meaning.{numberOf, answerOf}
+use Rattle.headlines.specs.Planning.{read-room, read-refused, rows-refused, evaluate-refused, all-done, both}
 use borrow.Author.Needs.{needs}
 use Rattle.demands.proofs.plan.Statement.{statement}
 use Rattle.demands.proofs.plan.Tie as tie
@@ -99,7 +99,7 @@ returns c =
     let h = a .horizon in
     both (h .t) (h .m) (h .l) (a .text .now) (a .run .now) (a .table .now) (a .rows .now) (a .truth .now) _ _ _ _
     (read-refused (h .t) (h .m) (h .l) (a .text .now) (a .run .now) (a .table .now) (a .rows .now) (a .truth .now)
-    (k .last .1 .1 .0) (k .ensures .1) (r .0 .0) (sym (ap answerOf (r .1)) ∙ k .ensures .0))
+    (k .last .1 .1 .0) (k .ensures .1) (numberOf (r .0 .0)) (sym (ap answerOf (r .1)) ∙ k .ensures .0))
 
 same-length-2 : tie.Need-same-length-2
 same-length-2 c = search needs
@@ -119,7 +119,7 @@ returns-2 c =
     both (h .t) (h .m) (h .l) (a .text .now) (a .run .now) (a .table .now) (a .rows .now) (a .truth .now) _ _ _ _
     (rows-refused (h .t) (h .m) (h .l) (a .text .now) (a .run .now) (a .table .now) (a .rows .now) (a .truth .now)
     (k .last .1 .1 .0) (k .ensures .1) (n .0 .0) (sym (ap answerOf (n .1)) ∙ k .ensures .0)
-    (w .last .1 .1 .1 .1 .0) (w .ensures .1) (r .0 .0) (sym (ap answerOf (r .1)) ∙ w .ensures .0))
+    (w .last .1 .1 .1 .1 .0) (w .ensures .1) (numberOf (r .0 .0)) (sym (ap answerOf (r .1)) ∙ w .ensures .0))
 
 same-length-4 : tie.Need-same-length-4
 same-length-4 c = search needs
@@ -147,7 +147,7 @@ returns-3 c =
     (evaluate-refused (h .t) (h .m) (h .l) (a .text .now) (a .run .now) (a .table .now) (a .rows .now) (a .truth .now)
     (k .last .1 .1 .0) (k .ensures .1) (n .0 .0) (sym (ap answerOf (n .1)) ∙ k .ensures .0)
     (w .last .1 .1 .1 .1 .0) (w .ensures .1) (count .0 .0) (sym (ap answerOf (count .1)) ∙ w .ensures .0)
-    (e .last .1 .1 .1 .1 .1 .0) (e .ensures .1) (r .0 .0) (sym (ap answerOf (r .1)) ∙ e .ensures .0))
+    (e .last .1 .1 .1 .1 .1 .0) (e .ensures .1) (numberOf (r .0 .0)) (sym (ap answerOf (r .1)) ∙ e .ensures .0))
 
 same-length-7 : tie.Need-same-length-7
 same-length-7 c = search needs

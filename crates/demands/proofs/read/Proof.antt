@@ -1,7 +1,7 @@
 -- `demands::read` meets its contract: demands 1 and 2 and the heights, from the contract of `reader::read`.
 use Rattle.answers.specs.Meaning.{answerOf}
-use Rattle.demands.specs.Refusing.{reader-refuses}
-use Rattle.demands.specs.Answering.{reader-answers, reader-heights}
+use Rattle.headlines.specs.Refusing.{reader-refuses}
+use Rattle.headlines.specs.Answering.{reader-answers, reader-heights}
 use borrow.Author.Needs.{needs}
 use Rattle.demands.proofs.read.Statement.{statement}
 use Rattle.demands.proofs.read.Tie as tie

@@ -1,8 +1,8 @@
 -- `demands::row_sum` meets its contract, from the contract of `judge_sums::row_sum`.
 use mathlib.Core.Path.{subst⁻¹}
 use Rattle.row.specs.Meaning.{termsOf}
-use Rattle.demands.specs.RowSum.{PositiveFirst}
-use Rattle.demands.specs.Summing.{positive-first}
+use Rattle.headlines.specs.RowSum.{PositiveFirst}
+use Rattle.headlines.specs.Summing.{positive-first}
 use borrow.Author.Needs.{needs}
 use Rattle.demands.proofs.row_sum.Statement.{statement}
 use Rattle.demands.proofs.row_sum.Tie as tie

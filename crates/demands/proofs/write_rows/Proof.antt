@@ -1,7 +1,7 @@
 -- `demands::write_rows` meets its contract: demands 1 and 2, from the contract of `rows::write_rows`.
 use Rattle.answers.specs.Meaning.{answerOf}
-use Rattle.demands.specs.Refusing.{row-writer-refuses}
-use Rattle.demands.specs.Answering.{row-writer-answers}
+use Rattle.headlines.specs.Refusing.{row-writer-refuses}
+use Rattle.headlines.specs.Answering.{row-writer-answers}
 use borrow.Author.Needs.{needs}
 use Rattle.demands.proofs.write_rows.Statement.{statement}
 use Rattle.demands.proofs.write_rows.Tie as tie

@@ -1,26 +1,26 @@
 -- `judge_errors::work_window` meets its contract. The loop's invariant: the node has been worked from slot s on. Assumes nothing.
-use mathlib.Core.Path.{_≡_, ap, _∙_}
-use Prim.Native.Nat.{ℕ, _+_, _-_, _*_, _≤_, min}
+use mathlib.Core.Path.{_≡_, refl, ap, subst, _∙_}
+use Prim.Native.Nat.{ℕ, _+_, _-_, _*_, _≤_, _<_, min}
 use native.Mathlib.Omega.{arith}
-use lib.ListN.{getD}
+use lib.ListN.{length}
 use Rattle.lists.specs.Place.{place-end}
 use Rattle.rules.specs.Quantities.{one}
 use Rattle.rules.specs.Rule.Window.{within}
 use Rattle.rules.specs.Table.Node.{windowed}
-use Rattle.rules.specs.Rows.{windowSlots}
-use Rattle.rules.specs.Errors.Sums.{sumOver}
 use Rattle.judge_errors.specs.Worked.{Worked, Small, worked-none, step}
-use Rattle.judge_errors.specs.Window.{sum-all, sum-below}
+use Rattle.judge_errors.specs.Window.{Running, running-rises, window-rise, sum-all}
 use Rattle.judge_errors.specs.Count.{figureNow}
+use borrow.Author.Needs.{needs}
 use Rattle.judge_errors.proofs.work_window.Statement.{statement}
 use Rattle.judge_errors.proofs.work_window.Tie as tie
 
 abbrev Inv-loop : tie.InvT-loop
-Inv-loop figures₀ t l n x e here p s₀ figures s =
-    (s ≤ t) × Worked t n (figureNow t l e figures₀ (windowed within (x .from) (x .to) (x .part))) figures₀ s figures × Small figures
+Inv-loop figures₀ t l n x e here sums s₀ figures s =
+    (s ≤ t) × Worked t n (figureNow t l e figures₀ (windowed within (x .from) (x .to) (x .part))) figures₀ s figures × Small figures ×
+    Running figures₀ (x .part * t) t sums × (t < length sums)
 
 abbrev μ-loop : tie.MeasureT-loop
-μ-loop figures₀ t l n x e here p s₀ figures s = s
+μ-loop figures₀ t l n x e here sums s₀ figures s = s
 
 place-requires : tie.Need-place-requires Inv-loop μ-loop
 place-requires c κs = omega arith
@@ -28,8 +28,31 @@ place-requires c κs = omega arith
 place-requires-2 : tie.Need-place-requires-2 Inv-loop μ-loop
 place-requires-2 c κs = omega arith
 
+slice-aggregate-sum-up : tie.Need-slice-aggregate-sum-up Inv-loop μ-loop
+slice-aggregate-sum-up c = refl
+
+sum-up-requires : tie.Need-sum-up-requires Inv-loop μ-loop
+sum-up-requires c κs =
+    let a = c .before .before .before .before .before in (
+      omega (arith, c .before .place2 .ensures .0, place-end (a .args .t) (a .pre .2), a .pre .0 .inside),
+      a .pre .0 .slots,
+      omega (arith, a .pre .0 .slots),
+      refl,
+      a .pre .1,
+    )
+
 loop-holds : tie.Need-loop-holds Inv-loop μ-loop
-loop-holds c = (omega arith, worked-none _ _ _ _, c .before .before .before .pre .1)
+loop-holds c =
+    let a = c .before .before .before .before .before .before .before in
+    let sums = c .before .sum-up .last .1 .1 .1 .0 in
+    let long : 65 ≡ length sums = search needs in
+    let part = c .before .before .before .place2 .ensures .0 in (
+      omega arith,
+      worked-none _ _ _ _,
+      a .pre .1,
+      subst (λ (p : ℕ). Running (a .args .figures .now) p (a .args .t) sums) part (c .before .sum-up .ensures),
+      omega (arith, long, a .pre .0 .slots),
+    )
 
 sub-s : tie.Need-sub-s Inv-loop μ-loop
 sub-s c = omega arith
@@ -38,24 +61,27 @@ cast-look : tie.Need-cast-look Inv-loop μ-loop
 cast-look c = omega arith
 
 cast-look-2 : tie.Need-cast-look-2 Inv-loop μ-loop
-cast-look-2 c = omega (arith, c .before .before .before .before .before .pre .4 .1)
+cast-look-2 c = omega (arith, c .before .before .before .before .before .before .before .before .before .pre .4 .1)
 
 cast-look-3 : tie.Need-cast-look-3 Inv-loop μ-loop
 cast-look-3 c = omega arith
 
 look-requires : tie.Need-look-requires Inv-loop μ-loop
 look-requires c κs =
-    let a = c .before .before .before .before .before in
+    let a = c .before .before .before .before .before .before .before .before .before in
     let l = c .before .loop in
     (a .pre .4 .0, a .pre .4 .1, a .pre .0 .slots, omega (arith, c .loop-test, l .inv .0), a .pre .3 .0, a .pre .3 .1)
+
+slice-aggregate-window-sum : tie.Need-slice-aggregate-window-sum Inv-loop μ-loop
+slice-aggregate-window-sum c = search needs
 
 window-sum-requires : tie.Need-window-sum-requires Inv-loop μ-loop
 window-sum-requires c κs =
     let k = c .before .look .ensures in
-    let l = c .before .before .before in
-    let a = l .before .before .before .before in
-    let place = l .before .place2 .ensures in
-    (k .are-few, omega (arith, k .small, place .0, place-end (a .args .t) (a .pre .2), a .pre .0 .inside, l .loop .inv .1 .same), place .1, l .loop .inv .2)
+    let l = c .before .before .before .loop in
+    let a = c .before .before .before .before .before .before .before .before .before .before .before in
+    let first = a .args .x .part * a .args .t in
+    (k .are-few, running-rises (a .args .figures .now) first (a .args .t) _ (l .inv .3) (a .pre .1) (a .pre .0 .slots) (l .inv .4) _ (k .small))
 
 add-stopped : tie.Need-add-stopped Inv-loop μ-loop
 add-stopped c = omega arith
@@ -72,7 +98,7 @@ mul-figures c = omega arith
 slice-write-figures : tie.Need-slice-write-figures Inv-loop μ-loop
 slice-write-figures c =
     let l = c .before .before .before .before .before in
-    let h = l .before .before in
+    let h = l .before .before .before .before .before .before in
     omega (arith, h .place .ensures .0, h .before .before .pre .0 .inside, l .loop .inv .1 .same)
 
 loop-less : tie.Need-loop-less Inv-loop μ-loop
@@ -81,22 +107,19 @@ loop-less c = omega arith
 loop-again : tie.Need-loop-again Inv-loop μ-loop
 loop-again c =
     let l = c .before .before .before .before .before in
-    let h = l .before .before in
+    let h = l .before .before .before .before .before .before in
     let a = h .before .before in
-    let x = a .args .x in
-    let s = l .loop .s in
-    let m = l .loop .figures in
-    let slots = windowSlots (a .args .t) (a .args .l) (s - 1 + 1) (x .from) (x .to) in
-    let i : h .place .result + (s - 1) ≡ a .args .n * a .args .t + (s - 1) = omega (arith, h .place .ensures .0) in
+    let first = a .args .x .part * a .args .t in
+    let stand = l .before .before .sum-up .last .1 .1 .1 .0 in
+    let i : h .place .result + (l .loop .s - 1) ≡ a .args .n * a .args .t + (l .loop .s - 1) = omega (arith, h .place .ensures .0) in
     let look = c .before .before .before .look in
     let sums =
     c .before .window-sum .ensures .0
-    ∙ sum-all m (look .result) (l .before .place2 .result) (look .ensures)
-    ∙ ap (λ (i : ℕ). sumOver (λ x. getD m (i + (x - 1)) 0) slots) (l .before .place2 .ensures .0)
-    ∙ sum-below (l .loop .inv .1) (a .args .l) (x .part) (s - 1 + 1) (x .from) (x .to) (a .pre .2) in
+    ∙ window-rise (a .args .figures .now) first (a .args .t) stand (l .loop .inv .3) (look .result) (look .ensures .are-few) (look .ensures .small)
+    ∙ sum-all (a .args .figures .now) (look .result) first (look .ensures) in
     let counts = ap (λ (x : ℕ). min one (a .args .e + x)) sums in
     let w = step (l .loop .inv .1) (l .loop .inv .2) (a .pre .0) (omega arith) (l .loop .inv .0) _ _ _ i (c .stopped .ensures) counts in
-    (omega arith, w .0, w .1)
+    (omega arith, w .0, w .1, l .loop .inv .3, l .loop .inv .4)
 
 same-length : tie.Need-same-length Inv-loop μ-loop
 same-length c = c .before .loop .inv .1 .same
@@ -114,12 +137,15 @@ work-window-spec =
     μ-loop
     place-requires
     place-requires-2
+    slice-aggregate-sum-up
+    sum-up-requires
     loop-holds
     sub-s
     cast-look
     cast-look-2
     cast-look-3
     look-requires
+    slice-aggregate-window-sum
     window-sum-requires
     add-stopped
     stopped-requires

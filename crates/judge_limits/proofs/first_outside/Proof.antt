@@ -1,55 +1,41 @@
 -- `judge_limits::first_outside` meets its contract. The loop's invariant: the search from here on finds what the whole search does.
 -- Assumes nothing.
-use mathlib.Core.Path.{_≡_, sym, ap, _∙_}
-use Prim.Native.Nat.{_≤_, _-_}
+use mathlib.Core.Path.{_≡_, sym, _∙_}
+use Prim.Native.Nat.{_+_, _-_, _≤_}
 use native.Mathlib.Omega.{arith}
 use borrow.Author.Needs.{needs}
-use lib.IntN.{pos}
-use lib.ListN.{getD}
-use mir.Syntax.{w32}
 use Rattle.lists.specs.First.{first}
-use Rattle.lists.specs.Scan.{scan-start, scan-found, scan-more, scan-over}
-use Rattle.ints.specs.Stored.{told-back}
-use Rattle.rules.specs.Verdicts.{isOutside}
+use Rattle.lists.specs.Scan.{scan-start, scan-over}
 use Rattle.judge_limits.specs.Tests.{outsideAt}
 use Rattle.judge_limits.proofs.first_outside.Statement.{statement}
 use Rattle.judge_limits.proofs.first_outside.Tie as tie
 
 abbrev Inv-loop : tie.InvT-loop
-Inv-loop figures n e v₀ v = (v ≤ n) × (first (outsideAt e figures) (n - v) v ≡ first (outsideAt e figures) (n) 0)
+Inv-loop figures n e v₀ v = (v ≤ n) × (first (outsideAt e figures) (n - v) v ≡ first (outsideAt e figures) n 0)
 
 abbrev μ-loop : tie.MeasureT-loop
 μ-loop figures n e v₀ v = n - v
 
-test-is : (c : tie.After-is-outside Inv-loop μ-loop) →
-    let a = c .before .before .before .before .args in
-    c .is-outside .result ≡ outsideAt (a .e) (a .figures .now) (c .before .before .before .loop .v)
-test-is c =
-    let a = c .before .before .before .before .args in
-    c .is-outside .ensures
-    ∙ ap (isOutside (a .e)) (told-back w32 (getD (a .figures .now) (c .before .before .before .loop .v) (pos 0)) (c .before .t9 .given))
-
 loop-holds : tie.Need-loop-holds Inv-loop μ-loop
 loop-holds c = (omega arith, scan-start _ _)
 
-mul-t7 : tie.Need-mul-t7 Inv-loop μ-loop
-mul-t7 c = search needs
+sub-smaller : tie.Need-sub-smaller Inv-loop μ-loop
+sub-smaller c = search needs
 
-shared-slice-copy-out-t9 : tie.Need-shared-slice-copy-out-t9 Inv-loop μ-loop
-shared-slice-copy-out-t9 c = search needs
+smaller-requires : tie.Need-smaller-requires Inv-loop μ-loop
+smaller-requires c κs = search needs
 
-is-outside-requires : tie.Need-is-outside-requires Inv-loop μ-loop
-is-outside-requires c κs = search needs
+add-end : tie.Need-add-end Inv-loop μ-loop
+add-end c = search needs
+
+count-outside-requires : tie.Need-count-outside-requires Inv-loop μ-loop
+count-outside-requires c κs = search needs
+
+search-outside-requires : tie.Need-search-outside-requires Inv-loop μ-loop
+search-outside-requires c κs = search needs
 
 returns : tie.Need-returns Inv-loop μ-loop
-returns c =
-    let l = c .before .before .before .before in
-    let a = l .before .args in
-    sym (scan-found (outsideAt (a .e) (a .figures .now)) (a .n) (l .loop .v) (omega arith)
-    (sym (test-is (c .before)) ∙ c .if1 .taken)) ∙ l .loop .inv .1
-
-add-v : tie.Need-add-v Inv-loop μ-loop
-add-v c = search needs
+returns c = c .search-outside .ensures ∙ c .before .before .before .before .before .loop .inv .1
 
 loop-less : tie.Need-loop-less Inv-loop μ-loop
 loop-less c = search needs
@@ -57,11 +43,10 @@ loop-less c = search needs
 loop-again : tie.Need-loop-again Inv-loop μ-loop
 loop-again c =
     let l = c .before .before .before .before in
-    let a = l .before .args in (
-      omega arith,
-      sym (scan-more (outsideAt (a .e) (a .figures .now)) (a .n) (l .loop .v) (omega arith)
-          (sym (test-is (c .before)) ∙ c .if1 .left)) ∙ l .loop .inv .1,
-    )
+    let a = l .before .args in
+    let none = c .before .count-outside .ensures (omega (arith, c .if1 .left)) in
+    let inside : l .loop .v + c .before .before .smaller .result ≤ a .n = omega (arith, c .before .before .smaller .ensures, l .loop .inv .0) in
+    (inside, sym (none (a .n) inside) ∙ l .loop .inv .1)
 
 returns-2 : tie.Need-returns-2 Inv-loop μ-loop
 returns-2 c =
@@ -76,11 +61,12 @@ first-outside-spec =
     Inv-loop
     μ-loop
     loop-holds
-    mul-t7
-    shared-slice-copy-out-t9
-    is-outside-requires
+    sub-smaller
+    smaller-requires
+    add-end
+    count-outside-requires
+    search-outside-requires
     returns
-    add-v
     loop-less
     loop-again
     returns-2)

@@ -2,7 +2,7 @@
 use mathlib.Core.Path.{sym, ap, subst, _∙_}
 use mir.Facts.{toZ-ofZ}
 use Rattle.rules.specs.Outcome.{judgeOutcome}
-use Rattle.sepia.specs.Boundary.{verdictInC, VerdictFits}
+use Rattle.sepia_answers.specs.Boundary.{verdictInC, VerdictFits}
 use Rattle.sepia.proofs.Bounds.{judge-fits}
 use borrow.Author.Needs.{needs}
 use Rattle.sepia.proofs.sepia_judge.Statement.{statement}

@@ -1,7 +1,7 @@
 -- `sepia::sepia_mps` meets its contract, from that of the call.
 use mathlib.Core.Path.{ap, _∙_}
 use Rattle.answers.specs.Meaning.{answerOf}
-use Rattle.sepia.specs.Boundary.{inC}
+use Rattle.sepia_answers.specs.Boundary.{inC}
 use Rattle.sepia.proofs.Bounds.{short-fits}
 use borrow.Author.Needs.{needs}
 use Rattle.sepia.proofs.sepia_mps.Statement.{statement}

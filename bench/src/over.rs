@@ -1,0 +1,98 @@
+//! The library now over that of before. What a call takes depends on where the linker puts it, and a function stands at an
+//! address that 16 divides: so each library comes four times, moved on by 16 bytes each, and every function has stood at
+//! each place in a line of the cache.
+
+use std::hint::black_box;
+
+use crate::reference;
+use crate::sepia::Library;
+use crate::shape;
+use crate::speed::{all_inputs, case, finish, measure, median, Case, E, REPETITIONS, ROUNDS};
+
+const PLACES: usize = 4;
+const SIDES: usize = 2 * PLACES;
+type Libraries = [Library; SIDES];
+
+/// The four of before, and then the four of now.
+pub fn run(libraries: Libraries) {
+    println!("Nanoseconds of processor time a call, medians of {ROUNDS} rounds of {REPETITIONS} timings, the eight in turn.");
+    println!("The ratio is now over before in one round, for the best of the four places of each and for all four together.");
+    println!("\n| call | input | before | now | best place | rounds | all places | rounds |");
+    println!("|---|---|---:|---:|---:|---|---:|---|");
+    for input in &all_inputs() {
+        for l in [input.t, 1, input.t / 2] {
+            let case = case(input, l);
+            if l == input.t {
+                time_read(&case, &libraries);
+            }
+            time_evaluate(&case, &libraries);
+            time_rows(&case, &libraries);
+            time_page(&case, &libraries);
+            time_judge(&case, &libraries);
+        }
+    }
+}
+
+/// Prints a line on calls of one kind, one of each library.
+fn time(call: &str, case: &Case, mut sides: Vec<impl FnMut()>) {
+    let mut each = sides.iter_mut();
+    let sides = std::array::from_fn(|_| each.next().expect("a side for each library") as &mut dyn FnMut());
+    let rounds: Vec<[f64; SIDES]> = measure(sides);
+    let best = |round: &[f64]| round.iter().copied().fold(f64::INFINITY, f64::min);
+    let all = |round: &[f64]| round.iter().sum::<f64>() / PLACES as f64;
+    let of = |part: fn(&[f64; SIDES]) -> &[f64]| median(rounds.iter().map(|round| best(part(round))).collect());
+    println!(
+        "| {call} | {} | {:.0} | {:.0} | {} | {} |",
+        case.label,
+        of(|round| &round[..PLACES]),
+        of(|round| &round[PLACES..]),
+        ratio(&rounds, best),
+        ratio(&rounds, all)
+    );
+}
+
+fn ratio(rounds: &[[f64; SIDES]], of: impl Fn(&[f64]) -> f64) -> String {
+    let ratios: Vec<f64> = rounds.iter().map(|round| of(&round[PLACES..]) / of(&round[..PLACES])).collect();
+    let least = ratios.iter().copied().fold(f64::INFINITY, f64::min);
+    let largest = ratios.iter().copied().fold(0.0, f64::max);
+    format!("{:.2} | {least:.2} to {largest:.2}", median(ratios))
+}
+
+fn time_read(case: &Case, libraries: &Libraries) {
+    let sides = |library| {
+        let mut out = vec![0; case.table.len()];
+        move || finish(Library::read(library, black_box(&case.text), case.plan.m, black_box(&mut out)))
+    };
+    time("read", case, libraries.iter().map(sides).collect());
+}
+
+fn time_evaluate(case: &Case, libraries: &Libraries) {
+    let sides = |library| {
+        let mut out = vec![0; shape::len(&case.table)];
+        move || finish(Library::evaluate(library, black_box(&case.table), case.plan, black_box(&case.run), black_box(&mut out)))
+    };
+    time("evaluate", case, libraries.iter().map(sides).collect());
+}
+
+fn time_rows(case: &Case, libraries: &Libraries) {
+    let bytes = reference::row_bytes(&case.table, case.plan).expect("rows");
+    let sides = |library| {
+        let mut out = vec![0; bytes];
+        move || finish(Library::rows(library, black_box(&case.table), case.plan, black_box(&mut out)))
+    };
+    time("rows", case, libraries.iter().map(sides).collect());
+}
+
+fn time_page(case: &Case, libraries: &Libraries) {
+    let bytes = reference::whole_page(&case.table, case.plan).expect("a page").len();
+    let sides = |library| {
+        let mut out = vec![0; bytes];
+        move || finish(Library::mps_page(library, black_box(&case.table), case.plan, black_box(&mut out)))
+    };
+    time("mps", case, libraries.iter().map(sides).collect());
+}
+
+fn time_judge(case: &Case, libraries: &Libraries) {
+    let sides = |library| move || finish(Library::judge(library, black_box(&case.table), case.plan, black_box(&case.figures), E));
+    time("judge", case, libraries.iter().map(sides).collect());
+}
