@@ -955,6 +955,15 @@ def judging():
     judge(1, 1, 1000, [-2147483648, 0], "o0", ATOM)
     judge(1, 1, 1000, [ONE, 2147483647], "o1", ATOM)
     judge(1, 1, 0, [0, -2147483648], "o1", ATOM)
+    say("By hand: the lowest of 576 figures that is outside, wherever it stands; none: seven `!` in a row, T 64, break their first row")
+    nots = table((1, 0, 0), *((2, child, 0) for child in range(7)))
+    for place in (0, 1, 63, 64, 255, 256, 257, 511, 512, 513, 574, 575):
+        after = 575 - place
+        judge(64, 1, 0, [0] * place + [-1] + [0] * after, f"o{place}", nots)
+        judge(64, 1, 1000, [ONE + 1000] * place + [ONE + 1001] + [-1001] * after, f"o{place}", nots)
+    for place, later in ((0, 575), (255, 256), (256, 257), (300, 301), (511, 512), (512, 575)):
+        judge(64, 1, 0, [0] * place + [ONE + 1] + [0] * (later - place - 1) + [-1] + [0] * (575 - later), f"o{place}", nots)
+    judge(64, 1, 1000, [-1000] * 576, "k64,1002000", nots)
     say("By hand: not binary is strict and of atoms alone")
     judge(1, 1, 0, [1, 1], "b0", ATOM)
     judge(1, 1, 1, [1, 1], "k1,999999", ATOM)

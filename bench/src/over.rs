@@ -1,7 +1,8 @@
-//! The library now over that of before. What a call takes depends on where the linker puts it, and a function stands at an
-//! address that 16 divides: so each library comes four times, moved on by 16 bytes each, and every function has stood at
+//! The library now over that of before. What a call takes depends on where the linker puts it, and a function stands at
+//! an address that 16 divides: so each library comes four times, 16 bytes on each time, and every function has stood at
 //! each place in a line of the cache.
 
+use std::fmt::Debug;
 use std::hint::black_box;
 
 use crate::reference;
@@ -15,13 +16,14 @@ type Libraries = [Library; SIDES];
 
 /// The four of before, and then the four of now.
 pub fn run(libraries: Libraries) {
-    println!("Nanoseconds of processor time a call, medians of {ROUNDS} rounds of {REPETITIONS} timings, the eight in turn.");
-    println!("The ratio is now over before in one round, for the best of the four places of each and for all four together.");
+    println!("Nanoseconds of processor time a call: medians of {ROUNDS} rounds of {REPETITIONS} timings, in turn.");
+    println!("The ratio is now over before in one round, for the best of the four places and for all four together.");
     println!("\n| call | input | before | now | best place | rounds | all places | rounds |");
     println!("|---|---|---:|---:|---:|---|---:|---|");
     for input in &all_inputs() {
         for l in [input.t, 1, input.t / 2] {
             let case = case(input, l);
+            libraries.iter().for_each(|library| hold(&case, library));
             if l == input.t {
                 time_read(&case, &libraries);
             }
@@ -31,6 +33,36 @@ pub fn run(libraries: Libraries) {
             time_judge(&case, &libraries);
         }
     }
+}
+
+/// Holds a library's answers, and what it writes, to the reference.
+fn hold(Case { text, table, plan, run, figures, broken, .. }: &Case, library: &Library) {
+    let plan = *plan;
+    let rows = reference::row_bytes(table, plan).expect("rows");
+    let page = reference::whole_page(table, plan).expect("a page").len();
+    same(table.len(), |out| reference::read(text, plan.m, out), |out| library.read(text, plan.m, out));
+    same(
+        shape::len(table),
+        |out| reference::evaluate(table, plan, run, out),
+        |out| library.evaluate(table, plan, run, out),
+    );
+    same(rows, |out| reference::rows(table, plan, out), |out| library.rows(table, plan, out));
+    same(page, |out| reference::mps_page(table, plan, out), |out| library.mps_page(table, plan, out));
+    for figures in [figures, broken] {
+        assert_eq!(reference::judge(table, plan, figures, E), library.judge(table, plan, figures, E));
+    }
+}
+
+type Answered = Result<usize, u32>;
+
+fn same<T: Clone + Debug + Default + PartialEq>(
+    len: usize,
+    reference: impl FnOnce(&mut [T]) -> Answered,
+    library: impl FnOnce(&mut [T]) -> Answered,
+) {
+    let (mut one, mut two) = (vec![T::default(); len], vec![T::default(); len]);
+    assert_eq!(reference(&mut one), library(&mut two));
+    assert_eq!(one, two);
 }
 
 /// Prints a line on calls of one kind, one of each library.
@@ -69,7 +101,15 @@ fn time_read(case: &Case, libraries: &Libraries) {
 fn time_evaluate(case: &Case, libraries: &Libraries) {
     let sides = |library| {
         let mut out = vec![0; shape::len(&case.table)];
-        move || finish(Library::evaluate(library, black_box(&case.table), case.plan, black_box(&case.run), black_box(&mut out)))
+        move || {
+            finish(Library::evaluate(
+                library,
+                black_box(&case.table),
+                case.plan,
+                black_box(&case.run),
+                black_box(&mut out),
+            ))
+        }
     };
     time("evaluate", case, libraries.iter().map(sides).collect());
 }
@@ -93,6 +133,20 @@ fn time_page(case: &Case, libraries: &Libraries) {
 }
 
 fn time_judge(case: &Case, libraries: &Libraries) {
-    let sides = |library| move || finish(Library::judge(library, black_box(&case.table), case.plan, black_box(&case.figures), E));
-    time("judge", case, libraries.iter().map(sides).collect());
+    let outside = |place: usize| {
+        let mut figures = case.figures.clone();
+        figures[place] = -E - 1;
+        figures
+    };
+    let last = case.figures.len() - 1;
+    for (call, figures) in [
+        ("judge, passed", &case.figures),
+        ("judge, broken at the goal row", &case.broken),
+        ("judge, outside at the first variable", &outside(0)),
+        ("judge, outside at the last", &outside(last)),
+    ] {
+        let sides =
+            |library| move || finish(Library::judge(library, black_box(&case.table), case.plan, black_box(figures), E));
+        time(call, case, libraries.iter().map(sides).collect());
+    }
 }

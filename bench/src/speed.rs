@@ -127,7 +127,7 @@ pub struct Case {
     /// Figures that pass.
     pub figures: Vec<i32>,
     /// Figures that break the goal row alone.
-    broken: Vec<i32>,
+    pub broken: Vec<i32>,
 }
 
 pub fn case(Input { name, text, t, m }: &Input, l: usize) -> Case {

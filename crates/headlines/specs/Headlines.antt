@@ -1,5 +1,5 @@
 -- The headlines: every statement that a user of the toolkit cites, with its proof, in the papers' order. They speak of the functions that the calls'
--- contracts cite (`readOutcome` and the like, with result and buffer); of the calls themselves, on the buffers lent to them, the contracts in src/lib.rt
+-- contracts cite (`readOutcome` and the like, with result and buffer); of the calls themselves, on the buffers lent to them, the contracts of crate demands
 -- state the same. What a statement says stands in Demands and Before of crate rules, in Says and Refused of crate mps, and in this folder.
 use mathlib.Core.Path.{_≡_, refl}
 use mathlib.Core.Logic.{_↔_}
