@@ -15,7 +15,7 @@ found Nowhere = none
 
 -- how many figures are tested at once
 abbrev pub atOnce : ℕ
-atOnce = 256
+atOnce = 64
 
 abbrev pub outsideAt : (e : ℕ) → List ℤ → ℕ → Bool
 outsideAt e xs v = isOutside e (valueAt xs v)

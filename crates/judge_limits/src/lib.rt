@@ -5,7 +5,7 @@ ghost use mathlib.Core.Bool.{cond};
 ghost use Prim.Native.Nat.{_+_, _-_, _≤_};
 ghost use lib.ListN.{length};
 ghost use Rattle.lists.specs.First.{first};
-ghost use Rattle.lists.specs.Scan.{Passed};
+ghost use Rattle.lists.specs.Scan.{Skipped};
 ghost use Rattle.judge_limits.specs.Tests.{found, atOnce, outsideAt, notBinaryAt};
 
 // The first variable that a search finds.
@@ -15,7 +15,7 @@ pub enum Found {
 }
 
 // How many figures are tested at once.
-const AT_ONCE: usize = 256;
+const AT_ONCE: usize = 64;
 
 fn one_if(test: bool) -> u32
     ensures { λ r. ⌜ (r ≡ cond test 1 0) × (r ≤ 1) ⌝ }
@@ -23,10 +23,10 @@ fn one_if(test: bool) -> u32
     if test { 1 } else { 0 }
 }
 
-// How many of the figures from one variable to another are outside, without a branch.
+// How many of the figures from one variable up to another are outside, without a branch; 0 is all that is asked for.
 fn count_outside(figures: &[i32], from: usize, to: usize, e: u16) -> u32
     requires { ⌜ (from ≤ to) × (to ≤ from + atOnce) × (to ≤ length (now figures)) ⌝ }
-    ensures { λ r. ⌜ (r ≡ 0 → Passed (outsideAt e (now (figures .entry))) from to) ⌝ }
+    ensures { λ r. ⌜ (r ≡ 0 → Skipped (outsideAt e (now (figures .entry))) from to) ⌝ }
 {
     let mut count: u32 = 0;
     let mut v = from;
@@ -38,7 +38,7 @@ fn count_outside(figures: &[i32], from: usize, to: usize, e: u16) -> u32
     count
 }
 
-// The lowest of the variables from one on to the n-th that is outside the limits.
+// The lowest of the first n variables, from one on, that is outside the limits.
 fn search_outside(figures: &[i32], from: usize, n: usize, e: u16) -> Found
     requires { ⌜ (from ≤ n) × (n ≤ length (now figures)) ⌝ }
     ensures { λ r. ⌜ found r ≡ first (outsideAt e (now (figures .entry))) (n - from) from ⌝ }

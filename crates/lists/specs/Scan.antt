@@ -30,17 +30,17 @@ scan-start f n = let z : n - 0 ≡ n = omega arith in ap (λ (k : ℕ). first f 
 
 -- ---- several numbers at once
 
--- none of the numbers from i to j passes the test: a search of any n numbers goes on from j
-abbrev pub Passed : (ℕ → Bool) → (i j : ℕ) → Type 0
-Passed f i j = (n : ℕ) → j ≤ n → first f (n - i) i ≡ first f (n - j) j
+-- none of the numbers from i up to j passes the test: a search of any n numbers skips them
+abbrev pub Skipped : (ℕ → Bool) → (i j : ℕ) → Type 0
+Skipped f i j = (n : ℕ) → j ≤ n → first f (n - i) i ≡ first f (n - j) j
 
-pub passed-none : (f : ℕ → Bool) (i : ℕ) → Passed f i i
-passed-none f i n h = refl
+pub skipped-none : (f : ℕ → Bool) (i : ℕ) → Skipped f i i
+skipped-none f i n h = refl
 
-pub passed-more : (f : ℕ → Bool) (i j : ℕ) → Passed f i j → f j ≡ false → Passed f i (j + 1)
-passed-more f i j p t n h = p n (omega arith) ∙ scan-more f n j (omega arith) t
+pub skipped-more : (f : ℕ → Bool) (i j : ℕ) → Skipped f i j → f j ≡ false → Skipped f i (j + 1)
+skipped-more f i j p t n h = p n (omega arith) ∙ scan-more f n j (omega arith) t
 
 -- by counting those that pass: while the count is 0, there is none
-pub passed-counted : (f : ℕ → Bool) (i j : ℕ) (b : Bool) {count : ℕ} → b ≡ f j → (count ≡ 0 → Passed f i j) → count + cond b 1 0 ≡ 0 → Passed f i (j + 1)
-passed-counted f i j true e p z = absurd (omega arith)
-passed-counted f i j false e p z = passed-more f i j (p (omega arith)) (sym e)
+pub skipped-counted : (f : ℕ → Bool) (i j : ℕ) (b : Bool) {count : ℕ} → b ≡ f j → (count ≡ 0 → Skipped f i j) → count + cond b 1 0 ≡ 0 → Skipped f i (j + 1)
+skipped-counted f i j true e p z = absurd (omega arith)
+skipped-counted f i j false e p z = skipped-more f i j (p (omega arith)) (sym e)

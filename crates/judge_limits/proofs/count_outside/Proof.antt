@@ -7,7 +7,7 @@ use borrow.Author.Needs.{needs}
 use lib.IntN.{pos}
 use lib.ListN.{getD}
 use mir.Syntax.{w32}
-use Rattle.lists.specs.Scan.{Passed, passed-none, passed-counted}
+use Rattle.lists.specs.Scan.{Skipped, skipped-none, skipped-counted}
 use Rattle.ints.specs.Stored.{told-back}
 use Rattle.rules.specs.Verdicts.{isOutside}
 use Rattle.judge_limits.specs.Tests.{outsideAt}
@@ -15,13 +15,13 @@ use Rattle.judge_limits.proofs.count_outside.Statement.{statement}
 use Rattle.judge_limits.proofs.count_outside.Tie as tie
 
 abbrev Inv-loop : tie.InvT-loop
-Inv-loop figures from to e count₀ v₀ count v = (from ≤ v) × (v ≤ to) × (count ≤ v - from) × (count ≡ 0 → Passed (outsideAt e figures) from v)
+Inv-loop figures from to e count₀ v₀ count v = (from ≤ v) × (v ≤ to) × (count ≤ v - from) × (count ≡ 0 → Skipped (outsideAt e figures) from v)
 
 abbrev μ-loop : tie.MeasureT-loop
 μ-loop figures from to e count₀ v₀ count v = to - v
 
 loop-holds : tie.Need-loop-holds Inv-loop μ-loop
-loop-holds c = (omega arith, c .pre .0, omega arith, λ z. passed-none _ _)
+loop-holds c = (omega arith, c .pre .0, omega arith, λ z. skipped-none _ _)
 
 mul-t9 : tie.Need-mul-t9 Inv-loop μ-loop
 mul-t9 c = search needs
@@ -52,7 +52,7 @@ loop-again c =
     let a = l .before .args in
     let v = l .loop .v in
     let test = c .before .is-outside .ensures ∙ ap (isOutside (a .e)) (told-back w32 (getD (a .figures .now) v (pos 0)) (c .before .before .t11 .given)) in
-    let counted = passed-counted (outsideAt (a .e) (a .figures .now)) (a .from) v (c .before .is-outside .result) test (l .loop .inv .3) in (
+    let counted = skipped-counted (outsideAt (a .e) (a .figures .now)) (a .from) v (c .before .is-outside .result) test (l .loop .inv .3) in (
       omega (arith, l .loop .inv .0),
       omega (arith, c .before .before .before .loop-test),
       omega (arith, c .one-if .ensures .1, l .loop .inv .2, l .loop .inv .0),
@@ -64,7 +64,7 @@ returns c =
     let l = c .before .loop in
     let a = c .before .before .args in
     let all : l .v ≡ a .to = omega (arith, c .loop-test, l .inv .1) in
-    λ z. subst (Passed (outsideAt (a .e) (a .figures .now)) (a .from)) all (l .inv .3 z)
+    λ z. subst (Skipped (outsideAt (a .e) (a .figures .now)) (a .from)) all (l .inv .3 z)
 
 pub count-outside-spec : {M : Type 1} → statement M
 count-outside-spec =
