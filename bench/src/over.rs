@@ -2,6 +2,7 @@
 //! an address that 16 divides: so each library comes four times, 16 bytes on each time, and every function has stood at
 //! each place in a line of the cache.
 
+use std::cell::RefCell;
 use std::fmt::Debug;
 use std::hint::black_box;
 
@@ -90,46 +91,36 @@ fn ratio(rounds: &[[f64; SIDES]], of: impl Fn(&[f64]) -> f64) -> String {
     format!("{:.2} | {least:.2} to {largest:.2}", median(ratios))
 }
 
+/// All sides write into one buffer: where a large one lies in memory counts too.
 fn time_read(case: &Case, libraries: &Libraries) {
-    let sides = |library| {
-        let mut out = vec![0; case.table.len()];
-        move || finish(Library::read(library, black_box(&case.text), case.plan.m, black_box(&mut out)))
-    };
-    time("read", case, libraries.iter().map(sides).collect());
+    let out = &RefCell::new(vec![0; case.table.len()]);
+    let side =
+        |library: &Library| finish(library.read(black_box(&case.text), case.plan.m, black_box(&mut out.borrow_mut())));
+    time("read", case, libraries.iter().map(|library| move || side(library)).collect());
 }
 
 fn time_evaluate(case: &Case, libraries: &Libraries) {
-    let sides = |library| {
-        let mut out = vec![0; shape::len(&case.table)];
-        move || {
-            finish(Library::evaluate(
-                library,
-                black_box(&case.table),
-                case.plan,
-                black_box(&case.run),
-                black_box(&mut out),
-            ))
-        }
+    let Case { table, plan, run, .. } = case;
+    let out = &RefCell::new(vec![0; shape::len(table)]);
+    let side = |library: &Library| {
+        finish(library.evaluate(black_box(table), *plan, black_box(run), black_box(&mut out.borrow_mut())))
     };
-    time("evaluate", case, libraries.iter().map(sides).collect());
+    time("evaluate", case, libraries.iter().map(|library| move || side(library)).collect());
 }
 
 fn time_rows(case: &Case, libraries: &Libraries) {
-    let bytes = reference::row_bytes(&case.table, case.plan).expect("rows");
-    let sides = |library| {
-        let mut out = vec![0; bytes];
-        move || finish(Library::rows(library, black_box(&case.table), case.plan, black_box(&mut out)))
-    };
-    time("rows", case, libraries.iter().map(sides).collect());
+    let out = &RefCell::new(vec![0; reference::row_bytes(&case.table, case.plan).expect("rows")]);
+    let side =
+        |library: &Library| finish(library.rows(black_box(&case.table), case.plan, black_box(&mut out.borrow_mut())));
+    time("rows", case, libraries.iter().map(|library| move || side(library)).collect());
 }
 
 fn time_page(case: &Case, libraries: &Libraries) {
-    let bytes = reference::whole_page(&case.table, case.plan).expect("a page").len();
-    let sides = |library| {
-        let mut out = vec![0; bytes];
-        move || finish(Library::mps_page(library, black_box(&case.table), case.plan, black_box(&mut out)))
+    let out = &RefCell::new(vec![0; reference::whole_page(&case.table, case.plan).expect("a page").len()]);
+    let side = |library: &Library| {
+        finish(library.mps_page(black_box(&case.table), case.plan, black_box(&mut out.borrow_mut())))
     };
-    time("mps", case, libraries.iter().map(sides).collect());
+    time("mps", case, libraries.iter().map(|library| move || side(library)).collect());
 }
 
 fn time_judge(case: &Case, libraries: &Libraries) {
