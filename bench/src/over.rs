@@ -49,7 +49,7 @@ fn hold(Case { text, table, plan, run, figures, broken, .. }: &Case, library: &L
     );
     same(rows, |out| reference::rows(table, plan, out), |out| library.rows(table, plan, out));
     same(page, |out| reference::mps_page(table, plan, out), |out| library.mps_page(table, plan, out));
-    for figures in [figures, broken] {
+    for figures in [figures, broken, &outside(figures, 0), &outside(figures, figures.len() - 1)] {
         assert_eq!(reference::judge(table, plan, figures, E), library.judge(table, plan, figures, E));
     }
 }
@@ -123,18 +123,20 @@ fn time_page(case: &Case, libraries: &Libraries) {
     time("mps", case, libraries.iter().map(|library| move || side(library)).collect());
 }
 
+/// Figures with one of them outside.
+fn outside(figures: &[i32], place: usize) -> Vec<i32> {
+    let mut figures = figures.to_vec();
+    figures[place] = -E - 1;
+    figures
+}
+
 fn time_judge(case: &Case, libraries: &Libraries) {
-    let outside = |place: usize| {
-        let mut figures = case.figures.clone();
-        figures[place] = -E - 1;
-        figures
-    };
     let last = case.figures.len() - 1;
     for (call, figures) in [
         ("judge, passed", &case.figures),
         ("judge, broken at the goal row", &case.broken),
-        ("judge, outside at the first variable", &outside(0)),
-        ("judge, outside at the last", &outside(last)),
+        ("judge, outside at the first variable", &outside(&case.figures, 0)),
+        ("judge, outside at the last", &outside(&case.figures, last)),
     ] {
         let sides =
             |library| move || finish(Library::judge(library, black_box(&case.table), case.plan, black_box(figures), E));
