@@ -12,9 +12,10 @@ use Rattle.rules.specs.Demands.Written.{wrote}
 use Rattle.rules.specs.Outcome.{require}
 use Rattle.mps.specs.Page
 use Rattle.mps.specs.Outcome.{pageOutcome}
-use Rattle.program_rule.specs.Output.{OutputExact}
+use Rattle.program_rule.specs.Output.{OutputExact, StopsExact}
+use Rattle.program_rule.specs.Outcome.{enough}
 use Rattle.program_rule.specs.Cut.{Cut, printed-cut}
-use Rattle.program_rule.specs.Whole.{output-exact}
+use Rattle.program_rule.specs.Whole.{output-exact, stops-exact}
 use Rattle.program_rule.specs.Refusing.{good-passes, rule-exact}
 use Rattle.mpspage_page.specs.Page.{pageRoom, pageText, PagedExact, pageWork, paged, pagePrinted, page}
 
@@ -39,3 +40,6 @@ page-cut room = printed-cut (pageWork room) pageText
 
 pub page-exact : OutputExact (pagePrinted pageRoom) page
 page-exact = output-exact (pagePrinted pageRoom) (page-cut pageRoom)
+
+pub page-stops : StopsExact enough page
+page-stops = stops-exact (pagePrinted pageRoom) (page-cut pageRoom)

@@ -17,7 +17,7 @@ use Rattle.program_input.specs.declared.Scan.{Scan}
 use Rattle.program_input.specs.Lines.{line, afterLine, Digits, FirstLine}
 use Rattle.program_input.specs.Lines.Digits.{digit, more}
 use Rattle.program_input.specs.Lines.FirstLine.{numbers}
-use Rattle.program_input.specs.Scanning.{State, state, at, begin, kindOf, advanced, kept, stepped, steps, shaped}
+use Rattle.program_input.specs.Scanning.{State, state, at, begin, kindOf, advanced, kept, stepped, steps, shaped, settled}
 
 -- ---- kinds of bytes
 
@@ -107,12 +107,30 @@ split (b ∷ s) = go (eqb b 10) refl (split s)
 
 -- ---- line 2 is kept, and what follows it is ignored
 
-module _ (room t m : ℕ) where
-  done-run : (l x : List ℕ) → steps room (at Done t m l) x ≡ at Done t m l
-  unfolding steps stepped
-  done-run l [] = refl
-  done-run l (b ∷ x) = done-run l x
+-- a settled scan stays as it is
+settled-step : (room : ℕ) (g : Stage) (t m : ℕ) (l : List ℕ) (b : ℕ) → settled g ≡ true → stepped room (at g t m l) b ≡ at g t m l
+unfolding stepped
+settled-step room Start t m l b e = let z : _≡_ {A = ℕ} 0 1 = cc in absurd (omega arith)
+settled-step room Slots t m l b e = let z : _≡_ {A = ℕ} 0 1 = cc in absurd (omega arith)
+settled-step room Between t m l b e = let z : _≡_ {A = ℕ} 0 1 = cc in absurd (omega arith)
+settled-step room Atoms t m l b e = let z : _≡_ {A = ℕ} 0 1 = cc in absurd (omega arith)
+settled-step room Break t m l b e = let z : _≡_ {A = ℕ} 0 1 = cc in absurd (omega arith)
+settled-step room Rule t m l b e = let z : _≡_ {A = ℕ} 0 1 = cc in absurd (omega arith)
+settled-step room Done t m l b e = refl
+settled-step room Bad t m l b e = refl
 
+pub settled-run : (room : ℕ) (s : State) (x : List ℕ) → settled (s .stage) ≡ true → steps room s x ≡ s
+unfolding steps
+settled-run room s [] e = refl
+settled-run room s (b ∷ x) e =
+    ap (λ (r : State). steps room r x) (settled-step room (s .stage) (s .slots) (s .atoms) (s .rule) b e) ∙ settled-run room s x e
+
+-- what follows the bytes that settle it leads nowhere else
+pub settled-more : (room : ℕ) (s : State) (bytes rest : List ℕ) → settled (steps room s bytes .stage) ≡ true →
+    steps room s (bytes ++ rest) ≡ steps room s bytes
+settled-more room s bytes rest e = steps-append room s bytes rest ∙ settled-run room (steps room s bytes) rest e
+
+module _ (room t m : ℕ) where
   -- the state past line 1: its stage is one of three, and the text is kept as far as there is room
   pub record Past (l : List ℕ) (s : State) : Type 0 where
     pub stage : Stage
@@ -175,7 +193,7 @@ module _ (room t m : ℕ) where
       go true e p = record {
         stage = Done;
         state-is =
-            ap (λ (s : State). steps room s x) (feed-step g l b r e) ∙ done-run l x
+            ap (λ (s : State). steps room s x) (feed-step g l b r e) ∙ settled-run room (at Done t m l) x refl
             ∙ ap (at Done t m) (sym (ap (take room) (append-nil l) ∙ take-all room l h));
         shape = refl;
       }
@@ -185,9 +203,34 @@ module _ (room t m : ℕ) where
         shape = p .shape;
       }
 
+  -- a line feed settles it
+  feed-settles : (g : Stage) (l x : List ℕ) → Reading g → settled (steps room (at g t m l) (x ++ (10 ∷ [])) .stage) ≡ true
+  unfolding steps
+  feed-settles g l [] r = ap (λ (s : State). settled (s .stage)) (feed-step g l 10 r refl)
+  feed-settles g l (b ∷ x) r = go (eqb b 10) refl (feed-settles Rule (kept room l b) x in-rule)
+    where
+      go : (c : Bool) → eqb b 10 ≡ c → settled (steps room (at Rule t m (kept room l b)) (x ++ (10 ∷ [])) .stage) ≡ true →
+          settled (steps room (stepped room (at g t m l) b) (x ++ (10 ∷ [])) .stage) ≡ true
+      go true e p =
+          ap (λ (s : State). settled (s .stage))
+          (ap (λ (s : State). steps room s (x ++ (10 ∷ []))) (feed-step g l b r e) ∙ settled-run room (at Done t m l) (x ++ (10 ∷ [])) refl)
+      go false e p = ap (λ (s : State). settled (steps room s (x ++ (10 ∷ [])) .stage)) (byte-step g l b r e) ∙ p
+
 break-step : (room t m : ℕ) → stepped room (at Atoms t m []) 10 ≡ at Break t m []
 unfolding stepped
 break-step room t m = refl
+
+-- the end of line 2 settles the scan
+pub line-2-settles : (room : ℕ) {s : List ℕ} {T M : ℕ} → FirstLine s T M → (rule : List ℕ) →
+    settled (steps room begin (s ++ (10 ∷ (rule ++ (10 ∷ [])))) .stage) ≡ true
+unfolding steps
+line-2-settles room {s} {T} {M} f rule =
+    let t = min 1000 T in
+    let m = min 1000 M in
+    let e : steps room begin (s ++ (10 ∷ (rule ++ (10 ∷ [])))) ≡ steps room (at Break t m []) (rule ++ (10 ∷ [])) =
+    steps-append room begin s (10 ∷ (rule ++ (10 ∷ []))) ∙ ap (λ (x : State). steps room x (10 ∷ (rule ++ (10 ∷ [])))) (first-run room f)
+    ∙ ap (λ (x : State). steps room x (rule ++ (10 ∷ []))) (break-step room t m) in
+    ap (λ (x : State). settled (x .stage)) e ∙ feed-settles room t m Break [] rule in-break
 
 -- ---- what the scan of an input whose first line has the shape ends in
 
@@ -331,6 +374,35 @@ first-of Bad pre r e = let z : _≡_ {A = ℕ} 0 1 = cc in absurd (omega arith)
 
 pub shaped-first : (room : ℕ) (input : List ℕ) → shaped (steps room begin input .stage) ≡ true → (T : ℕ) × (M : ℕ) × FirstLine (line input) T M
 shaped-first room input e = first-of (steps room begin input .stage) input (reached-all room begin [] input refl) e
+
+-- a line feed leaves a stage of a shaped line, or settles the scan
+after-feed : (g : Stage) → shaped (advanced g Feed) ≡ false → settled (advanced g Feed) ≡ true
+after-feed Start e = refl
+after-feed Slots e = refl
+after-feed Between e = refl
+after-feed Atoms e = let z : _≡_ {A = ℕ} 0 1 = cc in absurd (omega arith)
+after-feed Break e = let z : _≡_ {A = ℕ} 0 1 = cc in absurd (omega arith)
+after-feed Rule e = let z : _≡_ {A = ℕ} 0 1 = cc in absurd (omega arith)
+after-feed Done e = let z : _≡_ {A = ℕ} 0 1 = cc in absurd (omega arith)
+after-feed Bad e = refl
+
+feed-stage : (room : ℕ) (s : State) → stepped room s 10 .stage ≡ advanced (s .stage) Feed
+unfolding stepped
+feed-stage room s = refl
+
+-- the end of a first line of another shape settles it too
+pub another-settles : (room : ℕ) (s : List ℕ) → ((T M : ℕ) → FirstLine (line (s ++ (10 ∷ []))) T M → ⊥) →
+    settled (steps room begin (s ++ (10 ∷ [])) .stage) ≡ true
+another-settles room s n =
+    ap settled last ∙ after-feed (steps room begin s .stage) (ap shaped (sym last) ∙ go (shaped (steps room begin (s ++ (10 ∷ [])) .stage)) refl)
+  where
+    last : steps room begin (s ++ (10 ∷ [])) .stage ≡ advanced (steps room begin s .stage) Feed
+    last =
+        ap (λ (x : State). x .stage) (steps-append room begin s (10 ∷ []) ∙ one-step room (steps room begin s) 10) ∙ feed-stage room (steps room begin s)
+
+    go : (b : Bool) → shaped (steps room begin (s ++ (10 ∷ [])) .stage) ≡ b → shaped (steps room begin (s ++ (10 ∷ [])) .stage) ≡ false
+    go true e = let p = shaped-first room (s ++ (10 ∷ [])) e in absurd (n (p .0) (p .1) (p .2))
+    go false e = e
 
 -- whether a line has the shape
 abbrev Shaped : List ℕ → Type 0

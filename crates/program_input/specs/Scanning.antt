@@ -114,3 +114,14 @@ shaped Break = true
 shaped Rule = true
 shaped Done = true
 shaped Bad = false
+
+-- what follows changes nothing: line 2 is read to its end, or line 1 is of another shape
+abbrev pub settled : Stage → Bool
+settled Start = false
+settled Slots = false
+settled Between = false
+settled Atoms = false
+settled Break = false
+settled Rule = false
+settled Done = true
+settled Bad = true

@@ -3,7 +3,7 @@ ghost use mathlib.Core.Path.{_≡_};
 ghost use Prim.Native.Nat.{_+_, _-_, _*_, _≤_};
 ghost use lib.ListN.{length, take};
 ghost use Rattle.program_input.specs.Scanning.{state, kindOf, picked, advanced, grown as grownBy, slotsAfter, atomsAfter};
-ghost use Rattle.program_input.specs.Scanning.{kept, keeps, ruleAfter, steps, shaped};
+ghost use Rattle.program_input.specs.Scanning.{kept, keeps, ruleAfter, steps, shaped, settled};
 ghost use Rattle.program_input.specs.Feeding.{Stepped, Kept, fedText};
 
 // How far the input is read: T, the space, M, the line feed, line 2, past line 2; or line 1 is of another shape.
@@ -226,5 +226,21 @@ pub fn is_shaped(stage: Stage) -> bool
         Stage::Rule => true,
         Stage::Done => true,
         Stage::Bad => false,
+    }
+}
+
+// What follows changes nothing: line 2 is read to its end, or line 1 is of another shape.
+pub fn is_settled(stage: Stage) -> bool
+    ensures { λ r. ⌜ r ≡ settled stage ⌝ }
+{
+    match stage {
+        Stage::Start => false,
+        Stage::Slots => false,
+        Stage::Between => false,
+        Stage::Atoms => false,
+        Stage::Break => false,
+        Stage::Rule => false,
+        Stage::Done => true,
+        Stage::Bad => true,
     }
 }

@@ -1,4 +1,5 @@
 -- What a program answers and prints, computed; contracts cite these. Refusing and Whole prove that they are as Output says.
+use mathlib.Core.Bool.{Bool}
 use mathlib.Core.List.{List}
 use Prim.Native.Nat.{ℕ}
 use Rattle.rules.specs.Demands.{Answer, Written}
@@ -6,8 +7,9 @@ use Rattle.rules.specs.Demands.Answer.{refused, answered}
 use Rattle.rules.specs.Demands.Written.{wrote}
 use Rattle.rules.specs.Outcome.{require, between, readOutcome}
 use Rattle.program_input.specs.Lines.{line, afterLine, FirstLine}
+use Rattle.program_input.specs.Scanning.{begin, steps, settled}
 use Rattle.program_input.specs.Exact.{firstLine?}
-use Rattle.program_rule.specs.Sizes.{tableRoom}
+use Rattle.program_rule.specs.Sizes.{tableRoom, textRoom}
 use Rattle.program_rule.specs.Output.{badInput}
 
 -- a rule read for T slots: the check of T, which is no check of the reader's, and then the reader's answer. Any table fits.
@@ -32,3 +34,7 @@ outputOf print (no p) text = badInput
 
 unfoldable pub output : ((T M : ℕ) (text : List ℕ) → List ℕ) → (input : List ℕ) → List ℕ
 output print input = outputOf print (firstLine? (line input)) (line (afterLine input))
+
+-- the scan of these bytes is settled, and a program reads no more
+unfoldable pub enough : (bytes : List ℕ) → Bool
+enough bytes = settled (steps textRoom begin bytes .stage)

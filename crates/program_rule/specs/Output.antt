@@ -1,6 +1,7 @@
 -- What the programs rowlist and mpspage have in common: which refusal is printed, and what is printed of a whole input. Definitions and statements;
 -- the proofs stand in Refusing and Whole. Every line printed ends in a line feed.
 use mathlib.Core.Path.{_≡_}
+use mathlib.Core.Bool.{Bool, true}
 use mathlib.Core.List.{List, [], _∷_, _++_}
 use Prim.Native.Nat.{ℕ, _<_}
 use Rattle.rules.specs.Quantities.{SlotsAllowed}
@@ -24,6 +25,13 @@ pub record OutputIs (print : (T M : ℕ) (text : List ℕ) → List ℕ) (input 
 
 abbrev pub OutputExact : (print : (T M : ℕ) (text : List ℕ) → List ℕ) (output : (input : List ℕ) → List ℕ) → Type 0
 OutputExact print output = (input : List ℕ) → OutputIs print input (output input)
+
+-- "what follows line 2 is ignored": a program stops reading where `enough` says so of the bytes so far. What follows then alters nothing; and it does stop
+-- at the end of line 2, and of a first line of another shape.
+pub record StopsExact (enough : (bytes : List ℕ) → Bool) (output : (input : List ℕ) → List ℕ) : Type 0 where
+  pub ignored : (bytes rest : List ℕ) → enough bytes ≡ true → output (bytes ++ rest) ≡ output bytes
+  pub line-2 : {s : List ℕ} {T M : ℕ} → FirstLine s T M → (rule : List ℕ) → enough (s ++ (10 ∷ (rule ++ (10 ∷ [])))) ≡ true
+  pub another : (s : List ℕ) → ((T M : ℕ) → FirstLine (line (s ++ (10 ∷ []))) T M → ⊥) → enough (s ++ (10 ∷ [])) ≡ true
 
 -- The refusals: 1, those of the reader on M or the text, and 11 where the program holds `room` bytes and what it makes of the rule has more.
 pub data RuleRefused (room : ℕ) (bytes : (T M : ℕ) → Rule → ℕ) (T M : ℕ) (text : List ℕ) : ℕ → Type 0 where

@@ -1,7 +1,7 @@
 -- The output in terms of the lines alone, and that the scan of an input stands for its output.
 use mathlib.Core.Path.{_≡_, refl, sym, ap, _∙_}
 use mathlib.Core.Bool.{Bool, true, false, cond}
-use mathlib.Core.List.{List}
+use mathlib.Core.List.{List, _++_}
 use Prim.Native.Nat.{ℕ, min, _<_}
 use native.Mathlib.Omega.{arith}
 use lib.ListN.{length, take}
@@ -10,10 +10,10 @@ use Rattle.program_input.specs.Lines.{line, afterLine, FirstLine}
 use Rattle.program_input.specs.declared.Stage.the-variants.{Start}
 use Rattle.program_input.specs.declared.Scan.{Scan}
 use Rattle.program_input.specs.Scanning.{state, begin, steps, shaped}
-use Rattle.program_input.specs.Exact.{scanned, shaped-first, firstLine?, started}
+use Rattle.program_input.specs.Exact.{scanned, settled-more, line-2-settles, another-settles, shaped-first, firstLine?, started}
 use Rattle.program_rule.specs.Sizes.{textRoom}
-use Rattle.program_rule.specs.Output.{badInput, OutputExact}
-use Rattle.program_rule.specs.Outcome.{outputOf, output}
+use Rattle.program_rule.specs.Output.{badInput, OutputExact, StopsExact}
+use Rattle.program_rule.specs.Outcome.{outputOf, output, enough}
 use Rattle.program_rule.specs.Shown.{shown}
 use Rattle.program_rule.specs.Cut.{Cut}
 
@@ -54,4 +54,14 @@ module _ (print : (T M : ℕ) (text : List ℕ) → List ℕ) (cut : Cut print) 
   output-exact input = record {
     numbers = λ f. sym (shown-output textRoom input (omega arith)) ∙ shown-numbers textRoom input (omega arith) f;
     another = λ n. sym (shown-output textRoom input (omega arith)) ∙ shown-another textRoom input n;
+  }
+
+  pub stops-exact : StopsExact enough (output print)
+  unfolding enough
+  stops-exact = record {
+    ignored =
+        λ bytes rest e. sym (shown-output textRoom (bytes ++ rest) (omega arith)) ∙ ap (shown print) (settled-more textRoom begin bytes rest e)
+        ∙ shown-output textRoom bytes (omega arith);
+    line-2 = λ f rule. line-2-settles textRoom f rule;
+    another = λ s n. another-settles textRoom s n;
   }

@@ -1,4 +1,4 @@
-// Standard input, scanned to its end.
+// Standard input, scanned until nothing that follows can count.
 use libc::STDIN_FILENO;
 ghost use lib.ListN.{length};
 ghost use Rattle.program_stdin.specs.Read.{Scanned, Turned};
@@ -21,7 +21,8 @@ fn read_some(scan: program_input::Scan, text: &mut [u8]) -> Turn
     Turn::More(program_input::feed(scan, &buffer[..n], text))
 }
 
-// Reads the input to its end. The scan and the text that it keeps stand for some bytes, scanned from the start;
+// Reads the input to its end, or until the scan is settled, so that a program stops at the end of line 2. The scan and the
+// text that it keeps stand for some bytes, scanned from the start, and where it is settled for whatever follows them too;
 // that these are the input's is not in the contract, which knows nothing of it.
 pub fn read_all(text: &mut [u8]) -> program_input::Scan
     ensures { λ r. ⌜ Scanned (length (now (text .entry))) r (now (text .exit)) ⌝ }
@@ -29,6 +30,10 @@ pub fn read_all(text: &mut [u8]) -> program_input::Scan
     let mut scan = program_input::start();
     let mut turns = u64::MAX;
     while turns > 0 {
+        let stage = scan.stage;
+        if program_input::is_settled(stage) {
+            return scan;
+        }
         let t = read_some(scan, text);
         match t {
             Turn::End => {

@@ -15,9 +15,10 @@ use Rattle.rules.specs.Demands.Answer.{answered}
 use Rattle.rules.specs.Demands.Written.{wrote}
 use Rattle.rules.specs.Outcome.{require, rowsOutcome}
 use Rattle.rowlist_text.specs.Sizes.{rowsRoom}
-use Rattle.program_rule.specs.Output.{OutputExact}
+use Rattle.program_rule.specs.Output.{OutputExact, StopsExact}
+use Rattle.program_rule.specs.Outcome.{enough}
 use Rattle.program_rule.specs.Cut.{Cut, printed-cut}
-use Rattle.program_rule.specs.Whole.{output-exact}
+use Rattle.program_rule.specs.Whole.{output-exact, stops-exact}
 use Rattle.program_rule.specs.Refusing.{good-passes, rule-exact}
 use Rattle.rowlist_page.specs.Page.{listingText, ListExact, rowsThen, listWork, listed, listing, page}
 
@@ -52,3 +53,6 @@ listing-cut = printed-cut listWork listingText
 
 pub page-exact : OutputExact listing page
 page-exact = output-exact listing listing-cut
+
+pub page-stops : StopsExact enough page
+page-stops = stops-exact listing listing-cut

@@ -18,19 +18,28 @@ start-requires c κs = search needs
 loop-holds : tie.Need-loop-holds Inv-loop μ-loop
 loop-holds c = (refl, scanned-none _ _ _ (c .start .ensures))
 
+is-settled-requires : tie.Need-is-settled-requires Inv-loop μ-loop
+is-settled-requires c κs = search needs
+
+same-length : tie.Need-same-length Inv-loop μ-loop
+same-length c = search needs
+
+returns : tie.Need-returns Inv-loop μ-loop
+returns c = c .before .before .before .loop .inv .1
+
 read-some-requires : tie.Need-read-some-requires Inv-loop μ-loop
 read-some-requires c κs = search needs
 
 enum-told : tie.Need-enum-told Inv-loop μ-loop
 enum-told c = search needs
 
-same-length : tie.Need-same-length Inv-loop μ-loop
-same-length c = search needs
+same-length-2 : tie.Need-same-length-2 Inv-loop μ-loop
+same-length-2 c = search needs
 
-returns : tie.Need-returns Inv-loop μ-loop
-returns c =
+returns-2 : tie.Need-returns-2 Inv-loop μ-loop
+returns-2 c =
     let w = c .before .before .before .before in
-    scanned-end (w .before .before .before .loop .inv .1) (c .enum-told .given .1) (w .read-some .ensures)
+    scanned-end (w .before .before .before .before .before .loop .inv .1) (c .enum-told .given .1) (w .read-some .ensures)
 
 enum-known-t : tie.Need-enum-known-t Inv-loop μ-loop
 enum-known-t c = search needs
@@ -45,14 +54,14 @@ loop-again : tie.Need-loop-again Inv-loop μ-loop
 loop-again c =
     let k = c .before in
     let w = k .before .before .before .before in
-    let l = w .before .before .before .loop in
+    let l = w .before .before .before .before .before .loop in
     (search needs, scanned-more (l .inv .1) (l .inv .0) (k .t .given .1) (w .read-some .ensures))
 
-same-length-2 : tie.Need-same-length-2 Inv-loop μ-loop
-same-length-2 c = search needs
+same-length-3 : tie.Need-same-length-3 Inv-loop μ-loop
+same-length-3 c = search needs
 
-returns-2 : tie.Need-returns-2 Inv-loop μ-loop
-returns-2 c = c .before .loop .inv .1
+returns-3 : tie.Need-returns-3 Inv-loop μ-loop
+returns-3 c = c .before .loop .inv .1
 
 pub read-all-spec : {M : Type 1} → statement M
 read-all-spec =
@@ -62,13 +71,16 @@ read-all-spec =
     μ-loop
     start-requires
     loop-holds
-    read-some-requires
-    enum-told
+    is-settled-requires
     same-length
     returns
+    read-some-requires
+    enum-told
+    same-length-2
+    returns-2
     enum-known-t
     sub-turns
     loop-less
     loop-again
-    same-length-2
-    returns-2)
+    same-length-3
+    returns-3)
