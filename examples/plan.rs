@@ -10,15 +10,13 @@ struct Answer {
 
 #[repr(C)]
 #[derive(Clone, Copy)]
-struct Verdict {
+struct RawVerdict {
     refusal: u32,
     verdict: u32,
     value: u32,
     error: u32,
     shortfall: i64,
 }
-
-const PASSED: u32 = 3;
 
 #[link(name = "sepia", kind = "static")]
 extern "C" {
@@ -30,20 +28,32 @@ extern "C" {
     fn sepia_first_slot(word: u64) -> u32;
     fn sepia_rows(table: *const u8, table_len: usize, t: usize, m: usize, l: usize, out: *mut u8, out_len: usize) -> Answer;
     fn sepia_mps(table: *const u8, table_len: usize, t: usize, m: usize, l: usize, out: *mut u8, out_len: usize) -> Answer;
-    fn sepia_judge(table: *const u8, table_len: usize, t: usize, m: usize, l: usize, figures: *const i32, figures_len: usize, e: i32) -> Verdict;
+    fn sepia_judge(table: *const u8, table_len: usize, t: usize, m: usize, l: usize, figures: *const i32, figures_len: usize, e: i32)
+        -> RawVerdict;
+}
+
+// A refusal's number; include/sepia.h says what each means.
+#[derive(Debug)]
+struct Refused(#[allow(dead_code)] u32);
+
+enum Verdict {
+    Outside { variable: u32 },
+    NotBinary { variable: u32 },
+    Broken { row: u32, shortfall: i64 },
+    Passed { rows: u32, error: u32 },
 }
 
 // The boundary needs valid pointers and lengths, which slices have; every value is answered, so the wrappers are safe.
-fn answer(a: Answer) -> Result<usize, u32> {
-    if a.refusal == 0 { Ok(a.value as usize) } else { Err(a.refusal) }
+fn answer(a: Answer) -> Result<usize, Refused> {
+    if a.refusal == 0 { Ok(a.value as usize) } else { Err(Refused(a.refusal)) }
 }
 
-fn read(text: &[u8], m: usize, out: &mut [u8]) -> Result<usize, u32> {
+fn read(text: &[u8], m: usize, out: &mut [u8]) -> Result<usize, Refused> {
     answer(unsafe { sepia_read(text.as_ptr(), text.len(), m, out.as_mut_ptr(), out.len()) })
 }
 
 // Bit s of a node's word is its truth at slot s + 1.
-fn evaluate(table: &[u8], t: usize, m: usize, l: usize, run: &[u16], out: &mut [u64]) -> Result<usize, u32> {
+fn evaluate(table: &[u8], t: usize, m: usize, l: usize, run: &[u16], out: &mut [u64]) -> Result<usize, Refused> {
     answer(unsafe { sepia_evaluate(table.as_ptr(), table.len(), t, m, l, run.as_ptr(), run.len(), out.as_mut_ptr(), out.len()) })
 }
 
@@ -52,17 +62,24 @@ fn first_slot(word: u64) -> Option<u32> {
     (slot != 0).then_some(slot)
 }
 
-fn rows(table: &[u8], t: usize, m: usize, l: usize, out: &mut [u8]) -> Result<usize, u32> {
+fn rows(table: &[u8], t: usize, m: usize, l: usize, out: &mut [u8]) -> Result<usize, Refused> {
     answer(unsafe { sepia_rows(table.as_ptr(), table.len(), t, m, l, out.as_mut_ptr(), out.len()) })
 }
 
-fn mps(table: &[u8], t: usize, m: usize, l: usize, out: &mut [u8]) -> Result<usize, u32> {
+fn mps(table: &[u8], t: usize, m: usize, l: usize, out: &mut [u8]) -> Result<usize, Refused> {
     answer(unsafe { sepia_mps(table.as_ptr(), table.len(), t, m, l, out.as_mut_ptr(), out.len()) })
 }
 
-fn judge(table: &[u8], t: usize, m: usize, l: usize, figures: &[i32], e: i32) -> Result<Verdict, u32> {
+fn judge(table: &[u8], t: usize, m: usize, l: usize, figures: &[i32], e: i32) -> Result<Verdict, Refused> {
     let v = unsafe { sepia_judge(table.as_ptr(), table.len(), t, m, l, figures.as_ptr(), figures.len(), e) };
-    if v.refusal == 0 { Ok(v) } else { Err(v.refusal) }
+    match (v.refusal, v.verdict) {
+        (0, 0) => Ok(Verdict::Outside { variable: v.value }),
+        (0, 1) => Ok(Verdict::NotBinary { variable: v.value }),
+        (0, 2) => Ok(Verdict::Broken { row: v.value, shortfall: v.shortfall }),
+        (0, 3) => Ok(Verdict::Passed { rows: v.value, error: v.error }),
+        (0, other) => panic!("verdict {other} is not one of version {VERSION}"),
+        (refusal, _) => Err(Refused(refusal)),
+    }
 }
 
 const T: usize = 8;
@@ -77,7 +94,7 @@ const WEEKLY: usize = 2;
 
 const VERSION: u32 = 8; // of the boundary declared above
 
-fn print_sizes(table: &[u8], l: usize) -> Result<(), u32> {
+fn print_sizes(table: &[u8], l: usize) -> Result<(), Refused> {
     let mut records = vec![0u8; 1 << 17]; // enough, as the page below, for every table at this T
     println!("rows {}", rows(table, T, M, l, &mut records)?);
     let mut page = vec![0u8; 1 << 20];
@@ -112,20 +129,25 @@ fn figures_of(table: &[u8], l: usize, run: &[u16], truth: &[u64]) -> Vec<i32> {
     figures
 }
 
-// Where figures passed that are nearly right, the error figure tells whether the schedule that they round to meets the rule.
-fn print_verdict(table: &[u8], l: usize, figures: &[i32], e: i32) -> Result<(), u32> {
-    let Verdict { verdict, value, error, shortfall, .. } = judge(table, T, M, l, figures, e)?;
-    println!("verdict {verdict}, value {value}, error {error}, shortfall {shortfall}");
-    if verdict == PASSED {
-        println!("the rounded schedule {}", if error < ONE as u32 / 2 { "meets the rule" } else { "must be evaluated" });
+// A verdict in words. Where figures passed that are nearly right, the error figure tells whether the schedule that they round to meets the rule.
+fn print_verdict(table: &[u8], l: usize, figures: &[i32], e: i32) -> Result<(), Refused> {
+    match judge(table, T, M, l, figures, e)? {
+        Verdict::Outside { variable } => println!("outside: variable {variable} is not within 0 and 1"),
+        Verdict::NotBinary { variable } => println!("not binary: atom variable {variable} is neither 0 nor 1"),
+        Verdict::Broken { row, shortfall } => println!("broken: row {row} is {shortfall} millionths off"),
+        Verdict::Passed { rows, error } => {
+            let rounded = if error < ONE as u32 / 2 { "meets the rule" } else { "must be evaluated" };
+            println!("passed: {rows} rows, error figure {error}: the rounded schedule {rounded}");
+        }
     }
     Ok(())
 }
 
 // What a shift lead asks of a log: the first slot at which the rule holds, which is in the root's word, the last. The result is all words.
-fn review(table: &[u8], l: usize, run: &[u16]) -> Result<Vec<u64>, u32> {
+fn review(table: &[u8], l: usize, run: &[u16]) -> Result<Vec<u64>, Refused> {
     let mut truth = vec![0u64; table.len() / NODE_BYTES];
-    evaluate(table, T, M, l, run, &mut truth)?;
+    let at_1 = evaluate(table, T, M, l, run, &mut truth)?;
+    print!("{} at slot 1; ", if at_1 == 1 { "holds" } else { "does not hold" });
     match first_slot(truth[truth.len() - 1]) {
         Some(slot) => println!("holds first at slot {slot}"),
         None => println!("holds at no slot"),
@@ -133,8 +155,8 @@ fn review(table: &[u8], l: usize, run: &[u16]) -> Result<Vec<u64>, u32> {
     Ok(truth)
 }
 
-fn main() -> Result<(), u32> {
-    assert_eq!(unsafe { sepia_version() }, VERSION);
+fn main() -> Result<(), Refused> {
+    assert_eq!(unsafe { sepia_version() }, VERSION, "the library has another version of the boundary");
     let runs: [[u16; T]; 3] = [
         [1, 0, 0, 0, 0, 2, 0, 0], // a0 at slot 1, a1 at slot 6: in time
         [1, 0, 0, 0, 0, 0, 2, 0], // a1 one slot late
@@ -146,8 +168,7 @@ fn main() -> Result<(), u32> {
     println!("nodes {nodes}");
     print_sizes(table, ENDS)?;
 
-    let mut truth = vec![0u64; nodes];
-    println!("holds at slot 1: {}", evaluate(table, T, M, ENDS, &runs[0], &mut truth)?);
+    let truth = review(table, ENDS, &runs[0])?;
     let mut figures = figures_of(table, ENDS, &runs[0], &truth);
     print_verdict(table, ENDS, &figures, 0)?;
     figures[0] = 999_400; // a0 at slot 1, nearly right
@@ -155,7 +176,7 @@ fn main() -> Result<(), u32> {
     figures[(M + nodes - 1) * T] = 500_000; // a figure left at one half
     print_verdict(table, ENDS, &figures, 1000)?;
 
-    for run in &runs {
+    for run in &runs[1..] {
         review(table, ENDS, run)?;
     }
 

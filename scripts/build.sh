@@ -20,7 +20,7 @@ begin_build() {
     exec {lock}< "$top"
     flock -n "$lock" || { say "another build is running here; waiting for it"; flock "$lock"; }
     local left
-    left=$(cat "$top/target/built/.scratch" 2> /dev/null)
+    left=$(cat "$top/target/built/.scratch" 2> /dev/null || :)
     case $left in */bastersepia.??????) rm -rf -- "$left" ;; esac
     touch "$top/target/built/.begun" 2> /dev/null || fail "cannot write below $top/target, where what is built goes"
     scratch=$(mktemp -d "${TMPDIR:-/tmp}/bastersepia.XXXXXX") || fail "cannot make a folder for temporary files in ${TMPDIR:-/tmp}"
@@ -75,3 +75,22 @@ run_rt() {
     tail -n 20 "$log" >&2
     fail "rt $1 $2 failed; all that it said is in $log"
 }
+
+# Builds the static library, `library`, where that was not done yet or a source is newer.
+build_library() {
+    library=$top/target/staticlib/libsepia.a
+    local mark=$top/target/built/libsepia
+    if stale "$mark" || [ ! -e "$library" ]; then
+        begin_build
+        if stale "$mark" || [ ! -e "$library" ]; then
+            say "building the library: $(crate_count sepia) crates are proved, which takes minutes the first time"
+            run_rt check sepia
+            run_rt staticlib sepia
+        fi
+        end_build "$mark"
+    fi
+    mkdir -p "$top/target/examples"
+}
+
+# Whether $1, an example, is missing or older than the library or one of its own sources, the other arguments.
+changed() { [ ! -x "$1" ] || [ -n "$(find "$library" "${@:2}" -newer "$1" -print -quit)" ]; }
