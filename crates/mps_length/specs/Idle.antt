@@ -71,7 +71,7 @@ idleAtoms ns n k = sumTo (λ x. cond (hasAtom ns x n) 0 1) k
 abbrev heldBy : Kind → (left right from to : ℕ) → Table.Node
 heldBy k l r a b = record { kind = k; left = l; right = r; from = a; to = b }
 
-abbrev held : Node → Table.Node
+abbrev pub held : Node → Table.Node
 held (atom a) = heldBy Atom a 0 0 0
 held (unary Unary.not c) = heldBy Not c 0 0 0
 held (unary Unary.eventually c) = heldBy Eventually c 0 0 0
@@ -83,7 +83,7 @@ held (binary Binary.until l r) = heldBy Until l r 0 0
 held (windowed Window.within a b c) = heldBy Within c 0 a b
 held (windowed Window.throughout a b c) = heldBy Throughout c 0 a b
 
-held-is : (x : Node) → nodeOf (held x) ≡ x
+pub held-is : (x : Node) → nodeOf (held x) ≡ x
 held-is (atom a) = refl
 held-is (unary Unary.not c) = refl
 held-is (unary Unary.eventually c) = refl

@@ -57,7 +57,7 @@ module _ (T M L : ℕ) (ns : List Node) (0<T : 1 ≤ T) (T≤64 : T ≤ 64) (M�
       go true = omega (arith, looping-few ns N, looping-all ns)
       go false = omega arith
 
-  page-size : {lines idle : ℕ} → lines ≡ weight n (rowsTo T M L ns N) → idle ≡ idleAtoms ns N M * T →
+  pub page-size : {lines idle : ℕ} → lines ≡ weight n (rowsTo T M L ns N) → idle ≡ idleAtoms ns N M * T →
       pageSize (length (rowsTo T M L ns N) + 1) (lines + 52) idle (M * T) (slackCount T L ns) ≡ length (page T M L ns)
   unfolding page pageSize
   page-size e f =

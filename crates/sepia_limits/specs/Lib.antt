@@ -1,0 +1,7 @@
+pub mod Limits
+pub mod Kinds
+pub mod FirstNode
+pub mod Terms
+pub mod Tables
+pub mod Room
+pub mod Proved
