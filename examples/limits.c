@@ -71,7 +71,15 @@ static void longest_text(void) {
     expect("nodes", sepia_read(text, SEPIA_MAX_TEXT, ATOMS, table, SEPIA_MAX_TABLE).value, NODES);
     expect("table in a byte less", sepia_read(text, SEPIA_MAX_TEXT, ATOMS, table, SEPIA_MAX_TABLE - 1).refusal, SEPIA_REFUSED_ROOM);
     expect("text", sepia_read(text, SEPIA_MAX_TEXT + 1, ATOMS, table, SEPIA_MAX_TABLE).refusal, SEPIA_REFUSED_LONG_TEXT);
-    expect("no text at all", sepia_read(NULL, 0, ATOMS, NULL, 0).refusal, SEPIA_REFUSED_GRAMMAR);
+}
+
+/* null pointers with the length 0 */
+static void nothing_lent(void) {
+    expect("no text", sepia_read(NULL, 0, 1, NULL, 0).refusal, SEPIA_REFUSED_GRAMMAR);
+    expect("no table", sepia_rows(NULL, 0, 1, 1, 1, NULL, 0).refusal, SEPIA_REFUSED_TABLE);
+    expect("no page", sepia_mps(table, SEPIA_NODE_BYTES, 1, 1, 1, NULL, 0).refusal, SEPIA_REFUSED_ROOM);
+    expect("no run", sepia_evaluate(table, SEPIA_NODE_BYTES, 1, 1, 1, NULL, 0, NULL, 0).refusal, SEPIA_REFUSED_RUN);
+    expect("no figures", sepia_judge(table, SEPIA_NODE_BYTES, 1, 1, 1, NULL, 0, 0).refusal, SEPIA_REFUSED_FIGURES);
 }
 
 int main(void) {
@@ -81,6 +89,7 @@ int main(void) {
     longest_text();
     most_variables();
     largest_outputs();
+    nothing_lent();
     puts(failed ? "the limits of sepia.h are not the library's" : "the limits of sepia.h are the library's");
     return failed;
 }

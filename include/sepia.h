@@ -9,9 +9,9 @@
  * Overlap    a buffer that is written must overlap nothing else that is passed. What is only read may overlap.
  * Threads    the calls keep no state and allocate nothing, so any number of them may run at once, each with buffers to write of its own; what
  *            is only read may be shared.
- * Stack      sepia_read takes up to 242 KB: 240 bytes for each bracket that is open, so only a text of some hundred brackets needs more than 50 KB.
- *            sepia_judge takes up to 69 KB, where figures pass (5 KB with at most 256 nodes times slots), and otherwise up to 5 KB. The other
- *            calls take less than 4 KB. (Measured on a painted stack, with the largest tables and with texts of brackets and signs alone.)
+ * Stack      sepia_read takes up to 248 KB, some 240 bytes for each bracket that is open; without brackets up to 51 KB. sepia_judge takes up to
+ *            71 KB where figures pass (5 KB with at most 256 nodes times slots), and otherwise up to 5 KB. The other calls take less than
+ *            4 KB. (Measured on a painted stack, with the largest tables and with texts of brackets and signs alone.)
  * Bytes      tables, rows and pages are bytes, the same on every machine; in a row a variable's number stands with its low byte first. Runs,
  *            words and figures are numbers of the machine.
  * Machine    the library is compiled for x86-64 Linux, and can be linked into a shared object.
@@ -60,8 +60,8 @@ uint32_t sepia_version(void);
 #define SEPIA_MAX_TOLERANCE 1000 /* millionths */
 #define SEPIA_ONE 1000000        /* the figure of a truth, in millionths; of a falsehood it is 0 */
 
-/* Sizes of what is written. With a buffer of the largest size, which one atom under 127 times G[0,63] reaches with T 64, M 16 and L 1, no call
- * refuses with SEPIA_REFUSED_ROOM (proved: crate sepia_limits). */
+/* Sizes of what is written. No table has more, so with a buffer of the largest size no call refuses with SEPIA_REFUSED_ROOM (proved: crate
+ * sepia_limits). With T 64, M 16 and L 1, one atom under 127 times G[0,63] reaches them, and under 127 times F the variables. */
 #define SEPIA_NODE_BYTES 8           /* a node record */
 #define SEPIA_MAX_TABLE 1024         /* bytes of a table */
 #define SEPIA_MAX_VARIABLES 17344    /* and so figures */
