@@ -200,10 +200,13 @@ module _ (n T L : ℕ) (b : Block) (behind : Behind T b) (room : b .own + T ≤ 
           ∙ ap (slotWeight (b .kind) (followed T (b .loops) s) twice)
           (length-map (windowSlots T L (s + 1) (b .from) (b .to)) (λ (i : ℕ). b .left + (i - 1)))
 
--- ---- of a node, its V's with it
+-- ---- of a node, its V's with it; x is whether L is below T
+
+abbrev pub weightBy : (x twice : Bool) → Kind → (T L a b : ℕ) → ℕ
+weightBy x twice k T L a b = cond (x && loopsBy k) (blockWeight k false twice T L a b) 0 + blockWeight k x twice T L a b
 
 abbrev pub nodeWeight : Kind → (twice : Bool) → (T L a b : ℕ) → ℕ
-nodeWeight k twice T L a b = cond (ltb L T && loopsBy k) (blockWeight k false twice T L a b) 0 + blockWeight k (ltb L T) twice T L a b
+nodeWeight k twice T L a b = weightBy (ltb L T) twice k T L a b
 
 -- of F, G and U: k rows or bytes at a slot that something follows, and z where nothing does
 abbrev pub loopedSum : (k z T L : ℕ) → ℕ

@@ -5,13 +5,18 @@ ghost use Rattle.program_stdin.specs.Read.{Scanned, Turned};
 
 enum Turn {
     More(program_input::Scan),
+    Settled,
     End,
 }
 
-// Reads some of the input; its end and a failed read end it.
+// Reads some of the input, unless the scan is settled; the input's end and a failed read end it.
 fn read_some(scan: program_input::Scan, text: &mut [u8]) -> Turn
     ensures { λ r. ⌜ Turned scan (now (text .entry)) (now (text .exit)) r ⌝ }
 {
+    let stage = scan.stage;
+    if program_input::is_settled(stage) {
+        return Turn::Settled;
+    }
     let mut buffer = io::large_buffer();
     let got = libc::read(STDIN_FILENO, &mut buffer);
     if got <= 0 {
@@ -30,12 +35,11 @@ pub fn read_all(text: &mut [u8]) -> program_input::Scan
     let mut scan = program_input::start();
     let mut turns = u64::MAX;
     while turns > 0 {
-        let stage = scan.stage;
-        if program_input::is_settled(stage) {
-            return scan;
-        }
         let t = read_some(scan, text);
         match t {
+            Turn::Settled => {
+                return scan;
+            }
             Turn::End => {
                 return scan;
             }

@@ -15,13 +15,9 @@ use Rattle.row.specs.Kinds.{blockCount}
 use Rattle.row.specs.NodeRows.{countBy}
 use Rattle.rows.specs.Sizes.{blockLength, lengthBy}
 use Rattle.mps_length.specs.Windows.{backSize, back-is}
-use Rattle.mps_length.specs.Nodes.{blockWeight}
+use Rattle.mps_length.specs.Nodes.{blockWeight, weightBy}
 
--- the bytes of a node's lines, its V's with it; x is whether L is below T
-abbrev pub weightBy : (x twice : Bool) → Kind → (T L a b : ℕ) → ℕ
-weightBy x twice k T L a b = cond (x && loopsBy k) (blockWeight k false twice T L a b) 0 + blockWeight k x twice T L a b
-
--- the V's of a node, one for each slot
+-- the V's of a node, one for each slot; x is whether L is below T
 abbrev pub keptBy : (x : Bool) → Kind → (T : ℕ) → ℕ
 keptBy x k T = cond (x && loopsBy k) T 0
 

@@ -21,11 +21,11 @@ use Rattle.mps.specs.Proved.{if-le}
 use Rattle.mps.specs.Page.{page}
 use Rattle.mps_length.specs.Digits.{above, digitSum}
 use Rattle.mps_length.specs.RowSizes.{weight, weight-append}
-use Rattle.mps_length.specs.Nodes.{part-weight}
+use Rattle.mps_length.specs.Nodes.{weightBy, part-weight}
 use Rattle.mps_length.specs.Idle.{held, held-is, idleAtoms}
 use Rattle.mps_length.specs.Page.{pageSize, page-size}
 use Rattle.sepia_limits.specs.Limits.{maxVariables, maxRows, maxRowsBytes, maxPage}
-use Rattle.sepia_limits.specs.Kinds.{NodeAtMost, weightBy, keptBy, node-at-most, atom-at-most}
+use Rattle.sepia_limits.specs.Kinds.{NodeAtMost, keptBy, node-at-most, atom-at-most}
 use Rattle.sepia_limits.specs.FirstNode.{FirstAtom, first-atom, looping-first, idle-few}
 
 -- numbers that rise by at most c at each step after the first

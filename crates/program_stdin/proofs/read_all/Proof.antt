@@ -2,7 +2,7 @@
 use mathlib.Core.Path.{_≡_, refl}
 use borrow.Author.Needs.{needs}
 use lib.ListN.{length}
-use Rattle.program_stdin.specs.Read.{Scanned, scanned-none, scanned-more, scanned-end}
+use Rattle.program_stdin.specs.Read.{Scanned, scanned-none, scanned-more, scanned-settled, scanned-end}
 use Rattle.program_stdin.proofs.read_all.Statement.{statement}
 use Rattle.program_stdin.proofs.read_all.Tie as tie
 
@@ -18,20 +18,22 @@ start-requires c κs = search needs
 loop-holds : tie.Need-loop-holds Inv-loop μ-loop
 loop-holds c = (refl, scanned-none _ _ _ (c .start .ensures))
 
-is-settled-requires : tie.Need-is-settled-requires Inv-loop μ-loop
-is-settled-requires c κs = search needs
-
-same-length : tie.Need-same-length Inv-loop μ-loop
-same-length c = search needs
-
-returns : tie.Need-returns Inv-loop μ-loop
-returns c = c .before .before .before .loop .inv .1
-
 read-some-requires : tie.Need-read-some-requires Inv-loop μ-loop
 read-some-requires c κs = search needs
 
 enum-told : tie.Need-enum-told Inv-loop μ-loop
 enum-told c = search needs
+
+same-length : tie.Need-same-length Inv-loop μ-loop
+same-length c = search needs
+
+returns : tie.Need-returns Inv-loop μ-loop
+returns c =
+    let w = c .before .before .before .before in
+    scanned-settled (w .before .before .before .loop .inv .1) (c .enum-told .given .1) (w .read-some .ensures)
+
+enum-told-2 : tie.Need-enum-told-2 Inv-loop μ-loop
+enum-told-2 c = search needs
 
 same-length-2 : tie.Need-same-length-2 Inv-loop μ-loop
 same-length-2 c = search needs
@@ -39,7 +41,7 @@ same-length-2 c = search needs
 returns-2 : tie.Need-returns-2 Inv-loop μ-loop
 returns-2 c =
     let w = c .before .before .before .before in
-    scanned-end (w .before .before .before .before .before .loop .inv .1) (c .enum-told .given .1) (w .read-some .ensures)
+    scanned-end (w .before .before .before .loop .inv .1) (c .enum-told2 .given .1) (w .read-some .ensures)
 
 enum-known-t : tie.Need-enum-known-t Inv-loop μ-loop
 enum-known-t c = search needs
@@ -54,7 +56,7 @@ loop-again : tie.Need-loop-again Inv-loop μ-loop
 loop-again c =
     let k = c .before in
     let w = k .before .before .before .before in
-    let l = w .before .before .before .before .before .loop in
+    let l = w .before .before .before .loop in
     (search needs, scanned-more (l .inv .1) (l .inv .0) (k .t .given .1) (w .read-some .ensures))
 
 same-length-3 : tie.Need-same-length-3 Inv-loop μ-loop
@@ -71,11 +73,11 @@ read-all-spec =
     μ-loop
     start-requires
     loop-holds
-    is-settled-requires
-    same-length
-    returns
     read-some-requires
     enum-told
+    same-length
+    returns
+    enum-told-2
     same-length-2
     returns-2
     enum-known-t
