@@ -1,9 +1,11 @@
 // What the calls answer: a result, or a refusal.
+#![tactic(auto)]
+
 ghost use Rattle.std.specs.Prelude.{◌≡◌};
 ghost use Rattle.answers.specs.Meaning.{number_of};
 
 // The refusals of documents 01 and 02, in the order of their numbers, 1 to 13.
-#[derive(Drop)]
+#[derive(Clone, Copy)]
 pub enum Refusal {
     Slots,
     Atoms,
@@ -21,7 +23,7 @@ pub enum Refusal {
 }
 
 // A result, or the refusal.
-#[derive(Drop)]
+#[derive(Clone, Copy)]
 pub enum Answer {
     Value(usize),
     Refused(Refusal),

@@ -1,4 +1,6 @@
 // The demands, as the contracts of functions that only make the calls.
+#![tactic(auto)]
+
 ghost use Rattle.rules.specs.Demands.{FirstAnswers};
 ghost use Rattle.answers.specs.Meaning.{answer_of};
 ghost use Rattle.row.specs.Meaning.{terms_of};
@@ -120,7 +122,7 @@ pub fn print_back(
 }
 
 // The horizon: slots 1 to t with m atoms each, and after slot t comes slot l again.
-#[derive(Drop)]
+#[derive(Clone, Copy)]
 pub struct Horizon {
     pub t: usize,
     pub m: usize,
@@ -128,7 +130,7 @@ pub struct Horizon {
 }
 
 // The node count, the row count and the root's truth at slot 1, or the first refusal.
-#[derive(Drop)]
+#[derive(Clone, Copy)]
 pub enum Planned {
     Done {
         nodes: usize,

@@ -1,4 +1,6 @@
 // Words of 8, 4 and 2 bytes, lowest byte first: made byte by byte, and written into a lent buffer as one store.
+#![tactic(auto)]
+
 ghost use Rattle.std.specs.Prelude.{◌≡◌, ◌+◌, ◌*◌, ◌≤◌, ◌<◌, length};
 ghost use Rattle.lists.specs.Splice.{splice};
 ghost use Rattle.endian.specs.Words.{seven_bytes, little_endian, two_bytes};

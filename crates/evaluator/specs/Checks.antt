@@ -9,7 +9,8 @@ use Rattle.rules.specs.Demands.Written.{wrote}
 use Rattle.rules.specs.Quantities.{LoopAllowed}
 use Rattle.rules.specs.Table.{rule_at, root}
 use Rattle.rules.specs.TableRules.{NodesGood}
-use Rattle.rules.specs.TableTest.{record_count, nodes_in, length-nodes_in, good as good_table}
+use Rattle.rules.specs.TableTest.{record_count, nodes_in, good as good_table}
+use Rattle.rules.proofs.TableTest.{length-nodes_in}
 use Rattle.rules.specs.Evaluation.{bit_of, truth}
 use Rattle.rules.specs.Outcome.{run_good, truth_words, evaluate_outcome}
 use Rattle.answers.specs.declared.Refusal.TheVariants.{Run, Room}

@@ -8,7 +8,8 @@ use Rattle.evaluator_words.specs.Bits.{on, on-is, on-above}
 use Rattle.evaluator_words.specs.Trailing.{trailing_below, trailing_at}
 use Rattle.lists.specs.First.{Found, FirstAt, first_found}
 use Rattle.rules.specs.Truth.{slot_bit, SlotSet}
-use Rattle.rules.specs.Words.{first_slot, first-slot_exact}
+use Rattle.rules.specs.Words.{first_slot}
+use Rattle.rules.proofs.Words.{first-slot_exact}
 
 bit-of : (w s : ℕ) → slot_bit w (s + 1) ≡ w / 2 ^ s % 2
 bit-of w s = ap (λ (x : ℕ). w / 2 ^ x % 2) (let e : s + 1 - 1 ≡ s = omega arith in e)

@@ -4,8 +4,10 @@ use Rattle.std.proofs.Common.{sym, ap, ◌∙◌, arith}
 use Rattle.rules.specs.Rule.{Rule, height}
 use Rattle.rules.specs.Table.{Node, NodeGood, left_of, rule_at, grow, node_at}
 use Rattle.rules.specs.Table.Node.{atom, unary, binary, windowed}
-use Rattle.rules.specs.TableRules.{NodesGood, rule_at-is}
-use Rattle.rules.specs.TableTest.{byte_at, good, nodes_in, good-sound, height-byte}
+use Rattle.rules.specs.TableRules.{NodesGood}
+use Rattle.rules.proofs.TableRules.{rule_at-is}
+use Rattle.rules.specs.TableTest.{byte_at, good, nodes_in}
+use Rattle.rules.proofs.TableTest.{good-sound, height-byte}
 use Rattle.evaluator_words.specs.Words.{Word}
 use Rattle.evaluator_atoms.specs.Columns.{Columns}
 use Rattle.table.specs.Nodes.{node_by, node_of}
@@ -54,6 +56,12 @@ module _ (T L M n r : ℕ) (run words cols : List ℕ) (nd : Read) where
 
   pub low_child : (x : Node) → node_of nd ≡ x → IsAtom x → Children T words x → nd.left < 16
   low_child (atom a) e i h = omega (arith, left-of (atom a) e)
+  low_child (unary _ _) e i h = elim i [ ]
+  low_child (binary _ _ _) e i h = elim i [ ]
+  low_child (windowed _ a b child) e i h = elim i [ ]
 
   pub low_word : (x : Node) → node_of nd ≡ x → IsAtom x → NodeGood M n x → Columns T run M cols → r ≡ get_or cols nd.left 0 → Word T (word_at T L run words x) r
   low_word (atom a) e i good c is = rw (is ∙ ap (λ (k : ℕ). get_or cols k 0) (left-of (atom a) e)) (c a good)
+  low_word (unary _ _) e i good c is = elim i [ ]
+  low_word (binary _ _ _) e i good c is = elim i [ ]
+  low_word (windowed _ a b child) e i good c is = elim i [ ]

@@ -15,13 +15,15 @@ use Rattle.rules.specs.Rule.Binary.{and, or, implies, until}
 use Rattle.rules.specs.Table as Table
 use Rattle.rules.specs.Table.{Node, NodeGood, rule_at, grow, root}
 use Rattle.rules.specs.Table.Node.{atom, unary, binary, windowed}
-use Rattle.rules.specs.TableRules.{NodesGood, rule_at-is}
+use Rattle.rules.specs.TableRules.{NodesGood}
+use Rattle.rules.proofs.TableRules.{rule_at-is}
 use Rattle.rules.specs.Truth.{slot_of, slot_bit}
 use Rattle.rules.specs.Rows.{in_window, window_slots}
-use Rattle.rules.specs.Slots.{slot_le, slot_pos}
+use Rattle.rules.proofs.Slots.{slot_le, slot_pos}
 use Rattle.rules.specs.Evaluation.{unary_from, binary_from, unary_to, binary_to, window_now, truth_at, bit_set, truth, bit_of}
-use Rattle.rules.specs.Evaluation.{not-to, at_once, window-at, at-window}
-use Rattle.rules.specs.Words.{word_of, word-slot, word-above, same-slots, first_bit}
+use Rattle.rules.proofs.Evaluation.{not-to, at_once, window-at, at-window}
+use Rattle.rules.specs.Words.{word_of}
+use Rattle.rules.proofs.Words.{word-slot, word-above, same-slots, first_bit}
 use Rattle.rules.specs.Outcome.{truth_words}
 use Rattle.evaluator_words.specs.Bits.{on, on-is}
 use Rattle.evaluator_words.specs.Ahead.{some, reached, some_at, at_some, front}

@@ -1,4 +1,6 @@
 // The evaluator: the truth word of every node of a table over a run, and a word's first slot.
+#![tactic(auto)]
+
 ghost use Rattle.std.specs.Prelude.{◌≡◌, List, ℕ, ◌%◌, ◌^◌, ◌≤◌, ◌<◌, length, get_or};
 ghost use Rattle.rules.specs.Outcome.{run_good, evaluate_outcome, returned, buffer};
 ghost use Rattle.rules.specs.Words.{first_slot};
@@ -172,7 +174,7 @@ pub fn evaluate(table: &[u8], t: usize, m: usize, l: usize, run: &[u16], out: &m
 }
 
 // A slot, or that there is none.
-#[derive(Drop)]
+#[derive(Clone, Copy)]
 pub enum FirstSlot {
     Slot(usize),
     None,

@@ -1,6 +1,8 @@
 // The words of the atoms. A run has a number for each slot, with a bit for each atom; a word has a bit for each slot. So the
 // numbers are packed into words in blocks of 4, 8 or 16 slots and atoms, whichever the atoms fit into, and the bits are
 // turned over by exchanging the halves of blocks, then of blocks of half the size.
+#![tactic(auto)]
+
 ghost use Rattle.std.specs.Prelude.{◌≡◌, List, ℕ, ◌+◌, ◌*◌, ◌≤◌, ◌<◌, length};
 ghost use Rattle.evaluator_atoms.specs.Turning.{row_of, pairs_for, low_of, high_of, PairAt, Stage};
 ghost use Rattle.evaluator_atoms.specs.Packing.{Width, Below, Laid, Blank, Packed};
@@ -38,7 +40,7 @@ fn pack(block: &mut [u64; 16], run: &[u16], t: usize, w: usize)
     }
 }
 
-#[derive(Drop)]
+#[derive(Clone, Copy)]
 pub struct Pair {
     pub low: u64,
     pub high: u64,

@@ -10,7 +10,7 @@ use Rattle.std.specs.Int.Bits.{bit_and, bit_or, and_step, or_step}
 use lib.Pow.{shr-shr, shl-shr, field, mod-mod-pow, shr_le, ones_lt, pow_mono}
 use Rattle.std.proofs.Math.Decide.{dec_lt}
 use Rattle.rules.specs.Truth.{slot_bit}
-use Rattle.rules.specs.Words.{same-slots}
+use Rattle.rules.proofs.Words.{same-slots}
 
 -- bit j of w
 unfoldable pub on : ℕ → ℕ → Bool

@@ -6,7 +6,7 @@ use Rattle.std.proofs.Math.Decide.{dec_lt}
 use Rattle.std.specs.Int.Bits.{bit_or}
 use Rattle.rules.specs.Quantities.{LoopAllowed}
 use Rattle.rules.specs.Truth.{slot_of}
-use Rattle.rules.specs.Slots.{slot_is, slot-past}
+use Rattle.rules.proofs.Slots.{slot_is, slot-past}
 use Rattle.evaluator_words.specs.Bits.{on, on-above, on_below, on-left, on-left-low, on-mod-above, on_or, on_shr}
 use Rattle.evaluator_words.specs.Words.{Word, later_at}
 

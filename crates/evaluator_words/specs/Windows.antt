@@ -9,7 +9,7 @@ use Rattle.std.proofs.Math.Pow.{ones_lt}
 use Rattle.lists.specs.Tests.{same_tests, or_cases, or_left, or_right}
 use Rattle.rules.specs.Quantities.{LoopAllowed}
 use Rattle.rules.specs.Truth.{slot_of}
-use Rattle.rules.specs.Slots.{slot_le, slot_pos, slot_is, slot-ahead, slot-past, slot-low, slot-high, slot_no_loop}
+use Rattle.rules.proofs.Slots.{slot_le, slot_pos, slot_is, slot-ahead, slot-past, slot-low, slot-high, slot_no_loop}
 use Rattle.evaluator_words.specs.Bits.{on, on-above, on_below, on_or, on_ones, on_shr}
 use Rattle.evaluator_words.specs.Ahead.{some, some_at, at_some, some-later}
 use Rattle.evaluator_words.specs.Words.{Word, slot_from, later_at, within_at, word_same}

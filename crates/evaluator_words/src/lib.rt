@@ -1,5 +1,7 @@
 // Truth words: bit s of a word is the truth at slot s, counted from 0, with zeros from the horizon on. The last slot t and the
 // loop slot l, which comes after it again, count from 1.
+#![tactic(auto)]
+
 ghost use Rattle.std.specs.Prelude.{◌≡◌, Bool, not, ◌&&◌, ◌||◌, ℕ, ◌+◌, ◌-◌, ◌^◌, ◌≤◌, ◌<◌};
 ghost use Rattle.evaluator_words.specs.Bits.{on};
 ghost use Rattle.evaluator_words.specs.Ahead.{some, Doubled};
@@ -110,7 +112,7 @@ pub fn always(p: u64, t: usize, l: usize) -> u64
 }
 
 // Over a number of slots from each slot on: q is met, with p up to there; p is held at all of them.
-#[derive(Drop)]
+#[derive(Clone, Copy)]
 pub struct Reach {
     pub met: u64,
     pub held: u64,

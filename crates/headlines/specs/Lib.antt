@@ -9,13 +9,3 @@ pub mod Shortfall
 pub mod RowSum
 pub mod Page
 pub mod Print
-pub mod Refusing
-pub mod Answering
-pub mod Passing
-pub mod Carrying
-pub mod Summing
-pub mod Paging
-pub mod TableLeft
-pub mod Planning
-pub mod Printing
-pub mod Headlines

@@ -38,7 +38,9 @@ inside = 2 ^ 40
 
 -- numbers within it: read back, and so their sum
 pub back : (z : ℤ) → nat_abs z ≤ inside → to_z w64 (of_z w64 z) ≡ z
-back z h = to_z-of_z (sfits_abs z (omega arith))
+back z h =
+    let f : SFits w64 z = sfits_abs z (omega arith) in
+    to_z-of_z f
 
 pub small-back : (z : ℤ) → nat_abs z ≤ inside → nat_abs (to_z w64 (of_z w64 z)) ≤ inside
 small-back z h = subst⁻¹ (λ (x : ℤ). nat_abs x ≤ inside) (back z h) h

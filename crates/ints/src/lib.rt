@@ -1,1 +1,2 @@
 // Laws of signed numbers stand in specs/. There is no code here.
+#![tactic(auto)]

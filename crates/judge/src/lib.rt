@@ -1,4 +1,6 @@
 // The judge of a solver's figures.
+#![tactic(auto)]
+
 ghost use Rattle.std.specs.Prelude.{◌≡◌, ◌*◌, ◌≤◌, length};
 ghost use Rattle.rules.specs.Rows.{variable_count};
 ghost use Rattle.rules.specs.TableTest.{record_count, nodes_in};
@@ -18,7 +20,7 @@ use table::Checked;
 // The largest tolerance, in millionths.
 const TOLERANCE: u32 = 1_000;
 
-#[derive(Drop)]
+#[derive(Clone, Copy)]
 pub enum Verdict {
     // the lowest variable outside the limits
     Outside(usize),
@@ -30,7 +32,7 @@ pub enum Verdict {
     Passed { rows: usize, error: u32 },
 }
 
-#[derive(Drop)]
+#[derive(Clone, Copy)]
 pub enum Ruling {
     Refused(Refusal),
     Judged(Verdict),

@@ -13,10 +13,12 @@ use Rattle.rules.specs.Table.{Node, NodeGood, node_at, rule_at, root}
 use Rattle.rules.specs.Table.Node.{atom, unary, binary, windowed}
 use Rattle.rules.specs.Rows.{unary_loops, binary_loops, loops, window_slots, goes_on}
 use Rattle.rules.specs.TableRules.{NodesGood}
-use Rattle.rules.specs.TableTest.{record_count, nodes_in, length-nodes_in}
-use Rattle.rules.specs.Errors.Sums.{sum_same}
-use Rattle.rules.specs.Errors.Parts.{window-all}
-use Rattle.rules.specs.Errors.Figures.{error, kept_error, next_error, raised, unary_count, binary_count, node_count, kept_count, root_error, error_now, kept-error_now}
+use Rattle.rules.specs.TableTest.{record_count, nodes_in}
+use Rattle.rules.proofs.TableTest.{length-nodes_in}
+use Rattle.rules.proofs.Errors.Sums.{sum_same}
+use Rattle.rules.proofs.Errors.Parts.{window-all}
+use Rattle.rules.specs.Errors.Figures.{error, kept_error, next_error, raised, unary_count, binary_count, node_count, kept_count, root_error}
+use Rattle.rules.proofs.Errors.Figures.{error_now, kept-error_now}
 use Rattle.table.specs.Checks.{Ready}
 use Rattle.judge_errors.specs.Worked.{Small, figure_at, ahead, Worked, down, end_of}
 use Rattle.judge_errors.specs.Count.{kept_now, figure_now}

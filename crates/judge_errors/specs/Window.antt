@@ -11,7 +11,8 @@ use Rattle.lists.specs.Sums as Sums
 use Rattle.lists.specs.Tabulate.{tabulate}
 use Rattle.rules.specs.Quantities.{one}
 use Rattle.rules.specs.Rows.{window_slots}
-use Rattle.rules.specs.Errors.Sums.{sum_over, sum-map}
+use Rattle.rules.specs.Errors.Sums.{sum_over}
+use Rattle.rules.proofs.Errors.Sums.{sum-map}
 use Rattle.window.specs.declared.Looks.{Looks}
 use Rattle.window.specs.Slots.{variable_at, variables, Few, Looking}
 use Rattle.judge_errors.specs.Worked.{Small}

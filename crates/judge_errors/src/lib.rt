@@ -1,5 +1,7 @@
 // The error figures of a table (request N7): how far from the truth the figure of each node may be at each slot, where the judge passes.
 // Slots count from 0 here but for l, the loop slot (request N8), and the error figures of node c stand from place c·t on.
+#![tactic(auto)]
+
 ghost use Rattle.std.specs.Prelude.{◌≡◌, ◌+◌, ◌-◌, ◌*◌, ◌≤◌, ◌<◌, min, length, get_or};
 ghost use Rattle.rules.specs.Quantities.{one, WindowAllowed, LoopAllowed};
 ghost use Rattle.rules.specs.Rule.Window.{within};
@@ -26,7 +28,7 @@ const PLACES: usize = 8192;
 const SUMS: usize = 65;
 
 // What a node counts beside e.
-#[derive(Drop)]
+#[derive(Clone, Copy)]
 enum Counting {
     // its atom's variable
     Atom,
@@ -39,7 +41,7 @@ enum Counting {
 }
 
 // The nodes that a node has as its parts; where it has one, that is the right one too.
-#[derive(Drop)]
+#[derive(Clone, Copy)]
 struct Parts {
     left: usize,
     right: usize,
@@ -47,7 +49,7 @@ struct Parts {
 }
 
 // A window over a part.
-#[derive(Drop)]
+#[derive(Clone, Copy)]
 struct Windowed {
     part: usize,
     from: u16,

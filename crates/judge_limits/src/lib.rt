@@ -1,4 +1,6 @@
 // The first variable whose figure fails a test.
+#![tactic(auto)]
+
 ghost use Rattle.std.specs.Prelude.{◌≡◌, cond, ◌+◌, ◌-◌, ◌≤◌, length};
 ghost use Rattle.lists.specs.First.{first};
 ghost use Rattle.lists.specs.Scan.{Skipped};
@@ -7,7 +9,7 @@ ghost use Rattle.judge_limits.specs.Tests.{found, at_once, outside_at, not_binar
 use millionths::Millionths;
 
 // The first variable that a search finds.
-#[derive(Drop)]
+#[derive(Clone, Copy)]
 pub enum Found {
     At(usize),
     Nowhere,

@@ -7,7 +7,8 @@ use mathlib.Core.List.{List, [], ◌++◌}
 use Rattle.lists.specs.Flat.{flat, flat-same}
 use Rattle.rules.specs.Quantities.{LoopAllowed}
 use Rattle.rules.specs.Table.{Node, NodeGood, node_at}
-use Rattle.rules.specs.TableTest.{nodes_in, record_count, length-nodes_in}
+use Rattle.rules.specs.TableTest.{nodes_in, record_count}
+use Rattle.rules.proofs.TableTest.{length-nodes_in}
 use Rattle.rules.specs.Rows.{Row, loops, looping}
 use Rattle.table.specs.Nodes.{node_of}
 use Rattle.table.specs.Looping.{loops_by, loops-by, looping_to, looping-more}

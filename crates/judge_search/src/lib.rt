@@ -1,4 +1,6 @@
 // The search for the first broken row of a table.
+#![tactic(auto)]
+
 ghost use Rattle.std.specs.Prelude.{◌≡◌, cond, ◌&&◌, List, ℕ, ◌+◌, ◌*◌, ◌≤◌, ◌<◌, ltb};
 ghost use Rattle.rules.specs.Table.{Node};
 ghost use Rattle.rules.specs.Rows.{same_rows, not_rows, and_rows, or_rows, implies_rows, until_rows, rows_of};

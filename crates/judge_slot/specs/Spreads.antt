@@ -1,5 +1,5 @@
 -- The sum, the least and the largest of some figures, as a part's at the slots of a window; where the row of the extreme one holds, all do.
-use Rattle.std.specs.Prelude.{◌≡◌, refl, Bool, true, false, List, map, ℕ, ◌+◌, ◌-◌, ◌*◌, ◌≤◌, ◌<◌, ℤ, pos, negsuc, neg_ℤ, nat_abs, ◌+ℤ◌, ◌-ℤ◌, ◌*ℤ◌, ◌≤ℤ◌, ◌<ℤ◌}
+use Rattle.std.specs.Prelude.{◌≡◌, refl, Bool, true, false, List, map, ℕ, ◌+◌, ◌-◌, ◌*◌, ◌≤◌, ◌<◌, ℤ, pos, negsuc, neg_ℤ, nat_abs, ◌+ℤ◌, ◌-ℤ◌, ◌*ℤ◌, ◌≤ℤ◌}
 use Rattle.std.proofs.Common.{sym, ap, ap₂, ◌∙◌, subst, arith, ltb-true, lt-ltb, le-ltb, le→leb, SFits, to_z, of_z}
 use Rattle.std.proofs.Math.Path.{subst⁻¹}
 use Rattle.std.proofs.Math.Decide.{dec_lt}
@@ -10,7 +10,7 @@ use Rattle.ints.specs.Magnitudes.{sum_magnitude}
 use Rattle.ints.specs.Sums.{swap-last}
 use Rattle.ints.specs.Stored.{sfits_abs, cast_fits, cast_back}
 use Rattle.rules.specs.Rows.{plus, value_at, sum_of}
-use Rattle.rules.specs.Shortfalls.{below_difference}
+use Rattle.rules.proofs.Shortfalls.{below_difference}
 use Rattle.rules.specs.Verdicts.{is_short}
 use Rattle.millionths.specs.Bounds as Bounds
 use Rattle.judge_sums.specs.Sums.{pair_of}

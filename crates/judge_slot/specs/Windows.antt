@@ -12,7 +12,8 @@ use Rattle.rules.specs.Rows.{Term, Row, plus, minus, ge, value_at, sum_of}
 use Rattle.row.specs.Kinds.{over_rows}
 use Rattle.judge_sums.specs.Windows.{sum-append, sum-plus}
 use Rattle.window.specs.declared.Looks.{Looks}
-use Rattle.window.specs.Slots.{variable_at, variables, length-variables}
+use Rattle.window.specs.Slots.{variable_at, variables}
+use Rattle.window.proofs.Slots.{length-variables}
 
 -- P is the node's variable, and p its part's at the first slot of all; at the i-th slot of the window
 abbrev pub above_row : (P : ℕ) → Looks → (p i : ℕ) → Row

@@ -1,4 +1,6 @@
 // The rows of a node at a slot, tested one after the other.
+#![tactic(auto)]
+
 ghost use Rattle.std.specs.Prelude.{◌≡◌, true, ◌+◌, ◌*◌, ◌^◌, ◌≤◌, ◌<◌, nat_abs, ◌+ℤ◌, length, ◌≤ℤ◌};
 ghost use Rattle.rules.specs.Rows.{same_rows, not_rows, and_rows, or_rows, implies_rows, until_rows};
 ghost use Rattle.rules.specs.Judge.{shortfall};
@@ -16,7 +18,7 @@ use millionths::Millionths;
 use window::Looks;
 
 // A search for a broken row.
-#[derive(Drop)]
+#[derive(Clone, Copy)]
 pub enum Search {
     // so many rows are tested and hold
     Clear(usize),
@@ -163,7 +165,7 @@ pub fn test_until(
 }
 
 // Some figures within limits: their sum, the least and the largest.
-#[derive(Drop)]
+#[derive(Clone, Copy)]
 struct Spread {
     sum: i32,
     least: Millionths,

@@ -8,7 +8,7 @@ use Rattle.ints.specs.Stored.{back}
 use Rattle.rules.specs.Rows.{Term, value_at, sum_of}
 use Rattle.rules.specs.RowSum as Definitions
 use Rattle.rules.specs.RowSum.{row_sum}
-use Rattle.rules.specs.RowSumLaws.{sums_equal, whole_is}
+use Rattle.rules.proofs.RowSumLaws.{sums_equal, whole_is}
 use Rattle.row.specs.declared.Term as Row
 use Rattle.row.specs.declared.Terms.{Terms}
 use Rattle.row.specs.declared.Terms.TheVariants.{Single, Pair, Triple}

@@ -4,7 +4,7 @@ use Rattle.std.proofs.Common.{sym, ap, ap₂, ◌∙◌, arith}
 use Rattle.std.proofs.Math.IntN.{+ℤ_idl, +ℤ_idr, +ℤ_assoc, neg_ℤ-+ℤ, pos-*ℤ-pos, pos-*ℤ-negsuc, negsuc-*ℤ-pos, negsuc-*ℤ-negsuc}
 use Rattle.rules.specs.Rows.{Term, plus, minus, value_at, sum_of}
 use Rattle.rules.specs.RowSum.{positive_terms}
-use Rattle.rules.specs.RowSumLaws.{sums_equal, positive-is, whole_is}
+use Rattle.rules.proofs.RowSumLaws.{sums_equal, positive-is, whole_is}
 use Rattle.millionths.specs.Bounds as Bounds
 use Rattle.judge_sums.specs.declared.RowSum.{RowSum}
 use Rattle.judge_sums.specs.Sums.{RowSumOf}

@@ -1,4 +1,6 @@
 // The sum of a row, and what it falls short by.
+#![tactic(auto)]
+
 ghost use Rattle.std.specs.Prelude.{◌≡◌, [], ◌∷◌, ◌+◌, ◌*◌, ◌≤◌, ℤ, pos, nat_abs, ◌+ℤ◌, ◌*ℤ◌};
 ghost use Rattle.rules.specs.Quantities as Quantities;
 ghost use Rattle.rules.specs.Rows.{value_at};
@@ -39,7 +41,7 @@ fn scaled(right: i8) -> i64
 }
 
 // The sum of a row, its terms added in the order of the solver's trace: those with a positive coefficient first.
-#[derive(Drop)]
+#[derive(Clone, Copy)]
 pub struct RowSum {
     // the sum reached after those
     pub positive: i64,

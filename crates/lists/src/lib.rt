@@ -1,1 +1,2 @@
 // Laws of lists stand in specs/. There is no code here.
+#![tactic(auto)]

@@ -1,10 +1,12 @@
 // Figures in millionths, with their own one, zero and conversion from a truth, and the tests of one figure.
+#![tactic(auto)]
+
 ghost use Rattle.std.specs.Prelude.{◌≡◌, ◌≤◌, pos, nat_abs, ◌-ℤ◌};
 ghost use Rattle.rules.specs.Verdicts.{apart, is_outside, is_not_binary};
 ghost use Rattle.millionths.specs.Unit.{of_truth};
 ghost use Rattle.millionths.specs.Bounds as Bounds;
 
-#[derive(Drop)]
+#[derive(Clone, Copy)]
 pub struct Millionths {
     pub value: i32,
 }

@@ -7,7 +7,8 @@ use Rattle.table.specs.Ends.{has_window}
 use Rattle.table.specs.declared.Kind.{Kind}
 use Rattle.table.specs.declared.Kind.TheVariants.{Atom, Not, And, Or, Implies, Eventually, Always, Until, Within, Throughout}
 use Rattle.window.specs.declared.Looks.{Looks}
-use Rattle.window.specs.Slots.{window_by, variable_at, variables, Few, Looking, count-is, place-high}
+use Rattle.window.specs.Slots.{window_by, variable_at, variables, Few, Looking}
+use Rattle.window.proofs.Slots.{count-is, place-high}
 use Rattle.row.specs.declared.Block.{Block}
 use Rattle.row.specs.Apart.{Apart}
 use Rattle.row.specs.Kinds.{Allowed, over_rows, rows_on, length-on}

@@ -1,4 +1,6 @@
 // The lines of the columns of an MPS page. A variable is looked for in the rows of its own node and of those that have it as a part alone.
+#![tactic(auto)]
+
 ghost use Rattle.std.specs.Prelude.{◌≡◌, cond, true, [], ◌+◌, ◌-◌, ◌*◌, ◌≤◌, ◌<◌, length, get_or};
 ghost use Rattle.lists.specs.Flat.{flat};
 ghost use Rattle.rules.specs.Table.{node_at};
@@ -30,21 +32,21 @@ use row::Block;
 use table::Kind;
 
 // A variable, and its slot, counted from 0.
-#[derive(Drop)]
+#[derive(Clone, Copy)]
 struct Variable {
     v: usize,
     s: usize,
 }
 
 // A part of the variables, and a slot, counted from 0.
-#[derive(Drop)]
+#[derive(Clone, Copy)]
 struct Slot {
     x: usize,
     s: usize,
 }
 
 // T, M and L, and the number of the goal row.
-#[derive(Drop)]
+#[derive(Clone, Copy)]
 struct Plan {
     t: usize,
     m: usize,

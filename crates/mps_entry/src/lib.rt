@@ -1,5 +1,7 @@
 // The entries of a variable's column in the rows of a node without a window, at one slot, by what the variable is to the node: its own, that of a
 // part or of both, or that of what follows.
+#![tactic(auto)]
+
 ghost use Rattle.std.specs.Prelude.{◌≡◌, true, false, ◌++◌, ◌+◌, ◌≤◌, ◌<◌};
 ghost use Rattle.rules.specs.Rows.{same_rows, not_rows, implies_rows, until_rows};
 ghost use Rattle.mps_line.specs.Bounds.{number_limit, LinesFit, plain_lines};
@@ -12,7 +14,7 @@ use mps_line::Name;
 use table::Kind;
 
 // A node without a window at a slot: its variable there, its parts', and, where something follows (`inner`), that one's.
-#[derive(Drop)]
+#[derive(Clone, Copy)]
 pub struct Spot {
     pub kind: Kind,
     pub inner: bool,
@@ -93,7 +95,7 @@ fn put_both(out: &mut [u8], at: usize, v: usize, i: usize, up: bool) -> usize
 }
 
 // The variables that a node joins: its parts', or its part's and the one that follows.
-#[derive(Drop)]
+#[derive(Clone, Copy)]
 struct Joined {
     p: usize,
     q: usize,

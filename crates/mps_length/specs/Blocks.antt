@@ -5,7 +5,7 @@ use Rattle.std.proofs.Math.Path.{subst⁻¹}
 use Rattle.lists.specs.Place.{place_end}
 use Rattle.rules.specs.Table.{Node, NodeGood, node_at}
 use Rattle.rules.specs.Rows.{loops, looping, variable_count}
-use Rattle.rules.specs.Solution.Looping.{looping_lt}
+use Rattle.rules.proofs.Solution.Looping.{looping_lt}
 use Rattle.table.specs.Nodes.{node_of}
 use Rattle.table.specs.Looping.{loops_by, loops-by}
 use Rattle.table.specs.declared.Node as Table

@@ -3,7 +3,7 @@ use Rattle.std.specs.Prelude.{◌≡◌, refl, ℕ, zero, suc, ◌+◌, ◌-◌,
 use Rattle.std.proofs.Common.{ap, ◌∙◌, arith}
 use Rattle.std.proofs.Math.Decide.{dec_lt}
 use Rattle.text.specs.Decimal.{decimal}
-use Rattle.text.specs.DecimalLaws.{length-low, length-next}
+use Rattle.text.proofs.DecimalLaws.{length-low, length-next}
 use Rattle.lists.specs.Sums.{sum_to}
 
 abbrev digits : ℕ → ℕ

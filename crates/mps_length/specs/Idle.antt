@@ -14,8 +14,9 @@ use Rattle.rules.specs.Rule.{Unary, Binary, Window}
 use Rattle.rules.specs.Table.{Node, NodeGood, node_at, root}
 use Rattle.rules.specs.Table.Node.{atom, unary, binary, windowed}
 use Rattle.rules.specs.Rows.{Row, loops, looping, same_rows, slack_rows, goal_row, rows_of, variable_count}
-use Rattle.rules.specs.RowParts.{nodes-parts}
-use Rattle.rules.specs.Solution.Looping.{looping_at, looping-node, looping-loops, looping-at}
+use Rattle.rules.proofs.RowParts.{nodes-parts}
+use Rattle.rules.specs.Solution.Looping.{looping_at}
+use Rattle.rules.proofs.Solution.Looping.{looping-node, looping-loops, looping-at}
 use Rattle.table.specs.Nodes.{node_by, node_of}
 use Rattle.table.specs.Looping.{loops_by, loops-by}
 use Rattle.table.specs.declared.Node as Table

@@ -3,7 +3,8 @@ use Rattle.std.specs.Prelude.{◌≡◌, List, ℕ, ◌+◌, ◌*◌, ◌≤◌,
 use Rattle.std.proofs.Common.{sym, ap, ap₂, ◌∙◌, arith, length-append}
 use Rattle.std.proofs.Math.Path.{subst⁻¹}
 use Rattle.rules.specs.Table.{Node, NodeGood}
-use Rattle.rules.specs.TableTest.{record_count, nodes_in, length-nodes_in}
+use Rattle.rules.specs.TableTest.{record_count, nodes_in}
+use Rattle.rules.proofs.TableTest.{length-nodes_in}
 use Rattle.rules.specs.Rows.{variable_count}
 use Rattle.table.specs.Nodes.{NodeRead}
 use Rattle.table.specs.Checks.{Ready}

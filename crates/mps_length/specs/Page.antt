@@ -6,8 +6,9 @@ use Rattle.std.proofs.Math.Nat.{mul_comm, mul-le-mul}
 use Rattle.lists.specs.Place.{place_lt}
 use Rattle.rules.specs.Table.{Node, NodeGood, node_at, root}
 use Rattle.rules.specs.Rows.{looping, slack_count, variable_count, slack_rows, goal_row, rows_of}
-use Rattle.rules.specs.RowCount.{rows-count}
-use Rattle.rules.specs.TableTest.{record_count, nodes_in, length-nodes_in}
+use Rattle.rules.proofs.RowCount.{rows-count}
+use Rattle.rules.specs.TableTest.{record_count, nodes_in}
+use Rattle.rules.proofs.TableTest.{length-nodes_in}
 use Rattle.table.specs.Checks.{Ready}
 use Rattle.table.specs.Looping.{looping-few, looping-all}
 use Rattle.row.specs.NodeRows.{rows_to, all-parts}

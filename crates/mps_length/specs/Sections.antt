@@ -6,7 +6,7 @@ use Rattle.lists.specs.Flat.{flat}
 use Rattle.rules.specs.Rows.{Relation, Row}
 use Rattle.rules.specs.Rows.Relation.{at_least, equal}
 use Rattle.text.specs.Decimal.{decimal}
-use Rattle.text.specs.DecimalLaws.{length-low}
+use Rattle.text.proofs.DecimalLaws.{length-low}
 use Rattle.mps.specs.Words.{COST, N}
 use Rattle.mps.specs.Merged.{coefficient, is_zero, stands}
 use Rattle.mps.specs.Page.{type_line, type_text, row_name, row_line, entry_line, right_line, each_row, cost_line, column_lines, binary_line, upper_line, bound_line}

@@ -9,7 +9,7 @@ use Rattle.std.proofs.Math.IntN.{pos, +ℤ_idl, +ℤ_idr, +ℤ_assoc}
 use Rattle.lists.specs.Every.{Every}
 use Rattle.rules.specs.Rows.{Term}
 use Rattle.text.specs.Decimal.{signed_text}
-use Rattle.text.specs.DecimalLaws.{length-low}
+use Rattle.text.proofs.DecimalLaws.{length-low}
 use Rattle.mps.specs.Merged.{coefficient, is_zero}
 use Rattle.mps.specs.Page.{row_name, number_line, number_unless_zero}
 use Rattle.mps_line.specs.declared.Name.{Name}

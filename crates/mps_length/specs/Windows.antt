@@ -7,7 +7,7 @@ use Rattle.lists.specs.Passing.{passing}
 use Rattle.rules.specs.Rule.Window.{within, throughout}
 use Rattle.rules.specs.Rows.{Row, plus, minus, ge, in_window, window_slots}
 use Rattle.text.specs.Decimal.{decimal}
-use Rattle.text.specs.DecimalLaws.{length-low, length-pair}
+use Rattle.text.proofs.DecimalLaws.{length-low, length-pair}
 use Rattle.row.specs.Kinds.{over_rows, window_at}
 use Rattle.mps_length.specs.Terms.{size, size-zero, size-one, size-less-one, total, Others, total-none, total-more, single, pair}
 use Rattle.mps_length.specs.RowSizes.{weight, weight-append}

@@ -1,4 +1,6 @@
 // How long the fixed-column MPS page of a table's rows is, found by one walk over the nodes.
+#![tactic(auto)]
+
 ghost use Rattle.std.specs.Prelude.{◌≡◌, cond, ◌*◌, ◌≤◌, ◌<◌, length};
 ghost use Rattle.rules.specs.TableTest.{record_count, nodes_in};
 ghost use Rattle.table.specs.Checks.{Ready};
@@ -55,7 +57,7 @@ fn times(number: usize, k: usize) -> usize
 }
 
 // The size of rows: how many they are, and how many bytes their lines have in COLUMNS and RHS.
-#[derive(Drop)]
+#[derive(Clone, Copy)]
 struct Size {
     rows: usize,
     lines: usize,

@@ -3,7 +3,8 @@ use Rattle.std.specs.Prelude.{◌≡◌, refl, List, ◌∷◌, ◌++◌, ℕ, s
 use Rattle.std.proofs.Common.{ap, ap₂, ◌∙◌, arith}
 use Rattle.endian.specs.Words.{little_endian, next-bytes}
 use Rattle.text.specs.Decimal.{decimal}
-use Rattle.text.specs.DecimalLaws.{pair_text, decimal-low, decimal-pair, decimal-pairs}
+use Rattle.text.specs.DecimalLaws.{pair_text}
+use Rattle.text.proofs.DecimalLaws.{decimal-low, decimal-pair, decimal-pairs}
 use Rattle.mps_line.specs.Fields.{padded}
 
 pub digit-bytes : (k rest d : ℕ) {r : ℕ} {xs : List ℕ} → r ≡ rest * 256 + (48 + d) → d < 10 → little_endian k rest ≡ xs → little_endian (suc k) r ≡ (48 + d) ∷ xs

@@ -2,7 +2,7 @@
 use Rattle.std.specs.Prelude.{◌≡◌, List, [], ◌∷◌, ◌++◌, ℕ, ◌+◌, ◌≤◌, ◌<◌, ℤ, length}
 use Rattle.std.proofs.Common.{ap, ap₂, ◌∙◌, arith, length-append}
 use Rattle.text.specs.Decimal.{decimal, signed_text}
-use Rattle.text.specs.DecimalLaws.{length-low, below_1000000}
+use Rattle.text.proofs.DecimalLaws.{length-low, below_1000000}
 use Rattle.mps.specs.Words.{COST, RHS}
 use Rattle.mps.specs.Page.{row_name, variable_name, type_line, number_line, binary_line, upper_line}
 use Rattle.mps_line.specs.Bounds.{number_limit}

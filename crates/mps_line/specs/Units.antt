@@ -2,7 +2,7 @@
 use Rattle.std.specs.Prelude.{◌≡◌, Bool, true, false, List, [], ◌∷◌, ◌++◌, ℕ, ◌+◌, ◌<◌, ℤ, pos, negsuc, length}
 use Rattle.std.proofs.Common.{sym, ap, ◌∙◌, append_assoc, arith}
 use Rattle.text.specs.Decimal.{signed_text}
-use Rattle.text.specs.DecimalLaws.{decimal-low, length-low}
+use Rattle.text.proofs.DecimalLaws.{decimal-low, length-low}
 use Rattle.mps.specs.Page.{row_name, variable_name, number_line}
 use Rattle.mps_line.specs.Bounds.{number_limit}
 use Rattle.mps_line.specs.declared.Name.TheVariants.{Row, Variable}

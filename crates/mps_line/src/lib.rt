@@ -1,4 +1,6 @@
 // The lines of an MPS page. A line is put where there is room for it; the result is the place after it, with room or without.
+#![tactic(auto)]
+
 ghost use Rattle.std.specs.Prelude.{◌≡◌, List, [], ◌∷◌, ◌++◌, ℕ, ◌+◌, ◌*◌, ◌/◌, ◌%◌, ◌^◌, ◌≤◌, ◌<◌, nat_abs, length};
 ghost use Rattle.endian.specs.Words.{little_endian};
 ghost use Rattle.text.specs.Decimal.{decimal, signed_text};
@@ -11,7 +13,7 @@ ghost use Rattle.mps_line.specs.Fields.{padded};
 ghost use Rattle.mps_line.specs.Units.{bit, one, unit_line};
 
 // What stands in a field that names something.
-#[derive(Drop)]
+#[derive(Clone, Copy)]
 pub enum Name {
     Cost,
     Rights,

@@ -9,7 +9,8 @@ use Rattle.table.specs.declared.Node as Table
 use Rattle.table.specs.declared.Kind.{Kind}
 use Rattle.table.specs.declared.Kind.TheVariants.{Atom, Not, And, Or, Implies, Eventually, Always, Until, Within, Throughout}
 use Rattle.window.specs.declared.Looks.{Looks}
-use Rattle.window.specs.Slots.{variables, Looking, count-is}
+use Rattle.window.specs.Slots.{variables, Looking}
+use Rattle.window.proofs.Slots.{count-is}
 use Rattle.row.specs.declared.Block.{Block}
 use Rattle.row.specs.Apart.{Apart, Behind, own_behind, kept-behind}
 use Rattle.row.specs.Kinds.{Allowed, allowed, kind_rows, slot_count, window_at, followed, following, length-on}

@@ -1,4 +1,6 @@
 // The lines of the rows of a node at all slots, and of all rows of a table.
+#![tactic(auto)]
+
 ghost use Rattle.std.specs.Prelude.{◌≡◌, ◌+◌, ◌≤◌, ◌<◌};
 ghost use Rattle.rules.specs.Rows.{rows_of};
 ghost use Rattle.rules.specs.TableTest.{record_count, nodes_in};
@@ -18,7 +20,7 @@ use table::Kind;
 use window::Looks;
 
 // A node's own block of slacks, and its V's; `both` says whether it has V's.
-#[derive(Drop)]
+#[derive(Clone, Copy)]
 pub struct Blocks {
     pub own: Block,
     pub kept: Block,

@@ -1,4 +1,6 @@
 // The fixed-column MPS page of a table's rows.
+#![tactic(auto)]
+
 ghost use Rattle.std.specs.Prelude.{◌≡◌, ◌+◌, ◌*◌, length};
 ghost use Rattle.rules.specs.Rows.{variable_count, rows_of};
 ghost use Rattle.rules.specs.TableTest.{nodes_in};

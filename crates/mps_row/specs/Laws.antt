@@ -10,14 +10,14 @@ use Rattle.std.proofs.Math.ListN.{length}
 use Rattle.lists.specs.Flat.{flat, flat-zero, flat-same, length-flat-even}
 use Rattle.rules.specs.Table.{Node, node_at}
 use Rattle.rules.specs.Rows.{Row, window_slots, slack_rows, goal_row, rows_of}
-use Rattle.rules.specs.RowParts.{nodes-parts}
+use Rattle.rules.proofs.RowParts.{nodes-parts}
 use Rattle.table.specs.Ends.{has_window}
 use Rattle.table.specs.declared.Kind.{Kind}
 use Rattle.table.specs.declared.Kind.TheVariants.{Atom, Not, And, Or, Implies, Eventually, Always, Until, Within, Throughout}
 use Rattle.row.specs.declared.Block.{Block}
 use Rattle.row.specs.Kinds.{kind_rows, slot_count, followed, followed-inner, length-on}
 use Rattle.row.specs.NodeRows.{block_on, block_rows, part_rows, rows_to}
-use Rattle.rules.specs.RowCount.{node-count}
+use Rattle.rules.proofs.RowCount.{node-count}
 use Rattle.mps.specs.Page.{each_row}
 use Rattle.mps_line.specs.Bounds.{row_limit}
 use Rattle.mps_row.specs.Slots.{rows_before, slot_text}

@@ -1,4 +1,6 @@
 // The lines of rows on an MPS page: in ROWS, in RHS, or in the column of a variable.
+#![tactic(auto)]
+
 ghost use Rattle.std.specs.Prelude.{◌≡◌, cond, ◌*◌, ◌≤◌, ◌<◌, eqb, pos, nat_abs};
 ghost use Rattle.mps.specs.Merged.{coefficient};
 ghost use Rattle.mps.specs.Page.{number_unless_zero};
@@ -12,7 +14,7 @@ use mps_line::Name;
 use row::{Relation, Row, Term, Terms};
 
 // Which line a row gives: its type, its right side, or the entry of a variable's column.
-#[derive(Drop)]
+#[derive(Clone, Copy)]
 pub enum Text {
     Typed,
     Right,

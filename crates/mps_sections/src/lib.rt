@@ -1,4 +1,6 @@
 // The sections of an MPS page but COLUMNS.
+#![tactic(auto)]
+
 ghost use Rattle.std.specs.Prelude.{◌+◌, ◌≤◌, ◌<◌};
 ghost use Rattle.rules.specs.Rows.{rows_of};
 ghost use Rattle.rules.specs.TableTest.{nodes_in};

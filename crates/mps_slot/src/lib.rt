@@ -1,4 +1,6 @@
 // The lines of the rows of a node at a slot.
+#![tactic(auto)]
+
 ghost use Rattle.std.specs.Prelude.{◌≡◌, [], ◌∷◌, ◌+◌, ◌≤◌};
 ghost use Rattle.rules.specs.Rows.{same_rows, not_rows, and_rows, or_rows, implies_rows, until_rows};
 ghost use Rattle.mps.specs.Page.{each_row};
@@ -16,7 +18,7 @@ use window::Looks;
 
 // A node at a slot: its variable there, its parts', and, where something follows (`inner`), that one's. A window looks at some slots; `first` is its
 // part's variable at the first slot of all.
-#[derive(Drop)]
+#[derive(Clone, Copy)]
 pub struct Spot {
     pub kind: Kind,
     pub inner: bool,

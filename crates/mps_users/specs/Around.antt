@@ -17,7 +17,7 @@ use Rattle.rules.specs.Table.{Node, node_at}
 use Rattle.rules.specs.Table.Node.{atom, unary, binary, windowed}
 use Rattle.rules.specs.Rows.{Row, unary_loops, binary_loops, loops, loop_slack, unary_rows, binary_rows, in_window, window_slots, window_rows, slack}
 use Rattle.rules.specs.Rows.{goes_on, next_slack, rows_at, loop_rows_at, slots_rows, node_rows, slack_rows, goal_row, rows_of}
-use Rattle.rules.specs.WindowParts.{window-variables}
+use Rattle.rules.proofs.WindowParts.{window-variables}
 use Rattle.mps.specs.Page.{entry_line, each_row, cost_line, column_lines}
 use Rattle.row.specs.NodeRows.{rows_to}
 use Rattle.mps_row.specs.Laws.{node_text, all-text}

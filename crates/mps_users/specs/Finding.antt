@@ -10,7 +10,8 @@ use Rattle.lists.specs.Flat.{flat, flat-zero, flat-more}
 use Rattle.rules.specs.Table.{Node, NodeGood, node_at}
 use Rattle.rules.specs.Table.Node.{atom, unary, binary, windowed}
 use Rattle.rules.specs.Rows.{loops, looping}
-use Rattle.rules.specs.Solution.Looping.{looping_at, at-looping}
+use Rattle.rules.specs.Solution.Looping.{looping_at}
+use Rattle.rules.proofs.Solution.Looping.{at-looping}
 use Rattle.row.specs.NodeRows.{rows_to, kept_place}
 use Rattle.mps_users.specs.Users.{has_part, kept_part, uses, user_at, users}
 use Rattle.mps_users.specs.Picked.{flat-only}

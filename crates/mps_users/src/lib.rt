@@ -1,4 +1,6 @@
 // Where the rows of each node begin and where its V does, and in which nodes' rows a part of the variables stands.
+#![tactic(auto)]
+
 ghost use Rattle.std.specs.Prelude.{◌≡◌, ◌+◌, ◌≤◌, ◌<◌, length, set};
 ghost use Rattle.rules.specs.TableTest.{record_count, nodes_in};
 ghost use Rattle.table.specs.Checks.{Ready};

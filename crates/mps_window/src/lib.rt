@@ -1,5 +1,7 @@
 // The lines of a window's rows on an MPS page, at one slot. Request N4: "F has P − p(s) ≥ 0 for each s, then the sum of all p(s), less P, ≥ 0.
 // G has p(s) − P ≥ 0 for each s, then P less all p(s) ≥ −(k − 1)."
+#![tactic(auto)]
+
 ghost use Rattle.std.specs.Prelude.{◌≡◌, not, ◌++◌, ◌+◌, ◌-◌, ◌≤◌, ◌<◌, pos, neg_ℤ};
 ghost use Rattle.lists.specs.Flat.{flat};
 ghost use Rattle.mps.specs.Words.{G, RHS};
@@ -68,7 +70,7 @@ fn put_units(out: &mut [u8], at: usize, v: usize, i: usize, up: bool, count: usi
 
 // A window's rows at a slot: of F[a,b] where `within`, and otherwise of G[a,b]; the variables of the node there and of its part at the first slot of all;
 // and the slots that it looks at.
-#[derive(Drop)]
+#[derive(Clone, Copy)]
 pub struct Over {
     pub within: bool,
     pub own: u16,
@@ -77,7 +79,7 @@ pub struct Over {
 }
 
 // Which of a window's slots a variable stands at, if it is the part's there.
-#[derive(Drop)]
+#[derive(Clone, Copy)]
 enum Place {
     At(usize),
     Nowhere,

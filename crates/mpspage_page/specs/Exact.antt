@@ -3,7 +3,7 @@ use Rattle.std.specs.Prelude.{◌≡◌, refl, List, ℕ, leb, length}
 use Rattle.std.proofs.Common.{◌∙◌}
 use Rattle.rules.specs.Quantities.{SlotsAllowed, AtomsAllowed}
 use Rattle.rules.specs.Table.{Node, Good, table_bytes, nodes_of}
-use Rattle.rules.specs.TableTest.{good-nodes}
+use Rattle.rules.proofs.TableTest.{good-nodes}
 use Rattle.rules.specs.Demands.Answer.{answered}
 use Rattle.rules.specs.Demands.Written.{wrote}
 use Rattle.rules.specs.Outcome.{require}
@@ -11,9 +11,10 @@ use Rattle.mps.specs.Page
 use Rattle.mps.specs.Outcome.{page_outcome}
 use Rattle.program_rule.specs.Output.{OutputExact, StopsExact}
 use Rattle.program_rule.specs.Outcome.{enough}
-use Rattle.program_rule.specs.Cut.{Cut, printed-cut}
+use Rattle.program_rule.specs.Cut.{Cut}
+use Rattle.program_rule.proofs.Cut.{printed-cut}
 use Rattle.program_rule.specs.Whole.{output_exact, stops_exact}
-use Rattle.program_rule.specs.Refusing.{good-passes, rule_exact}
+use Rattle.program_rule.proofs.Refusing.{good-passes, rule_exact}
 use Rattle.mpspage_page.specs.Page.{page_room, page_text, PagedExact, page_work, paged, page_printed, page}
 
 -- ---- the first refusal, and else the page of the rule

@@ -2,18 +2,19 @@
 use mathlib.Core.Path.{◌≡◌, refl, sym, ap, ◌∙◌}
 use mathlib.Core.Bool.{true, false}
 use mathlib.Core.List.{List, ◌++◌}
-use Prim.Native.Nat.{ℕ, ◌+◌, ◌-◌, ◌≤◌, ◌<◌}
+use Prim.Native.Nat.{ℕ, ◌-◌, ◌≤◌, ◌<◌}
 use native.Mathlib.Nat.{zero-add}
 use native.Mathlib.Omega.{arith}
 use borrow.Author.Tests.{le-leb, lt-leb}
 use lib.ListN.{length, drop}
 use lib.Seq.{sets, sets-eq}
-use Rattle.rules.specs.Table.{rule_at, root}
-use Rattle.rules.specs.TableTest.{good, nodes_in, record_count, length-nodes_in, good-sound}
+use Rattle.rules.specs.Table.{rule_at}
+use Rattle.rules.specs.TableTest.{good, nodes_in, record_count}
+use Rattle.rules.proofs.TableTest.{length-nodes_in, good-sound}
 use Rattle.rules.specs.Demands.{Answer}
 use Rattle.rules.specs.Demands.Answer.{refused, answered}
 use Rattle.rules.specs.Outcome.{between, returned, buffer}
-use Rattle.rules.specs.Exactness.Tests.{between-true}
+use Rattle.rules.proofs.Exactness.Tests.{between-true}
 use Rattle.text.specs.Put.{Put}
 use Rattle.table.specs.Checks.{good-nodes-at}
 use Rattle.printer_text.specs.Shown.{shown}
@@ -23,18 +24,20 @@ use Rattle.printer_node.specs.Putting.{Putting}
 
 -- what is answered, and what the buffer then holds
 abbrev Ends : (M : ℕ) (table out : List ℕ) (answer : Answer ℕ) (after : List ℕ) → Type 0
-Ends M table out answer after =
-    (answer ≡ returned (print_outcome M table (length out))) × (after ≡ buffer (print_outcome M table (length out)) out)
+Ends M table out answer after = record {
+  r_value : answer ≡ returned (print_outcome M table (length out));
+  out_after : after ≡ buffer (print_outcome M table (length out)) out;
+}
 
 module _ (M : ℕ) (table out : List ℕ) where
   pub atoms-refused : between 1 16 M ≡ false → Ends M table out (refused 2) out
   unfolding print_outcome
-  atoms-refused e = (rw e refl, rw e refl)
+  atoms-refused e = record { r_value = rw e refl; out_after = rw e refl }
 
   module _ (m : between 1 16 M ≡ true) where
     pub table-refused : good M table ≡ false → Ends M table out (refused 7) out
     unfolding print_outcome
-    table-refused e = (rw (m, e) refl, rw (m, e) refl)
+    table-refused e = record { r_value = rw (m, e) refl; out_after = rw (m, e) refl }
 
     -- a good table with n + 1 nodes
     module _ (g : good M table ≡ true) where
@@ -53,7 +56,7 @@ module _ (M : ℕ) (table out : List ℕ) where
           unfolding print_outcome
           long-refused e =
               let k = lt-leb (length (root_text table)) 1024 (omega (arith, ap length text-is)) in
-              (rw (m, g, k) refl, rw (m, g, k) refl)
+              record { r_value = rw (m, g, k) refl; out_after = rw (m, g, k) refl }
 
           module _ (some : rest ≡ 0 → ⊥) (n : ℕ) (long : n ≡ 1025 - rest) where
             long-is : n ≡ length (root_text table)
@@ -67,7 +70,7 @@ module _ (M : ℕ) (table out : List ℕ) where
             room-refused h =
                 let k = le-leb (length (root_text table)) 1024 fits in
                 let j = lt-leb (length (root_text table)) (length out) (omega (arith, long-is)) in
-                (rw (m, g, k, j) refl, rw (m, g, k, j) refl)
+                record { r_value = rw (m, g, k, j) refl; out_after = rw (m, g, k, j) refl }
 
             pub putting : n ≤ length out → Putting table (c - 1) 0 0 out
             putting h = record {
@@ -85,4 +88,4 @@ module _ (M : ℕ) (table out : List ℕ) where
                 let j = le-leb (length s) (length out) (omega (arith, long-is)) in
                 let w : after ≡ s ++ drop (length s) out =
                 p.content ∙ ap (sets out 0) text-is ∙ sets-eq s out 0 (omega (arith, long-is)) ∙ ap (λ (i : ℕ). s ++ drop i out) (zero-add (length s)) in
-                (rw (m, g, k, j) (ap (λ (i : ℕ). answered i) long-is), rw (m, g, k, j) w)
+                record { r_value = rw (m, g, k, j) (ap (λ (i : ℕ). answered i) long-is); out_after = rw (m, g, k, j) w }

@@ -1,4 +1,6 @@
 // A table's root printed as text: the checks, in an order of their own, and the text put where nothing refuses.
+#![tactic(auto)]
+
 ghost use Rattle.std.specs.Prelude.{◌≡◌, length};
 ghost use Rattle.rules.specs.Outcome.{returned, buffer};
 ghost use Rattle.answers.specs.Meaning.{answer_of};

@@ -2,10 +2,10 @@
 use Rattle.std.specs.Prelude.{◌≡◌, refl, Bool, true, false, cond, List, [], ◌∷◌, ◌++◌, ℕ, ◌+◌, ◌-◌, ◌≤◌, ◌<◌, ltb, length}
 use Rattle.std.proofs.Common.{sym, ap, subst, ◌∙◌, append_assoc, append-nil, arith, length-append}
 use Rattle.rules.specs.Rule.{Rule}
-use Rattle.rules.specs.Table as Table
 use Rattle.rules.specs.Table.{NodeGood, node_at, grow, rule_at}
-use Rattle.rules.specs.TableRules.{rule_at-is}
-use Rattle.rules.specs.TableTest.{nodes_in, record_count, length-nodes_in}
+use Rattle.rules.proofs.TableRules.{rule_at-is}
+use Rattle.rules.specs.TableTest.{nodes_in, record_count}
+use Rattle.rules.proofs.TableTest.{length-nodes_in}
 use Rattle.text.specs.Decimal.{decimal}
 use Rattle.table.specs.declared.Kind.{Kind}
 use Rattle.table.specs.declared.Kind.TheVariants.{Atom, Not, And, Or, Implies, Eventually, Always, Until, Within, Throughout}

@@ -1,4 +1,6 @@
 // The text of a node where a level is wanted: how many bytes it takes, and putting it into a lent buffer.
+#![tactic(auto)]
+
 ghost use Rattle.std.specs.Prelude.{◌≡◌, ◌∷◌, ◌+◌, ◌-◌, ◌≤◌, ◌<◌, ltb, length};
 ghost use Rattle.rules.specs.Table.{rule_at};
 ghost use Rattle.rules.specs.TableTest.{nodes_in, record_count};
@@ -11,7 +13,7 @@ ghost use Rattle.printer_node.specs.Putting.{Putting};
 use table::Kind;
 
 // An operator before its part: ! or F or G, with a window or without.
-#[derive(Drop)]
+#[derive(Clone, Copy)]
 pub struct Prefix {
     pub letter: u8,
     pub windowed: bool,
@@ -21,7 +23,7 @@ pub struct Prefix {
 }
 
 // An operator between two parts, and how tight it binds: 0 for >, 1 for |, 2 for &, 3 for U.
-#[derive(Drop)]
+#[derive(Clone, Copy)]
 pub struct Pair {
     pub left: usize,
     pub right: usize,
@@ -30,7 +32,7 @@ pub struct Pair {
 }
 
 // What a node's text is made of.
-#[derive(Drop)]
+#[derive(Clone, Copy)]
 pub enum Shape {
     Leaf(usize),
     Prefixed(Prefix),

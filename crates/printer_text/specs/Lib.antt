@@ -1,9 +1,4 @@
 pub mod Printed
 pub mod Refused
 pub mod Shown
-pub mod Compared
-pub mod Proved
 pub mod Outcome
-pub mod Exact
-pub mod Back
-pub mod Example

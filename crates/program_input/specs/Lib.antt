@@ -1,4 +1,3 @@
 pub mod Lines
 pub mod Scanning
 pub mod Feeding
-pub mod Exact

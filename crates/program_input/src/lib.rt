@@ -1,11 +1,13 @@
 // The input of programs rowlist and mpspage, scanned in chunks of any size.
+#![tactic(auto)]
+
 ghost use Rattle.std.specs.Prelude.{◌≡◌, ◌+◌, ◌-◌, ◌*◌, ◌≤◌, length, take};
 ghost use Rattle.program_input.specs.Scanning.{state, kind_of, picked, advanced, grown as grown_by, slots_after, atoms_after};
 ghost use Rattle.program_input.specs.Scanning.{kept, keeps, rule_after, steps, shaped, settled};
 ghost use Rattle.program_input.specs.Feeding.{Stepped, Kept, fed_text};
 
 // How far the input is read: T, the space, M, the line feed, line 2, past line 2; or line 1 is of another shape.
-#[derive(Drop)]
+#[derive(Clone, Copy)]
 pub enum Stage {
     Start,
     Slots,
@@ -18,7 +20,7 @@ pub enum Stage {
 }
 
 // A scan: T and M, up to 1,000, and how many bytes of line 2 are kept in the text that is lent.
-#[derive(Drop)]
+#[derive(Clone, Copy)]
 pub struct Scan {
     pub stage: Stage,
     pub slots: usize,
@@ -26,7 +28,7 @@ pub struct Scan {
     pub kept: usize,
 }
 
-#[derive(Drop)]
+#[derive(Clone, Copy)]
 enum Kind {
     Digit,
     Space,

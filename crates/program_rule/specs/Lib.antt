@@ -6,4 +6,3 @@ pub mod Cut
 pub mod Whole
 pub mod Buffer
 pub mod Outcomes
-pub mod Refusing

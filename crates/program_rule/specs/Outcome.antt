@@ -6,7 +6,7 @@ use Rattle.rules.specs.Demands.Written.{wrote}
 use Rattle.rules.specs.Outcome.{require, between, read_outcome}
 use Rattle.program_input.specs.Lines.{line, after_line, FirstLine}
 use Rattle.program_input.specs.Scanning.{begin, steps, settled}
-use Rattle.program_input.specs.Exact.{first_line?}
+use Rattle.program_input.proofs.Exact.{first_line?}
 use Rattle.program_rule.specs.Sizes.{table_room, text_room}
 use Rattle.program_rule.specs.Output.{bad_input}
 

@@ -6,16 +6,16 @@ use Rattle.std.proofs.Math.Bool.{true, false}
 use Rattle.std.proofs.lemmas.Bool.{lt-leb}
 use Rattle.rules.specs.Rule.{size}
 use Rattle.rules.specs.Table.{table_bytes, nodes_of}
-use Rattle.rules.specs.TableTest.{length-table}
-use Rattle.rules.specs.TableRules.{length-nodes_from}
+use Rattle.rules.proofs.TableTest.{length-table}
+use Rattle.rules.proofs.TableRules.{length-nodes_from}
 use Rattle.rules.specs.Refusals.{TextRefused, ReadRefused}
 use Rattle.rules.specs.Demands
 use Rattle.rules.specs.Demands.{Written}
 use Rattle.rules.specs.Demands.Answer.{refused, answered}
 use Rattle.rules.specs.Demands.Written.{wrote}
 use Rattle.rules.specs.Outcome.{returned, buffer, require, between, read_outcome}
-use Rattle.rules.specs.Exactness.Tests.{at_least}
-use Rattle.rules.specs.Exactness.Read.{read_exact}
+use Rattle.rules.proofs.Exactness.Tests.{at_least}
+use Rattle.rules.proofs.Exactness.Read.{read_exact}
 use Rattle.answers.specs.declared.Refusal.{Refusal}
 use Rattle.answers.specs.declared.Refusal.TheVariants.{Slots, Atoms, LongText, Grammar, AtomNumber, Nodes, Table, Run, Figures, Tolerance, Room, Window, Loop}
 use Rattle.answers.specs.declared.Answer.{Answer}

@@ -8,7 +8,7 @@ use Rattle.program_input.specs.Lines.{line, after_line, FirstLine}
 use Rattle.program_input.specs.declared.Stage.TheVariants.{Start}
 use Rattle.program_input.specs.declared.Scan.{Scan}
 use Rattle.program_input.specs.Scanning.{state, begin, steps, shaped}
-use Rattle.program_input.specs.Exact.{scanned, settled-more, line_2_settles, another_settles, shaped-first, first_line?, started}
+use Rattle.program_input.proofs.Exact.{scanned, settled-more, line_2_settles, another_settles, shaped-first, first_line?, started}
 use Rattle.program_rule.specs.Sizes.{text_room}
 use Rattle.program_rule.specs.Output.{bad_input, OutputExact, StopsExact}
 use Rattle.program_rule.specs.Outcome.{output_of, output, enough}

@@ -1,4 +1,6 @@
 // Reading the rule of a program's input, and printing a refusal or `bad input`.
+#![tactic(auto)]
+
 ghost use Rattle.std.specs.Prelude.{◌≡◌, ◌≤◌, length};
 ghost use Rattle.rules.specs.Outcome.{returned, buffer};
 ghost use Rattle.answers.specs.Meaning.{number_of, answer_of};

@@ -4,7 +4,7 @@ use Rattle.std.proofs.Common.{sym, ap, ◌∙◌}
 use Rattle.program_input.specs.declared.Scan.{Scan}
 use Rattle.program_input.specs.declared.Stage.TheVariants.{Start}
 use Rattle.program_input.specs.Scanning.{State, state, begin, steps, settled}
-use Rattle.program_input.specs.Exact.{steps-append, settled-more, started}
+use Rattle.program_input.proofs.Exact.{steps-append, settled-more, started}
 use Rattle.program_stdin.specs.declared.Turn.{Turn}
 use Rattle.program_stdin.specs.declared.Turn.TheVariants.{More, Settled, End}
 

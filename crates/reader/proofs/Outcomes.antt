@@ -7,7 +7,7 @@ use Prim.Native.Nat.{ℕ, ◌+◌, ◌*◌, ◌≤◌, ◌<◌}
 use native.Mathlib.Omega.{arith}
 use lib.Dec.{eqb}
 use lib.ListN.{length, drop, take}
-use lib.Seq.{length-sets, sets-eq, take_at, take-length}
+use lib.Seq.{length-sets, sets-eq, take_at}
 use borrow.Author.Tests.{le-leb, lt-leb, le-ltb, lt-ltb, eq-eqb, ne_eqb}
 use Rattle.rules.specs.Rule.{Rule, size}
 use Rattle.rules.specs.Rule.Binary.{implies}
@@ -35,11 +35,14 @@ use Rattle.reader.proofs.Records.{records-table, below_top, top_below, good-flaw
 
 -- what is promised of an answer, and of the buffer
 abbrev Kept : ℕ → List ℕ → List ℕ → List ℕ → Answer → Type 0
-Kept m s out out₁ r = (answer_of r ≡ returned (read_outcome m s (length out))) × (out₁ ≡ buffer (read_outcome m s (length out)) out)
+Kept m s out out₁ r = record {
+  r_value : answer_of r ≡ returned (read_outcome m s (length out));
+  out_after : out₁ ≡ buffer (read_outcome m s (length out)) out;
+}
 
 module _ (m : ℕ) (s out : List ℕ) where
   refuses : (r : Refusal) → read_outcome m s (length out) ≡ refused (number_of r) → Kept m s out out (Refused r)
-  refuses r e = (sym (ap returned e), sym (ap (λ (x : Demands.Answer Written). buffer x out) e))
+  refuses r e = record { r_value = sym (ap returned e); out_after = sym (ap (λ (x : Demands.Answer Written). buffer x out) e) }
 
   pub few-atoms : m < 1 → Kept m s out out (Refused Atoms)
   unfolding read_outcome
@@ -163,13 +166,15 @@ module _ (m : ℕ) (s out : List ℕ) where
                       pub part-fits : 8 * nodes ≤ length scratch₁
                       part-fits = omega (arith, ap length (first.wrote wide), length-sets scratch (8 * 0) (records 0 first.rule))
 
-                      pub all_read : (out₁ : List ℕ) →
-                          out₁ ≡ take (length (take (8 * nodes) scratch₁)) (take (8 * nodes) scratch₁) ++ drop (length (take (8 * nodes) scratch₁)) out →
-                          Kept m s out out₁ (Value nodes)
-                      all_read out₁ e =
-                          let t = take (8 * nodes) scratch₁ in
-                          let c : nodes ≡ size first.rule = omega (arith, first.count) in (
-                            ap answered c ∙ sym (ap returned outcome_is),
-                            e ∙ ap (λ (l : List ℕ). l ++ drop (length t) out) (take-length t) ∙ ap (λ (l : List ℕ). l ++ drop (length l) out) table_is
-                                ∙ sym (ap (λ (x : Demands.Answer Written). buffer x out) outcome_is),
-                          )
+                      pub all_read : (new : List ℕ) → new ≡ take (8 * nodes) scratch₁ → Kept m s out (new ++ drop (8 * nodes) out) (Value nodes)
+                      all_read new e =
+                          let t = table_bytes (nodes_of first.rule) in
+                          let c : nodes ≡ size first.rule = omega (arith, first.count) in
+                          let n : 8 * nodes ≡ length t = part_length ∙ ap length table_is in
+                          record {
+                            r_value = ap answered c ∙ sym (ap returned outcome_is);
+                            out_after =
+                                ap (λ (l : List ℕ). l ++ drop (8 * nodes) out) (e ∙ table_is)
+                                ∙ ap (λ (k : ℕ). t ++ drop k out) n
+                                ∙ sym (ap (λ (x : Demands.Answer Written). buffer x out) outcome_is);
+                          }

@@ -8,11 +8,12 @@ use native.Mathlib.Decide.{dec_le}
 use native.Mathlib.Omega.{arith}
 use lib.Dec.{leb, ltb, eqb}
 use borrow.Author.Tests.{leb-true, leb-false, le-leb, lt-leb, eqb-true, eqb-false, eq-eqb, ne_eqb, ltb-true, ltb-false, lt-ltb, le-ltb}
-use Rattle.rules.specs.RuleSize.{size-positive}
+use Rattle.rules.proofs.RuleSize.{size-positive}
 use Rattle.rules.specs.Rule.{Rule, size, height, AtomsBelow, WindowsAllowed}
 use Rattle.rules.specs.Rule.Rule.{atom, unary, binary, windowed}
 use Rattle.rules.specs.Table.{unary_kind, binary_kind, window_kind, table_bytes, nodes_of}
-use Rattle.rules.specs.RuleRecords.{records_from, rule-records}
+use Rattle.rules.specs.RuleRecords.{records_from}
+use Rattle.rules.proofs.RuleRecords.{rule-records}
 use Rattle.rules.specs.TableTest.{window_good}
 use Rattle.rules.specs.Outcome.{atoms_below, windows_good}
 use Rattle.reader_levels.specs.Records.{top, window_flaw, flaw, height-less, entry, records}

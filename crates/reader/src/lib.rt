@@ -1,4 +1,6 @@
 // A rule text read into its node table: the checks, and the records copied where nothing refuses.
+#![tactic(auto)]
+
 ghost use Rattle.std.specs.Prelude.{◌≡◌, length};
 ghost use Rattle.rules.specs.Outcome.{returned, buffer, read_outcome};
 ghost use Rattle.answers.specs.Meaning.{answer_of};
@@ -45,7 +47,7 @@ pub fn read(text: &[u8], m: usize, out: &mut [u8]) -> answers::Answer
             if out.len() < k {
                 return answers::Answer::Refused(answers::Refusal::Room);
             }
-            bytes::copy(&scratch[..k], out);
+            out[..k].copy_from_slice(&scratch[..k]);
             answers::Answer::Value(nodes)
         }
     }

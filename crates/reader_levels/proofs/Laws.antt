@@ -10,7 +10,7 @@ use lib.ListN.{length, set}
 use lib.Seq.{sets, length-sets}
 use borrow.Author.Tests.{ne_eqb}
 use Rattle.rules.specs.Quantities.{text_limit}
-use Rattle.rules.specs.RuleSize.{size-positive}
+use Rattle.rules.proofs.RuleSize.{size-positive}
 use Rattle.rules.specs.Rule.{Unary, Binary, Window, Rule, size, height}
 use Rattle.rules.specs.Rule.Unary.{not, eventually, always}
 use Rattle.rules.specs.Rule.Binary.{implies}
@@ -18,11 +18,14 @@ use Rattle.rules.specs.Grammar.{Level, tighter, sign}
 use Rattle.rules.specs.Grammar.Level.{of, single}
 use Rattle.rules.specs.Table.{unary_kind, binary_kind, window_kind}
 use Rattle.rules.specs.Reading.Lexer
-use Rattle.rules.specs.Reading.Lexer.{start, token_at, sign_at, Ends, token_ends, sign-ends}
+use Rattle.rules.specs.Reading.Lexer.{start, token_at, sign_at, Ends}
+use Rattle.rules.proofs.Reading.Lexer.{token_ends, sign-ends}
 use Rattle.reader_lexer.specs.Signs.{sign_from, sign-skipped, start_le}
 use Rattle.rules.specs.Reading.Parser
-use Rattle.rules.specs.Reading.Parser.{Parsed, Spanned, Start, unary_of, start_of, starting, pair, go_on, apply, span_at, span-ends, opens, opens-sign}
-use Rattle.rules.specs.Reading.Parser.{window_of, apply_window, over_span, operate, begin, lead, measure, parsed, parsed-within, single_law, pair_law}
+use Rattle.rules.specs.Reading.Parser.{Parsed, Spanned, Start, unary_of, start_of, starting, pair, go_on, apply, span_at, opens}
+use Rattle.rules.proofs.Reading.Parser.{span-ends, opens-sign}
+use Rattle.rules.specs.Reading.Parser.{window_of, apply_window, over_span, operate, begin, lead, measure, parsed}
+use Rattle.rules.proofs.Reading.Parser.{parsed-within, single_law, pair_law}
 use Rattle.reader_lexer.specs.declared.Token.{Token}
 use Rattle.reader_lexer.specs.declared.Token.TheVariants.{Other, Sign, Atom}
 use Rattle.reader_lexer.specs.Capped.{capped, none_of, sign_of, atom-of}

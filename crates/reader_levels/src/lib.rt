@@ -1,4 +1,6 @@
 // A rule's phrase and its records: five levels of the grammar that call each other in a cycle.
+#![tactic(auto)]
+
 ghost use Rattle.std.specs.Prelude.{◌≡◌, ◌+◌, ◌*◌, ◌≤◌, ◌<◌, length};
 ghost use Rattle.rules.specs.Quantities.{text_limit};
 ghost use Rattle.rules.specs.Reading.Parser.{parsed, unary_of};
@@ -9,7 +11,7 @@ ghost use Rattle.reader_levels.specs.declared.Step.TheVariants.{Part};
 
 // No phrase, or one whose next token begins at `next`: `nodes` nodes are written so far, `top` is the phrase's highest atom
 // number, `flaw` is 1 where one of its windows is not allowed, and else 0, and `height` is its height.
-#[derive(Drop)]
+#[derive(Clone, Copy)]
 pub enum Step {
     Fail,
     Part {
@@ -71,7 +73,7 @@ fn outside(from: usize, to: usize) -> usize
 }
 
 // What stands behind the mark of a node's record.
-#[derive(Drop)]
+#[derive(Clone, Copy)]
 struct Entry {
     kind: u8,
     left: usize,

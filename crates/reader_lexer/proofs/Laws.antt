@@ -8,8 +8,9 @@ use lib.ListN.{length, get_or, drop}
 use lib.Dec.{ltb, eqb}
 use borrow.Author.Tests.{lt-ltb, le-ltb, eq-eqb, ne_eqb}
 use Rattle.rules.specs.Reading.Lexer
-use Rattle.rules.specs.Reading.Lexer.{start, digits, value, is_digit, is_numeral, Numeric, atom_at, token_at, number_at, sign_at, past_sign, token_none}
-use Rattle.rules.specs.Reading.Lexer.{token_sign, token_letter, numeral-is, numeral-empty, numeral-zero}
+use Rattle.rules.specs.Reading.Lexer.{start, digits, value, is_digit, is_numeral, Numeric, atom_at, token_at, number_at, sign_at, past_sign}
+use Rattle.rules.proofs.Reading.Lexer.{token_none}
+use Rattle.rules.proofs.Reading.Lexer.{token_sign, token_letter, numeral-is, numeral-empty, numeral-zero}
 use Rattle.reader_lexer.specs.declared.Token.{Token}
 use Rattle.reader_lexer.specs.declared.Token.TheVariants.{Other, Sign, Atom}
 use Rattle.reader_lexer.specs.Capped.{capped, none_of, sign_of, atom-of}

@@ -1,4 +1,6 @@
 // The tokens of a rule text, and its windows.
+#![tactic(auto)]
+
 ghost use Rattle.std.specs.Prelude.{◌≡◌, ◌+◌, ◌*◌, ◌-◌, min, ◌≤◌, length, drop};
 ghost use Rattle.rules.specs.Reading.Lexer.{start, digits as digit_count, value, atom_at, token_at, number_at, sign_at};
 ghost use Rattle.rules.specs.Reading.Parser.{span_at};
@@ -7,7 +9,7 @@ ghost use Rattle.reader_lexer.specs.Signs.{sign_from};
 ghost use Rattle.reader_lexer.specs.Spans.{value_of, next_of, cut};
 
 // A sign has its byte, an atom its number, and each the position past it. `Other` stands where no token is.
-#[derive(Drop)]
+#[derive(Clone, Copy)]
 pub enum Token {
     Other,
     Sign { byte: u8, next: usize },
@@ -15,21 +17,21 @@ pub enum Token {
 }
 
 // A window has its two numbers and the position past it. `None` stands where no window is.
-#[derive(Drop)]
+#[derive(Clone, Copy)]
 pub enum Span {
     None,
     Window { from: usize, to: usize, next: usize },
 }
 
 // The number that digits stand for, and the position past them.
-#[derive(Drop)]
+#[derive(Clone, Copy)]
 struct Number {
     value: usize,
     end: usize,
 }
 
 // A number of a window, and the position past the sign behind it, or 0.
-#[derive(Drop)]
+#[derive(Clone, Copy)]
 pub struct Bound {
     pub value: usize,
     pub next: usize,

@@ -11,8 +11,8 @@ use Rattle.rules.specs.Rule.Window.{within, throughout}
 use Rattle.rules.specs.Quantities.{WindowAllowed}
 use Rattle.rules.specs.Table.{Node, NodeGood}
 use Rattle.rules.specs.Rows.{Row, same_rows, not_rows, and_rows, or_rows, implies_rows, until_rows, window_rows, window_slots, looping, rows_at, loop_rows_at}
-use Rattle.rules.specs.RowCount.{window-count}
-use Rattle.rules.specs.WindowParts.{window-variables}
+use Rattle.rules.proofs.RowCount.{window-count}
+use Rattle.rules.proofs.WindowParts.{window-variables}
 use Rattle.table.specs.Nodes.{node_by}
 use Rattle.table.specs.Looping.{loops_by}
 use Rattle.table.specs.declared.Kind.{Kind}

@@ -9,7 +9,7 @@ use Rattle.row.specs.declared.Terms.TheVariants.{Single, Pair, Triple}
 use Rattle.row.specs.declared.Row.{Row}
 
 abbrev pub relation_of : Relation → Rules.Relation
-relation_of AtLeast = Rules.Relation.at_least_lem
+relation_of AtLeast = Rules.Relation.at_least
 relation_of Equal = Rules.Relation.equal
 
 abbrev pub term_of : Term → Rules.Term

@@ -9,7 +9,7 @@ use Rattle.lists.specs.Place.{place_end}
 use Rattle.rules.specs.Table.{Node, node_at}
 use Rattle.rules.specs.Rows as Rows
 use Rattle.rules.specs.Rows.{Row, eq, plus, slack, looping, rows_at, loop_rows_at, slots_rows, slack_rows, goal_row}
-use Rattle.rules.specs.RowParts.{slots-parts, nodes-parts}
+use Rattle.rules.proofs.RowParts.{slots-parts, nodes-parts}
 use Rattle.table.specs.Nodes.{node_of}
 use Rattle.table.specs.Looping.{loops_by}
 use Rattle.table.specs.declared.Kind.{Kind}

@@ -1,4 +1,6 @@
 // Rows as values, and the places of variables.
+#![tactic(auto)]
+
 ghost use Rattle.std.specs.Prelude.{◌≡◌, ◌&&◌, cond, [], ◌∷◌, ◌+◌, ◌-◌, ◌*◌, ◌≤◌, ◌<◌, ltb, pos, negsuc, neg_ℤ};
 ghost use Rattle.rules.specs.Rows as Definitions;
 ghost use Rattle.rules.specs.Rows.{ge, eq, plus, minus};
@@ -10,13 +12,13 @@ ghost use Rattle.row.specs.Meaning.{term_of, row_of};
 
 use table::{Kind, Node};
 
-#[derive(Drop)]
+#[derive(Clone, Copy)]
 pub enum Relation {
     AtLeast,
     Equal,
 }
 
-#[derive(Drop)]
+#[derive(Clone, Copy)]
 pub struct Term {
     pub coefficient: i8,
     pub variable: u16,
@@ -42,14 +44,14 @@ impl Term {
     }
 }
 
-#[derive(Drop)]
+#[derive(Clone, Copy)]
 pub enum Terms {
     Single(Term),
     Pair(Term, Term),
     Triple(Term, Term, Term),
 }
 
-#[derive(Drop)]
+#[derive(Clone, Copy)]
 pub struct Row {
     pub relation: Relation,
     pub right: i8,
@@ -59,7 +61,7 @@ pub struct Row {
 // A block of slacks, one for each slot: a node's own, or its V's where the plan loops to a slot L below T. `own` is its
 // variable at the first slot, `left` and `right` are those of the node's parts, and `from`, `to` its window. Where the
 // block `loops`, something follows its last slot: `next` is the variable.
-#[derive(Drop)]
+#[derive(Clone, Copy)]
 pub struct Block {
     pub kind: Kind,
     pub own: u16,

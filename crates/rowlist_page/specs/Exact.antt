@@ -5,18 +5,19 @@ use Rattle.std.proofs.Common.{ap, ◌∙◌}
 use Rattle.rules.specs.Quantities.{SlotsAllowed, AtomsAllowed}
 use Rattle.rules.specs.Rule.{size}
 use Rattle.rules.specs.Table.{Node, Good, table_bytes, nodes_of}
-use Rattle.rules.specs.TableTest.{good-nodes}
+use Rattle.rules.proofs.TableTest.{good-nodes}
 use Rattle.rules.specs.Rows.{Row, rows_of, rows_bytes}
-use Rattle.rules.specs.RowRecords.{rows_back, rows_recordable}
+use Rattle.rules.proofs.RowRecords.{rows_back, rows_recordable}
 use Rattle.rules.specs.Demands.Answer.{answered}
 use Rattle.rules.specs.Demands.Written.{wrote}
 use Rattle.rules.specs.Outcome.{require, rows_outcome}
 use Rattle.rowlist_text.specs.Sizes.{rows_room}
 use Rattle.program_rule.specs.Output.{OutputExact, StopsExact}
 use Rattle.program_rule.specs.Outcome.{enough}
-use Rattle.program_rule.specs.Cut.{Cut, printed-cut}
+use Rattle.program_rule.specs.Cut.{Cut}
+use Rattle.program_rule.proofs.Cut.{printed-cut}
 use Rattle.program_rule.specs.Whole.{output_exact, stops_exact}
-use Rattle.program_rule.specs.Refusing.{good-passes, rule_exact}
+use Rattle.program_rule.proofs.Refusing.{good-passes, rule_exact}
 use Rattle.rowlist_page.specs.Page.{listing_text, ListExact, rows_then, list_work, listed, listing, page}
 
 -- ---- "Of the refusals of reader and row writer, the lowest is printed", and else the rows of the rule

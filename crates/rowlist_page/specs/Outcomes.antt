@@ -4,15 +4,16 @@ use Rattle.std.proofs.Common.{sym, ap, ap₂, ◌∙◌, append_assoc, mul-le-mu
 use Rattle.std.proofs.Math.Path.{subst⁻¹}
 use Rattle.lists.specs.Every.{Every}
 use Rattle.rules.specs.Rows.{Row, row_bytes, rows_bytes, rows_of, row_in, rows_in}
-use Rattle.rules.specs.RowRecords.{Recordable, row_length, length-row, row_back, rows_back, rows_recordable}
+use Rattle.rules.specs.RowRecords.{Recordable, row_length}
+use Rattle.rules.proofs.RowRecords.{length-row, row_back, rows_back, rows_recordable}
 use Rattle.rules.specs.Refusals.{TableRefused, RowsRefused}
 use Rattle.rules.specs.Demands
 use Rattle.rules.specs.Demands.{Written}
 use Rattle.rules.specs.Demands.Answer.{answered}
 use Rattle.rules.specs.Demands.Written.{wrote}
 use Rattle.rules.specs.Outcome.{returned, buffer, rows_outcome}
-use Rattle.rules.specs.Exactness.Tests.{at_least}
-use Rattle.rules.specs.Exactness.Rows.{rows_exact}
+use Rattle.rules.proofs.Exactness.Tests.{at_least}
+use Rattle.rules.proofs.Exactness.Rows.{rows_exact}
 use Rattle.answers.specs.declared.Refusal.{Refusal}
 use Rattle.answers.specs.declared.Answer.{Answer}
 use Rattle.answers.specs.declared.Answer.TheVariants.{Value, Refused}

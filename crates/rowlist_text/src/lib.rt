@@ -1,4 +1,6 @@
 // The printed text of row records, written into a page.
+#![tactic(auto)]
+
 ghost use Rattle.std.specs.Prelude.{◌≡◌, ◌∷◌, ◌+◌, ◌*◌, ◌≤◌, ◌<◌, length, get_or, drop};
 ghost use Rattle.rules.specs.Rows.{signed_in, relation_in, terms_in, row_in, rows_in};
 ghost use Rattle.text.specs.Decimal.{decimal, signed_text};

@@ -6,9 +6,10 @@ use mathlib.Core.List.{List, [], ◌∷◌, ◌++◌, append-nil}
 use Rattle.std.proofs.Math.ListN.{length, length-append}
 use Rattle.lists.specs.Flat.{flat, flat-zero, flat-more}
 use Rattle.rules.specs.Table.{Node, NodeGood, node_at}
-use Rattle.rules.specs.TableTest.{nodes_in, record_count, length-nodes_in}
+use Rattle.rules.specs.TableTest.{nodes_in, record_count}
+use Rattle.rules.proofs.TableTest.{length-nodes_in}
 use Rattle.rules.specs.Rows.{Row, row_bytes, rows_bytes, slack_rows, goal_row, rows_of}
-use Rattle.rules.specs.RowParts.{rows_bytes-append, rows_bytes-flat, nodes-parts}
+use Rattle.rules.proofs.RowParts.{rows_bytes-append, rows_bytes-flat, nodes-parts}
 use Rattle.table.specs.Checks.{Ready}
 use Rattle.table.specs.Nodes.{node_of, NodeRead}
 use Rattle.table.specs.Looping.{loops_by, looping_to}

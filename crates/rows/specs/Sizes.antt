@@ -10,8 +10,8 @@ use Rattle.lists.specs.Flat.{flat}
 use Rattle.rules.specs.Rule.Window.{within, throughout}
 use Rattle.rules.specs.Table.{Node, node_at}
 use Rattle.rules.specs.Rows.{rows_bytes, window_slots}
-use Rattle.rules.specs.RowParts.{rows_bytes-append, rows_bytes-flat}
-use Rattle.rules.specs.Windows.{window_bytes}
+use Rattle.rules.proofs.RowParts.{rows_bytes-append, rows_bytes-flat}
+use Rattle.rules.proofs.Windows.{window_bytes}
 use Rattle.table.specs.Nodes.{node_of}
 use Rattle.table.specs.Looping.{loops_by}
 use Rattle.table.specs.declared.Kind.{Kind}

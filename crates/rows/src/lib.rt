@@ -1,4 +1,6 @@
 // The row writer.
+#![tactic(auto)]
+
 ghost use Rattle.std.specs.Prelude.{◌≡◌, ◌+◌, ◌*◌, ◌≤◌, ◌<◌, length};
 ghost use Rattle.lists.specs.Splice.{splice};
 ghost use Rattle.rules.specs.Quantities.{node_limit};
@@ -20,7 +22,7 @@ use answers::{Answer, Refusal};
 use table::{Checked, Kind};
 
 // A plan of t slots that loop to slot l, with m atoms.
-#[derive(Drop)]
+#[derive(Clone, Copy)]
 struct Plan {
     t: usize,
     m: usize,
@@ -63,7 +65,7 @@ fn write_nodes(table: &[u8], n: usize, t: usize, m: usize, l: usize, out: &mut [
 }
 
 // How many rows there are, and how many bytes.
-#[derive(Drop)]
+#[derive(Clone, Copy)]
 struct Size {
     rows: usize,
     bytes: usize,

@@ -5,7 +5,7 @@ use Rattle.lists.specs.Splice.{splice, splice_nil}
 use Rattle.lists.specs.Filling.{splice_then, splice_as}
 use Rattle.rules.specs.Rows as Rules
 use Rattle.rules.specs.Rows.{row_bytes, rows_bytes}
-use Rattle.rules.specs.RowParts.{rows_bytes-append}
+use Rattle.rules.proofs.RowParts.{rows_bytes-append}
 use Rattle.row.specs.declared.Row.{Row}
 use Rattle.row.specs.Meaning.{row_of}
 use Rattle.rows_record.specs.Records.{record_of, record_is}

@@ -9,14 +9,15 @@ use Rattle.lists.specs.Flat.{flat, flat-more, flat-same}
 use Rattle.lists.specs.Tabulate.{map-tabulate}
 use Rattle.rules.specs.Rule.Window.{within, throughout}
 use Rattle.rules.specs.Rows.{Row, plus, minus, ge, signed_byte, term_bytes, terms_bytes, row_bytes, rows_bytes}
-use Rattle.rules.specs.RowParts.{rows_bytes-append}
-use Rattle.rules.specs.WindowParts.{rows-each, terms-each, terms_bytes-append}
+use Rattle.rules.proofs.RowParts.{rows_bytes-append}
+use Rattle.rules.proofs.WindowParts.{rows-each, terms-each, terms_bytes-append}
 use Rattle.row.specs.Kinds.{over_rows}
 use Rattle.row.specs.declared.Relation.TheVariants.{AtLeast}
 use Rattle.rows_record.specs.Records.{head_of}
 use Rattle.rows_family.specs.Put.{four-total}
 use Rattle.window.specs.declared.Looks.{Looks}
-use Rattle.window.specs.Slots.{Few, variable_at, variables, length-variables}
+use Rattle.window.specs.Slots.{Few, variable_at, variables}
+use Rattle.window.proofs.Slots.{length-variables}
 
 pub head-length : (count : ℕ) (right : ℤ) → length (head_of AtLeast count right) ≡ 5
 unfolding head_of

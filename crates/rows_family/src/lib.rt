@@ -1,4 +1,6 @@
 // The rows of each family, a line of the table of rows, at a slot: they are put from the place `at` on, and the result is the next place.
+#![tactic(auto)]
+
 ghost use Rattle.std.specs.Prelude.{◌+◌, ◌≤◌, length};
 ghost use Rattle.rules.specs.Rule.Window.{within, throughout};
 ghost use Rattle.row.specs.Placed.{first_limit, variable_limit};

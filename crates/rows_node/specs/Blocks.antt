@@ -6,7 +6,7 @@ use mathlib.Core.List.{List, [], ◌++◌}
 use Rattle.lists.specs.Flat.{flat, flat-same, flat-more}
 use Rattle.rules.specs.Rule.Window.{within, throughout}
 use Rattle.rules.specs.Rows.{Row, same_rows, not_rows, and_rows, or_rows, implies_rows, until_rows, rows_bytes}
-use Rattle.rules.specs.RowParts.{rows_bytes-flat}
+use Rattle.rules.proofs.RowParts.{rows_bytes-flat}
 use Rattle.table.specs.Looping.{loops_by}
 use Rattle.table.specs.declared.Kind.{Kind}
 use Rattle.table.specs.declared.Kind.TheVariants.{Atom, Not, And, Or, Implies, Eventually, Always, Until, Within, Throughout}

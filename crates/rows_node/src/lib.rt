@@ -1,4 +1,6 @@
 // The rows of a block of slacks at all slots: a loop for each family of rows.
+#![tactic(auto)]
+
 ghost use Rattle.std.specs.Prelude.{◌≡◌, false, ◌+◌, ◌≤◌, length};
 ghost use Rattle.rules.specs.Rows.{rows_bytes, same_rows, not_rows, and_rows, or_rows, implies_rows};
 ghost use Rattle.window.specs.Slots.{window_by, variables, Few};
@@ -104,7 +106,7 @@ fn write_until_next(out: &mut [u8], at: usize, t: u16, node: u16, p: u16, q: u16
 }
 
 // A window from a to b, over t slots that loop to slot l.
-#[derive(Drop)]
+#[derive(Clone, Copy)]
 struct Reach {
     t: u16,
     l: u16,

@@ -1,4 +1,6 @@
 // The records of rows.
+#![tactic(auto)]
+
 ghost use Rattle.std.specs.Prelude.{◌≡◌, [], ◌∷◌, ◌++◌, ◌+◌, ◌*◌, ◌≤◌, ◌<◌, length};
 ghost use Rattle.lists.specs.Splice.{splice};
 ghost use Rattle.rules.specs.Rows.{relation_byte, signed_byte, term_bytes};
@@ -12,7 +14,7 @@ use row::{Relation, Row, Term, Terms};
 const MARK: [u8; 2] = *b"RW";
 
 // A term's sign byte and variable.
-#[derive(Drop)]
+#[derive(Clone, Copy)]
 struct Packed {
     sign: u8,
     variable: u16,

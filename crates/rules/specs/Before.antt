@@ -13,7 +13,7 @@ use Rattle.rules.specs.ErrorFigure.{others}
 use Rattle.rules.specs.Judge.{VerdictWith, JudgedBy, RootFigure}
 use Rattle.rules.specs.Judge.VerdictWith.{outside, not-binary, broken, passed}
 use Rattle.rules.specs.Judge as Now
-use Rattle.rules.specs.Refusals.{RunGood}
+use Rattle.rules.specs.Refusals.{RunGood, place_in, WinsIn}
 use Rattle.rules.specs.Demands.{Answer, Written, ExactIn}
 use Rattle.rules.specs.Demands.Answer.{refused, answered}
 use Rattle.rules.specs.Demands.Written.{wrote}
@@ -93,6 +93,12 @@ JudgedBefore T M e ns xs =
 
 abbrev pub order_before : List ℕ
 order_before = 1 ∷ 2 ∷ 3 ∷ 4 ∷ 5 ∷ 12 ∷ 6 ∷ 7 ∷ 8 ∷ 9 ∷ 10 ∷ 11 ∷ []
+
+abbrev pub place_before : ℕ → ℕ
+place_before k = place_in order_before k
+
+abbrev pub WinsBefore : (Refused : ℕ → Type 0) (k : ℕ) → Type 0
+WinsBefore Refused k = WinsIn order_before Refused k
 
 abbrev pub ExactBefore : {A : Type 0} (Refused : ℕ → Type 0) (Is : A → Type 0) (answer : Answer A) → Type 0
 ExactBefore Refused Is answer = ExactIn order_before Refused Is answer

@@ -1,5 +1,5 @@
 -- What each call answers and writes, computed: document 01's tests in order, and then the value and the bytes. The calls' contracts cite these.
-use Rattle.std.specs.Prelude.{Bool, true, false, ◌&&◌, List, ◌++◌, ℕ, ◌+◌, ◌*◌, ◌^◌, leb, ltb, eqb, length, get_or, drop, ℤ, pos, negsuc}
+use Rattle.std.specs.Prelude.{Bool, true, false, ◌&&◌, List, ◌++◌, ℕ, ◌*◌, ◌^◌, leb, ltb, eqb, length, get_or, drop, ℤ, pos, negsuc}
 use Rattle.std.proofs.Math.Option.{Option, none, some}
 use Rattle.lists.specs.All.{all}
 use Rattle.lists.specs.Tabulate.{tabulate}

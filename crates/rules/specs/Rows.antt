@@ -11,7 +11,7 @@ use Rattle.rules.specs.Table.Node.{atom, unary, binary, windowed}
 use Rattle.rules.specs.Truth.{slot_of}
 
 pub data Relation : Type 0 where
-  at_least_lem equal : Relation
+  at_least equal : Relation
 
 pub record Term : Type 0 where
   pub coefficient : ℤ
@@ -74,7 +74,7 @@ minus v = record { coefficient = negsuc 0; variable = v }
 
 -- a row that ends in ≥ b, and one that ends in = b
 abbrev pub ge : List Term → ℤ → Row
-ge ts b = record { relation = at_least_lem; terms = ts; right = b }
+ge ts b = record { relation = at_least; terms = ts; right = b }
 
 abbrev pub eq : List Term → ℤ → Row
 eq ts b = record { relation = equal; terms = ts; right = b }
@@ -189,7 +189,7 @@ rows_of T M L ns = slack_rows T M L ns ++ (goal_row T M ns ∷ [])
 -- so a row is 5 bytes and 3 per term."
 
 abbrev pub relation_byte : Relation → ℕ
-relation_byte at_least_lem = 1
+relation_byte at_least = 1
 relation_byte equal = 2
 
 -- "Signed bytes are two's complement, so −1 is hexadecimal FF."
@@ -215,7 +215,7 @@ rows_bytes (r ∷ rs) = row_bytes r ++ rows_bytes rs
 -- ---- what a record says, read back
 
 abbrev pub relation_in : ℕ → Relation
-relation_in b = cond (eqb b 1) at_least_lem equal
+relation_in b = cond (eqb b 1) at_least equal
 
 abbrev pub signed_in : ℕ → ℤ
 signed_in b = cond (ltb b 128) (pos b) (negsuc (255 - b))
@@ -242,7 +242,7 @@ sum_of xs [] = pos 0
 sum_of xs (t ∷ ts) = t.coefficient *ℤ value_at xs t.variable +ℤ sum_of xs ts
 
 abbrev pub MeetsBy : Relation → (right sum : ℤ) → Type 0
-MeetsBy at_least_lem b s = b ≤ℤ s
+MeetsBy at_least b s = b ≤ℤ s
 MeetsBy equal b s = s ≡ b
 
 -- "A ≥ row is met when its sum over the numerators is at least the right side times D, an = row when the two are equal."

@@ -1,4 +1,6 @@
 // Conditions, choices between numbers, and numbers made wider. As functions they need no proof where they are used.
+#![tactic(auto)]
+
 ghost use Rattle.std.specs.Prelude.{◌≡◌, ◌&&◌, ◌||◌, cond, ◌<◌, min, max};
 
 // At least one of two tests passes.

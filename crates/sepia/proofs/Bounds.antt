@@ -13,7 +13,7 @@ use Rattle.rules.specs.Rule.{size}
 use Rattle.rules.specs.Table.{Node, Good}
 use Rattle.rules.specs.Truth.{TruthBit}
 use Rattle.rules.specs.Rows.{looping, variable_count, rows_of}
-use Rattle.rules.specs.RowCount.{rows-count}
+use Rattle.rules.proofs.RowCount.{rows-count}
 use Rattle.rules.specs.Judge.{None, Verdict, Judged}
 use Rattle.rules.specs.Judge.JudgedBy.{is-outside, is-not-binary, is-broken, is-passed}
 use Rattle.rules.specs.Refusals.{TextRefused, ReadRefused, TableRefused, RowsRefused, JudgeRefused}
@@ -21,19 +21,19 @@ use Rattle.rules.specs.Demands.{Answer, Written, ExactIn}
 use Rattle.rules.specs.Demands.Answer.{refused, answered}
 use Rattle.rules.specs.Demands.Written.{wrote}
 use Rattle.rules.specs.Outcome.{returned, read_outcome, evaluate_outcome, rows_outcome, judge_outcome}
-use Rattle.rules.specs.Exactness.Tests.{at_least}
-use Rattle.rules.specs.Exactness.Read.{read_exact}
-use Rattle.rules.specs.Exactness.Evaluate.{evaluate_exact}
-use Rattle.rules.specs.Exactness.Rows.{rows_exact}
-use Rattle.rules.specs.Exactness.Judge.{judge_exact}
-use Rattle.mps.specs.Proved.{looping_le, if-le}
+use Rattle.rules.proofs.Exactness.Tests.{at_least}
+use Rattle.rules.proofs.Exactness.Read.{read_exact}
+use Rattle.rules.proofs.Exactness.Evaluate.{evaluate_exact}
+use Rattle.rules.proofs.Exactness.Rows.{rows_exact}
+use Rattle.rules.proofs.Exactness.Judge.{judge_exact}
+use Rattle.mps.proofs.Proved.{looping_le, if-le}
 use Rattle.printer_text.specs.Refused.{PrintRefused}
 use Rattle.printer_text.specs.Outcome.{print_outcome}
-use Rattle.printer_text.specs.Exact.{print_exact}
+use Rattle.printer_text.proofs.Exact.{print_exact}
 use Rattle.mps_page.specs.Answers.{Short}
 use Rattle.sepia_answers.specs.Boundary.{too_large, Fits, verdict_value, VerdictFits}
 
--- an outcome's returned fits, where every returned that it may have does
+-- an outcome's result fits, where every result that it may have does
 fits : {order : List ℕ} (Refused : ℕ → Type 0) (Is : Written → Type 0) (a : Answer Written) → ExactIn order Refused Is a →
     ((n : ℕ) (bytes : List ℕ) → None Refused → Is (wrote n bytes) → n < too_large) → Fits (returned a)
 fits Refused Is a exact small = go a refl

@@ -8,9 +8,9 @@ use Rattle.rules.specs.Judge.VerdictWith.{outside, not-binary, broken, passed}
 use Rattle.sepia_answers.specs.declared.SepiaAnswer.{SepiaAnswer}
 use Rattle.sepia_answers.specs.declared.SepiaVerdict.{SepiaVerdict}
 
--- rises with each change of the boundary: 1 as first offered, 2 with request N1, 3 with N2, 4 with N4, 5 with N6, 6 with N5, 7 with N7, 8 with N8, 9 with N9
+-- rises with each change of the boundary: 1 as first offered, 2 with request N1, 3 with N2, 4 with N4, 5 with N6, 6 with N5, 7 with N7, 8 with N8
 abbrev pub version : ℕ
-version = 9
+version = 8
 
 -- refusal 0: value is the result
 abbrev pub in_c : Answer ℕ → SepiaAnswer

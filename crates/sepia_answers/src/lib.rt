@@ -1,4 +1,6 @@
 // Answers as the structs and numbers that C sees.
+#![tactic(auto)]
+
 ghost use Rattle.std.specs.Prelude.{◌≡◌};
 ghost use Rattle.answers.specs.Meaning.{answer_of};
 ghost use Rattle.evaluator.specs.Meaning.{first_slot_of};
@@ -12,7 +14,7 @@ use judge::{Ruling, Verdict};
 
 // A refusal's number, or 0 and the result.
 #[repr(C)]
-#[derive(Drop)]
+#[derive(Clone, Copy)]
 pub struct SepiaAnswer {
     pub refusal: u32,
     pub value: u32,
@@ -47,7 +49,7 @@ pub fn slot_number(first: FirstSlot) -> u32
 
 // A refusal's number; or 0, the verdict's number, its value, its error figure and its shortfall.
 #[repr(C)]
-#[derive(Drop)]
+#[derive(Clone, Copy)]
 pub struct SepiaVerdict {
     pub refusal: u32,
     pub verdict: u32,

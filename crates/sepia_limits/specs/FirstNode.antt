@@ -7,7 +7,7 @@ use Rattle.lists.specs.Sums.{sum_le, sum-add, sum-even, pick, pick-once}
 use Rattle.rules.specs.Table.{Node, NodeGood, node_at}
 use Rattle.rules.specs.Table.Node.{atom, unary, binary, windowed}
 use Rattle.rules.specs.Rows.{loops, looping}
-use Rattle.mps.specs.Proved.{looping_le}
+use Rattle.mps.proofs.Proved.{looping_le}
 use Rattle.mps_length.specs.Idle.{is_atom, has_atom, has-found, idle_atoms}
 
 module _ (M : ℕ) where

@@ -6,9 +6,10 @@ use Rattle.lists.specs.All.{all}
 use Rattle.rules.specs.Demands.{Answer}
 use Rattle.rules.specs.Demands.Answer.{refused}
 use Rattle.rules.specs.Outcome.{between, require, table_checked}
-use Rattle.rules.specs.Exactness.Tests.{between-true}
+use Rattle.rules.proofs.Exactness.Tests.{between-true}
 use Rattle.rules.specs.Table.{NodeGood, node_at}
-use Rattle.rules.specs.TableTest.{good, record_good, record_count, nodes_in, good-sound, length-nodes_in}
+use Rattle.rules.specs.TableTest.{good, record_good, record_count, nodes_in}
+use Rattle.rules.proofs.TableTest.{good-sound, length-nodes_in}
 use Rattle.answers.specs.Meaning.{number_of}
 use Rattle.answers.specs.declared.Refusal.{Refusal}
 use Rattle.answers.specs.declared.Refusal.TheVariants.{Slots, Atoms, Loop, Table}

@@ -3,7 +3,8 @@ use Rattle.std.specs.Prelude.{◌≡◌, refl, true, List, ℕ, ◌+◌, ◌≤�
 use Rattle.std.proofs.Common.{◌∙◌, arith}
 use Rattle.rules.specs.Table.{Node, NodeGood, kind_of, left_of, right_of}
 use Rattle.rules.specs.Table.Node.{atom, unary, binary, windowed}
-use Rattle.rules.specs.TableTest.{byte_at, height_now, node_from, node_test, node_fields}
+use Rattle.rules.specs.TableTest.{byte_at, height_now, node_from, node_test}
+use Rattle.rules.proofs.TableTest.{node_fields}
 
 -- node 0 can only be an atom: by the time that a later node is looked at, its height is known to be 0
 abbrev pub FirstLow : List ℕ → (n : ℕ) → Type 0

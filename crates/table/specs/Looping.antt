@@ -5,7 +5,7 @@ use Rattle.rules.specs.Table as Table
 use Rattle.rules.specs.Table.{node_at}
 use Rattle.rules.specs.TableTest.{byte_at, nodes_in, record_count}
 use Rattle.rules.specs.Rows.{loops, looping}
-use Rattle.rules.specs.Solution.Looping.{looping-next}
+use Rattle.rules.proofs.Solution.Looping.{looping-next}
 use Rattle.table.specs.declared.Kind.{Kind}
 use Rattle.table.specs.declared.Kind.TheVariants.{Atom, Not, And, Or, Implies, Eventually, Always, Until, Within, Throughout}
 use Rattle.table.specs.declared.KindRead.TheVariants.{Known, Unknown}

@@ -7,7 +7,8 @@ use Rattle.rules.specs.Rule.Window.{within, throughout}
 use Rattle.rules.specs.Table as Table
 use Rattle.rules.specs.Table.Node.{atom, unary, binary, windowed}
 use Rattle.rules.specs.Table.{node_at}
-use Rattle.rules.specs.TableTest.{node_in, byte_at, nodes_in, record_count, node-is}
+use Rattle.rules.specs.TableTest.{node_in, byte_at, nodes_in, record_count}
+use Rattle.rules.proofs.TableTest.{node-is}
 use Rattle.table.specs.declared.Kind.{Kind}
 use Rattle.table.specs.declared.Kind.TheVariants.{Atom, Not, And, Or, Implies, Eventually, Always, Until, Within, Throughout}
 use Rattle.table.specs.declared.KindRead.{KindRead}

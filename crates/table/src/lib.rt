@@ -1,4 +1,6 @@
 // The node table: reading a node, the table test, and the checks that all calls but read share.
+#![tactic(auto)]
+
 ghost use Rattle.std.specs.Prelude.{◌≡◌, ◌&&◌, cond, ◌+◌, ◌*◌, ◌/◌, ◌≤◌, ◌<◌, eqb, ltb, length, get_or};
 ghost use Rattle.rules.specs.Rows as Rows;
 ghost use Rattle.rules.specs.Table.{node_at};
@@ -35,7 +37,7 @@ pub const WITHIN: u8 = 9;
 
 pub const THROUGHOUT: u8 = 10;
 
-#[derive(Drop)]
+#[derive(Clone, Copy)]
 pub enum Kind {
     Atom,
     Not,
@@ -50,14 +52,14 @@ pub enum Kind {
 }
 
 // The kind that a byte stands for, if it is one of the ten.
-#[derive(Drop)]
+#[derive(Clone, Copy)]
 pub enum KindRead {
     Known(Kind),
     Unknown,
 }
 
 // A node as its record has it. Of an atom, left is its number; a child is a node's number; from and to are the window a, b.
-#[derive(Drop)]
+#[derive(Clone, Copy)]
 pub struct Node {
     pub kind: Kind,
     pub left: usize,
@@ -67,7 +69,7 @@ pub struct Node {
 }
 
 // Whether a call goes on, or is refused.
-#[derive(Drop)]
+#[derive(Clone, Copy)]
 pub enum Checked {
     Passed,
     Refused(answers::Refusal),

@@ -1,5 +1,7 @@
 // A case: the name of a call, numbers with a space before each, and after a colon the bytes of a text or a table.
-ghost use Rattle.std.specs.Prelude.{◌≡◌, ◌<◌, ◌≤◌, length};
+#![tactic(auto)]
+
+ghost use Rattle.std.specs.Prelude.{◌≡◌, ◌≢◌, ℕ, ◌<◌, ◌≤◌, length, slice_index};
 ghost use Rattle.millionths.specs.Bounds as Bounds;
 
 // How many numbers a line may have, and how many bytes. What goes beyond is dropped.
@@ -11,10 +13,25 @@ pub const BYTES: usize = 4096;
 const LOWEST: usize = 2147483648;
 
 // Where the next digit goes: to which number, and whether that is below zero.
-#[derive(Drop)]
+#[derive(Clone, Copy)]
 struct Place {
     n: usize,
     minus: bool,
+}
+
+// Where a byte stands first from `from` on, and the length where it does not.
+pub fn place_of(text: &[u8], from: usize, byte: u8) -> usize
+    requires { from ≤ length text.now }
+    ensures bounds { (from ≤ result) × (result ≤ length text.now) }
+    ensures here { result < length text.now → slice_index text.now result ≡ byte }
+    ensures none_before { (k : ℕ) → from ≤ k → k < result → slice_index text.now k ≢ byte }
+{
+    for i in from..text.len() {
+        if text[i] == byte {
+            return i;
+        }
+    }
+    text.len()
 }
 
 // Ten times x, cut to 64 bits.
@@ -67,7 +84,7 @@ fn put_number(list: &mut [usize; NUMBERS], place: Place, byte: u8) -> Place {
 pub fn numbers(line: &[u8]) -> [usize; NUMBERS] {
     let mut list = [0usize; NUMBERS];
     let mut place = Place { n: 0, minus: false };
-    let end = bytes::scan::find(line, 0, line.len(), b':');
+    let end = place_of(line, 0, b':');
     let mut i: usize = 0;
     while i < end {
         place = put_number(&mut list, place, line[i]);
@@ -120,7 +137,7 @@ fn next_at(text: &[u8], i: usize) -> usize
 fn start(line: &[u8]) -> usize
     ensures { result ≤ length line.now }
 {
-    let colon = bytes::scan::find(line, 0, line.len(), b':');
+    let colon = place_of(line, 0, b':');
     if colon < line.len() { colon + 1 } else { colon }
 }
 

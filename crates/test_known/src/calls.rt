@@ -7,6 +7,7 @@ use answers::Answer;
 use judge_sums::RowSum;
 use millionths::Millionths;
 use row::{Term, Terms};
+use std::io;
 use test_cases::NUMBERS;
 use test_show::{FILL, FILL_WORD};
 
@@ -41,14 +42,20 @@ fn is_text(call: u8) -> bool {
 }
 
 // Lends all of `out` but its guard, and prints all of it.
-fn lend(call: u8, list: &[usize; NUMBERS], bytes: &[u8], out: &mut [u8]) {
+fn lend(
+    rt: &impl Print,
+    call: u8,
+    list: &[usize; NUMBERS],
+    bytes: &[u8],
+    out: &mut [u8],
+) -> io::Result<()> {
     if out.len() < GUARD {
-        return;
+        return Ok(());
     }
     let room = out.len() - GUARD;
     let answer = made(call, list, bytes, &mut out[0..room]);
-    test_show::answer(answer);
-    test_show::buffer(out, is_text(call));
+    test_show::answer(rt, answer)?;
+    test_show::buffer(rt, out, is_text(call))
 }
 
 // A buffer's length with its guard, at most all that there is.
@@ -63,14 +70,20 @@ fn guarded(room: usize, most: usize) -> usize
     most
 }
 
-fn lend_part(call: u8, list: &[usize; NUMBERS], bytes: &[u8], space: &mut [u8]) {
+fn lend_part(
+    rt: &impl Print,
+    call: u8,
+    list: &[usize; NUMBERS],
+    bytes: &[u8],
+    space: &mut [u8],
+) -> io::Result<()> {
     let end = guarded(list[1], space.len());
-    lend(call, list, bytes, &mut space[0..end]);
+    lend(rt, call, list, bytes, &mut space[0..end])
 }
 
-fn write(call: u8, list: &[usize; NUMBERS], bytes: &[u8]) {
+fn write(rt: &impl Print, call: u8, list: &[usize; NUMBERS], bytes: &[u8]) -> io::Result<()> {
     let mut space = [FILL; LARGEST];
-    lend_part(call, list, bytes, &mut space);
+    lend_part(rt, call, list, bytes, &mut space)
 }
 
 fn evaluated(list: &[usize; NUMBERS], table: &[u8], out: &mut [u64]) -> Answer {
@@ -80,75 +93,96 @@ fn evaluated(list: &[usize; NUMBERS], table: &[u8], out: &mut [u64]) -> Answer {
 }
 
 // Lends and prints words likewise.
-fn lend_words(list: &[usize; NUMBERS], table: &[u8], out: &mut [u64]) {
+fn lend_words(
+    rt: &impl Print,
+    list: &[usize; NUMBERS],
+    table: &[u8],
+    out: &mut [u64],
+) -> io::Result<()> {
     if out.len() < GUARD {
-        return;
+        return Ok(());
     }
     let room = out.len() - GUARD;
     let answer = evaluated(list, table, &mut out[0..room]);
-    test_show::answer(answer);
-    test_show::word_buffer(out);
+    test_show::answer(rt, answer)?;
+    test_show::word_buffer(rt, out)
 }
 
-fn lend_words_part(list: &[usize; NUMBERS], table: &[u8], space: &mut [u64]) {
+fn lend_words_part(
+    rt: &impl Print,
+    list: &[usize; NUMBERS],
+    table: &[u8],
+    space: &mut [u64],
+) -> io::Result<()> {
     let end = guarded(list[1], space.len());
-    lend_words(list, table, &mut space[0..end]);
+    lend_words(rt, list, table, &mut space[0..end])
 }
 
 // evaluate ROOM T M L NUMBERS:TABLE
-fn evaluate(list: &[usize; NUMBERS], table: &[u8]) {
+fn evaluate(rt: &impl Print, list: &[usize; NUMBERS], table: &[u8]) -> io::Result<()> {
     let mut space = [FILL_WORD; MOST_WORDS];
-    lend_words_part(list, table, &mut space);
+    lend_words_part(rt, list, table, &mut space)
 }
 
 // first WORD
-fn first(list: &[usize; NUMBERS]) {
-    test_show::text(b"slot");
-    test_show::slot(evaluator::first_slot(list[1] as u64));
-    test_show::text(b"\n");
+fn first(rt: &impl Print, list: &[usize; NUMBERS]) -> io::Result<()> {
+    test_show::text(rt, b"slot")?;
+    test_show::slot(rt, evaluator::first_slot(list[1] as u64))?;
+    test_show::text(rt, b"\n")
 }
 
 // judge T M L E FIGURES:TABLE
-fn judge(list: &[usize; NUMBERS], table: &[u8]) {
+fn judge(rt: &impl Print, list: &[usize; NUMBERS], table: &[u8]) -> io::Result<()> {
     let figures = test_cases::figures(list);
     let end = test_cases::end(list, 5);
     let e = test_cases::signed(list[4]);
-    test_show::ruling(judge::judge(table, list[1], list[2], list[3], &figures[5..end], e));
+    test_show::ruling(
+        rt,
+        judge::judge(table, list[1], list[2], list[3], &figures[5..end], e),
+    )
 }
 
-fn judge_in(list: &[usize; NUMBERS], table: &[u8], space: &mut [i32]) {
+fn judge_in(
+    rt: &impl Print,
+    list: &[usize; NUMBERS],
+    table: &[u8],
+    space: &mut [i32],
+) -> io::Result<()> {
     let n = test_cases::counted(list, space);
     let e = test_cases::signed(list[4]);
-    test_show::ruling(judge::judge(table, list[1], list[2], list[3], &space[0..n], e));
+    test_show::ruling(
+        rt,
+        judge::judge(table, list[1], list[2], list[3], &space[0..n], e),
+    )
 }
 
 // counted T M L E and pairs of a count and a figure:TABLE
-fn judge_counted(list: &[usize; NUMBERS], table: &[u8]) {
+fn judge_counted(rt: &impl Print, list: &[usize; NUMBERS], table: &[u8]) -> io::Result<()> {
     let mut space = [0i32; FIGURES];
-    judge_in(list, table, &mut space);
+    judge_in(rt, list, table, &mut space)
 }
 
 // list:INPUT, what rowlist prints
-fn list_rows(input: &[u8]) {
+fn list_rows(rt: &impl Print, input: &[u8]) -> io::Result<()> {
     let mut page = [FILL; rowlist_text::LISTING];
     let n = rowlist_page::page_of(input, &mut page);
-    test_show::number(b"value ", n);
-    test_show::text(b"\n");
-    test_show::buffer(&page, true);
+    test_show::number(rt, b"value ", n)?;
+    test_show::text(rt, b"\n")?;
+    test_show::buffer(rt, &page, true)
 }
 
 // sum X Y and terms of a coefficient and a variable, over the figures X and Y
-fn sum(list: &[usize; NUMBERS]) {
+fn sum(rt: &impl Print, list: &[usize; NUMBERS]) -> io::Result<()> {
     let figures = test_cases::figures(list);
-    show_sum(judge_sums::row_sum(&figures[1..3], terms(list)));
+    show_sum(rt, judge_sums::row_sum(&figures[1..3], terms(list)))
 }
 
-fn show_sum(sum: RowSum)
+fn show_sum(rt: &impl Print, sum: RowSum) -> io::Result<()>
     requires { (nat_abs sum.positive ≤ Bounds.row_sum) × (nat_abs sum.whole ≤ Bounds.row_sum) }
 {
-    test_show::signed(b"positive ", sum.positive);
-    test_show::signed(b" whole ", sum.whole);
-    test_show::text(b"\n");
+    test_show::signed(rt, b"positive ", sum.positive)?;
+    test_show::signed(rt, b" whole ", sum.whole)?;
+    test_show::text(rt, b"\n")
 }
 
 fn terms(list: &[usize; NUMBERS]) -> Terms {
@@ -203,42 +237,43 @@ fn window_sum(is_within: bool, sum: i64, x: Millionths) -> RowSum
 
 // total W X and figures: a window's last row, of F[a,b] where W is 1 and otherwise of G[a,b], over the node's figure X and
 // the part's at the slots of the window
-fn total(list: &[usize; NUMBERS]) {
+fn total(rt: &impl Print, list: &[usize; NUMBERS]) -> io::Result<()> {
     let figures = test_cases::figures(list);
     let end = slots_end(test_cases::end(list, 3));
     let sum = sum_of(&figures[3..end]);
     let x = Millionths { value: figures[2] };
-    show_sum(window_sum(list[1] == 1, sum, x));
+    show_sum(rt, window_sum(list[1] == 1, sum, x))
 }
 
-fn call_with(call: u8, list: &[usize; NUMBERS], bytes: &[u8]) {
+fn call_with(rt: &impl Print, call: u8, list: &[usize; NUMBERS], bytes: &[u8]) -> io::Result<()> {
     match call {
-        b'c' => judge_counted(list, bytes),
-        b'e' => evaluate(list, bytes),
-        b'f' => first(list),
-        b'j' => judge(list, bytes),
-        b'l' => list_rows(bytes),
-        b's' => sum(list),
-        b't' => total(list),
-        b'r' | b'w' | b'm' | b'p' => write(call, list, bytes),
-        _ => test_show::line(b"no such call"),
+        b'c' => judge_counted(rt, list, bytes),
+        b'e' => evaluate(rt, list, bytes),
+        b'f' => first(rt, list),
+        b'j' => judge(rt, list, bytes),
+        b'l' => list_rows(rt, bytes),
+        b's' => sum(rt, list),
+        b't' => total(rt, list),
+        b'r' | b'w' | b'm' | b'p' => write(rt, call, list, bytes),
+        _ => test_show::line(rt, b"no such call"),
     }
 }
 
-fn run(line: &[u8], call: u8) {
+fn run(rt: &impl Print, line: &[u8], call: u8) -> io::Result<()> {
     let list = test_cases::numbers(line);
     let mut space = [0u8; test_cases::BYTES];
     let n = test_cases::bytes(line, &mut space);
-    call_with(call, &list, &space[0..n]);
+    call_with(rt, call, &list, &space[0..n])
 }
 
 // Prints a line and runs its case; a line with `#` is a note and is printed alone.
-pub fn run_line(line: &[u8]) {
-    test_show::case(line);
+pub fn run_line(rt: &impl Print, line: &[u8]) -> io::Result<()> {
+    test_show::case(rt, line)?;
     if line.len() == 0 {
-        return;
+        return Ok(());
     }
     if line[0] != b'#' {
-        run(line, line[0]);
+        run(rt, line, line[0])?;
     }
+    Ok(())
 }

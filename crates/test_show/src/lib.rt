@@ -1,11 +1,13 @@
 // What is printed: answers, and what a lent buffer holds.
+#![tactic(auto)]
+
 ghost use Rattle.std.specs.Prelude.{◌≤◌, length, unsigned_abs};
 ghost use Rattle.millionths.specs.Bounds as Bounds;
 
 use answers::Answer;
 use evaluator::FirstSlot;
 use judge::{Ruling, Verdict};
-use libc::STDOUT_FILENO;
+use std::io;
 
 // What a lent buffer holds before the call, in each byte and in each word.
 pub const FILL: u8 = 254;
@@ -15,78 +17,80 @@ pub const FILL_WORD: u64 = 0xfefefefefefefefe;
 // What is longer is printed as its length and a checksum.
 const LONG: usize = 1000;
 
-pub fn text(bytes: &[u8]) {
-    io::write_all(STDOUT_FILENO, bytes);
+pub fn text(rt: &impl Print, bytes: &[u8]) -> io::Result<()> {
+    rt.write_all(bytes)
 }
 
-pub fn line(bytes: &[u8]) {
-    text(bytes);
-    text(b"\n");
+pub fn line(rt: &impl Print, bytes: &[u8]) -> io::Result<()> {
+    text(rt, bytes)?;
+    text(rt, b"\n")
 }
 
 // A word and a number.
-pub fn number(word: &[u8], n: usize) {
-    text(word);
-    io::print_decimal(STDOUT_FILENO, n as u64);
+pub fn number(rt: &impl Print, word: &[u8], n: usize) -> io::Result<()> {
+    text(rt, word)?;
+    print!(rt; "{n}")
 }
 
-pub fn signed(word: &[u8], n: i64)
+pub fn signed(rt: &impl Print, word: &[u8], n: i64) -> io::Result<()>
     requires { unsigned_abs n ≤ Bounds.row_sum }
 {
-    text(word);
+    text(rt, word)?;
     if n < 0 {
-        text(b"-");
+        text(rt, b"-")?;
     }
-    number(b"", text::magnitude(n));
+    number(rt, b"", text::magnitude(n))
 }
 
-pub fn answer(answer: Answer) {
+pub fn answer(rt: &impl Print, answer: Answer) -> io::Result<()> {
     match answer {
-        Answer::Value(n) => number(b"value ", n),
-        Answer::Refused(r) => number(b"refused ", answers::number(r) as usize),
+        Answer::Value(n) => number(rt, b"value ", n)?,
+        Answer::Refused(r) => number(rt, b"refused ", answers::number(r) as usize)?,
     }
-    text(b"\n");
+    text(rt, b"\n")
 }
 
-fn shortfall(n: i64) {
+fn shortfall(rt: &impl Print, n: i64) -> io::Result<()> {
     if n < 0 {
-        text(b" below 0");
+        text(rt, b" below 0")
     } else {
-        number(b" shortfall ", n as usize);
+        number(rt, b" shortfall ", n as usize)
     }
 }
 
-fn verdict(verdict: Verdict) {
+fn verdict(rt: &impl Print, verdict: Verdict) -> io::Result<()> {
     match verdict {
-        Verdict::Outside(v) => number(b"outside ", v),
-        Verdict::NotBinary(v) => number(b"not binary ", v),
+        Verdict::Outside(v) => number(rt, b"outside ", v),
+        Verdict::NotBinary(v) => number(rt, b"not binary ", v),
         Verdict::Broken { shortfall: d, row } => {
-            number(b"broken ", row);
-            shortfall(d);
+            number(rt, b"broken ", row)?;
+            shortfall(rt, d)
         }
         Verdict::Passed { rows, error } => {
-            number(b"passed ", rows);
-            number(b" error ", error as usize);
+            number(rt, b"passed ", rows)?;
+            number(rt, b" error ", error as usize)
         }
     }
 }
 
-pub fn ruling(ruling: Ruling) {
+pub fn ruling(rt: &impl Print, ruling: Ruling) -> io::Result<()> {
     match ruling {
-        Ruling::Judged(v) => verdict(v),
-        Ruling::Refused(r) => number(b"refused ", answers::number(r) as usize),
+        Ruling::Judged(v) => verdict(rt, v)?,
+        Ruling::Refused(r) => number(rt, b"refused ", answers::number(r) as usize)?,
     }
-    text(b"\n");
+    text(rt, b"\n")
 }
 
 fn wide(byte: u8) -> u64 {
     byte as u64
 }
 
-fn hexadecimal(bytes: &[u8]) {
+fn hexadecimal(rt: &impl Print, bytes: &[u8]) -> io::Result<()> {
     for i in 0..bytes.len() {
-        io::print_hex(STDOUT_FILENO, wide(bytes[i]), 2);
+        let byte = bytes[i];
+        print!(rt; "{byte:02x}")?;
     }
+    Ok(())
 }
 
 // FNV-1a of 64 bits: a byte is put in, and the product is made of shifts and wrapping sums.
@@ -123,37 +127,38 @@ fn used(bytes: &[u8]) -> usize
 }
 
 // Bytes as text or in hexadecimal, or where they are many their length and checksum.
-fn part(bytes: &[u8], is_text: bool) {
+fn part(rt: &impl Print, bytes: &[u8], is_text: bool) -> io::Result<()> {
     if LONG < bytes.len() {
-        number(b"", bytes.len());
-        text(b" bytes, sum ");
-        io::print_hex(STDOUT_FILENO, checksum(bytes), 16);
+        let sum = checksum(bytes);
+        number(rt, b"", bytes.len())?;
+        text(rt, b" bytes, sum ")?;
+        print!(rt; "{sum:016x}")
     } else if is_text {
-        text(bytes);
+        text(rt, bytes)
     } else {
-        hexadecimal(bytes);
+        hexadecimal(rt, bytes)
     }
 }
 
 // The line of a case likewise.
-pub fn case(line: &[u8]) {
-    part(line, true);
-    text(b"\n");
+pub fn case(rt: &impl Print, line: &[u8]) -> io::Result<()> {
+    part(rt, line, true)?;
+    text(rt, b"\n")
 }
 
 // What a buffer holds, the fill at its end as `~` and its length.
-pub fn buffer(bytes: &[u8], is_text: bool) {
+pub fn buffer(rt: &impl Print, bytes: &[u8], is_text: bool) -> io::Result<()> {
     let n = used(bytes);
-    part(&bytes[0..n], is_text);
-    number(b"~", bytes.len() - n);
-    text(b"\n");
+    part(rt, &bytes[0..n], is_text)?;
+    number(rt, b"~", bytes.len() - n)?;
+    text(rt, b"\n")
 }
 
 // A slot's number, or that there is none, with a space before.
-pub fn slot(slot: FirstSlot) {
+pub fn slot(rt: &impl Print, slot: FirstSlot) -> io::Result<()> {
     match slot {
-        FirstSlot::Slot(t) => number(b" ", t),
-        FirstSlot::None => text(b" none"),
+        FirstSlot::Slot(t) => number(rt, b" ", t),
+        FirstSlot::None => text(rt, b" none"),
     }
 }
 
@@ -172,29 +177,32 @@ fn used_words(words: &[u64]) -> usize
 }
 
 // Words in hexadecimal, with a space before each.
-fn hexadecimal_words(words: &[u64]) {
+fn hexadecimal_words(rt: &impl Print, words: &[u64]) -> io::Result<()> {
     for i in 0..words.len() {
-        text(b" ");
-        io::print_hex(STDOUT_FILENO, words[i], 1);
+        let word = words[i];
+        print!(rt; " {word:x}")?;
     }
+    Ok(())
 }
 
-fn first_slots(words: &[u64]) {
+fn first_slots(rt: &impl Print, words: &[u64]) -> io::Result<()> {
     for i in 0..words.len() {
-        slot(evaluator::first_slot(words[i]));
+        slot(rt, evaluator::first_slot(words[i]))?;
     }
+    Ok(())
 }
 
 // What a buffer of words holds, the fill at its end as `~` and its length; and the first slots of what was written.
-pub fn word_buffer(words: &[u64]) {
+pub fn word_buffer(rt: &impl Print, words: &[u64]) -> io::Result<()> {
     let n = used_words(words);
-    text(b"words");
-    hexadecimal_words(&words[0..n]);
-    number(b"~", words.len() - n);
-    text(b"\n");
+    text(rt, b"words")?;
+    hexadecimal_words(rt, &words[0..n])?;
+    number(rt, b"~", words.len() - n)?;
+    text(rt, b"\n")?;
     if 0 < n {
-        text(b"first slots");
-        first_slots(&words[0..n]);
-        text(b"\n");
+        text(rt, b"first slots")?;
+        first_slots(rt, &words[0..n])?;
+        text(rt, b"\n")?;
     }
+    Ok(())
 }

@@ -1,4 +1,6 @@
 // Text put into a lent buffer: bytes and decimal numbers; a number without its sign.
+#![tactic(auto)]
+
 ghost use Rattle.std.specs.Prelude.{◌≡◌, [], ◌∷◌, ◌+◌, ◌≤◌, ◌<◌, nat_abs, length};
 ghost use Rattle.ints.specs.Stored.{inside};
 ghost use Rattle.text.specs.Decimal.{decimal};

@@ -1,5 +1,7 @@
 // The slots that a window looks at from a slot, lowest slot first (request N4), where after slot T comes slot L again
 // (request N8). Slots count from 0 here.
+#![tactic(auto)]
+
 ghost use Rattle.std.specs.Prelude.{◌≡◌, cond, ◌+◌, ◌*◌, ◌≤◌, ◌<◌, min, length};
 ghost use Rattle.rules.specs.Truth.{slot_of};
 ghost use Rattle.rules.specs.Rows.{window_slots};
@@ -8,7 +10,7 @@ ghost use Rattle.window.specs.Total.{slot_total};
 
 // The different slots of a window, `count` of them: the first `head` from `first` on, and the `rest` after `skip` slots
 // more that it does not look at. (Four of these numbers, eight bytes, would be packed into one word at each call.)
-#[derive(Drop)]
+#[derive(Clone, Copy)]
 pub struct Looks {
     pub first: u16,
     pub count: u16,

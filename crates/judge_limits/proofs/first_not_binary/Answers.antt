@@ -1,0 +1,42 @@
+-- `judge_limits::first_not_binary` meets its contract. The loop's invariant: the search from here on finds what the whole search does.
+-- Assumes nothing.
+use mathlib.Core.Path.{◌≡◌, sym, ap, ◌∙◌}
+use native.Mathlib.Omega.{arith}
+use borrow.Author.Rules.{rules}
+use lib.IntN.{pos}
+use lib.ListN.{get_or}
+use mir.Syntax.{w32}
+use Rattle.lists.specs.Scan.{scan_start, scan_found, scan_more, scan_over}
+use Rattle.ints.specs.Stored.{told_back}
+use Rattle.rules.specs.Verdicts.{is_not_binary}
+use Rattle.judge_limits.specs.Tests.{not_binary_at}
+use Rattle.judge_limits.proofs.first_not_binary.Goals as goal
+
+pub loop-v-init : goal.loop-v-init
+loop-v-init c = (omega arith, scan_start _ _)
+
+pub returns-then-is_not_binary : goal.returns-then-is_not_binary
+returns-then-is_not_binary c =
+    let l = c in
+    let a = c.args in
+    let e : c.is_not_binary.result ≡ not_binary_at a.e a.figures.now l.loop-v.v =
+    c.is_not_binary.ensures ∙ ap (is_not_binary a.e) (told_back w32 (get_or a.figures.now l.loop-v.v (pos 0)) (search rules)) in
+    sym (scan_found (not_binary_at a.e a.figures.now) a.n l.loop-v.v (omega arith)
+    (sym e ∙ c.if-is_not_binary.true)) ∙ l.loop-v.invariant.1
+
+pub loop-v-preserved : goal.loop-v-preserved
+loop-v-preserved c =
+    let l = c in
+    let a = c.args in
+    let e : c.is_not_binary.result ≡ not_binary_at a.e a.figures.now l.loop-v.v =
+    c.is_not_binary.ensures ∙ ap (is_not_binary a.e) (told_back w32 (get_or a.figures.now l.loop-v.v (pos 0)) (search rules)) in (
+      omega arith,
+      sym (scan_more (not_binary_at a.e a.figures.now) a.n l.loop-v.v (omega arith)
+          (sym e ∙ c.if-is_not_binary.false)) ∙ l.loop-v.invariant.1,
+    )
+
+pub returns : goal.returns
+returns c =
+    let l = c in
+    let a = c.args in
+    sym (scan_over (not_binary_at a.e a.figures.now) a.n l.loop-v.v (omega arith)) ∙ l.loop-v.invariant.1

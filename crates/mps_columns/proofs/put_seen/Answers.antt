@@ -1,0 +1,17 @@
+-- `mps_columns::put_seen` meets its contract. A variable in none of the rows, and another. Assumes nothing.
+use mathlib.Core.Path.{subst}
+use native.Mathlib.Omega.{arith}
+use Rattle.window.specs.Slots.{variable_at, variables}
+use Rattle.mps_line.specs.Emitted.{emitted-none, emitted_as}
+use Rattle.mps_window.specs.Entries.{no_lines}
+use Rattle.mps_columns.specs.Windows.{Missed}
+use Rattle.mps_columns.proofs.put_seen.Goals as goal
+
+pub returns-then-misses : goal.returns-then-misses
+unfolding variables
+returns-then-misses c =
+    let o = c.args.over in
+    let m = subst (Missed o c.args.v) c.if-misses.true c.misses.ensures in (
+      emitted_as (no_lines c.args.i o.within o.own o.looks.count (variable_at o.looks o.left) c.args.v m.0 m.1) (emitted-none _ _),
+      omega arith,
+    )

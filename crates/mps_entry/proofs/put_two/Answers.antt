@@ -1,0 +1,10 @@
+-- `mps_entry::put_two` meets its contract. One line, and one behind it. Assumes nothing.
+use native.Mathlib.Omega.{arith}
+use Rattle.mps_line.specs.Emitted.{emitted-also}
+use Rattle.mps_entry.proofs.put_two.Goals as goal
+
+pub returns : goal.returns
+returns c =
+    let q = c.put_unit.ensures in
+    let p = c.put_unit-next.ensures in
+    (emitted-also p.0 q.0, omega (arith, p.1, q.1))

@@ -1,0 +1,54 @@
+-- `printer::print` meets its contract: a law of the outcome for each return. Assumes nothing.
+use mathlib.Core.Path.{refl, sym, ◌∙◌}
+use native.Mathlib.Omega.{arith}
+use Rattle.printer.proofs.Outcomes.{atoms-refused, table-refused, some-nodes, printable, long-refused, room-refused, putting, text-printed}
+use Rattle.printer.proofs.print.Goals as goal
+
+pub returns-then-not-within : goal.returns-then-not-within
+returns-then-not-within c =
+    atoms-refused c.args.m c.args.table.now c.args.out.now (sym c.within.ensures ∙ c.if-not-within.true)
+
+pub returns-then-not-good : goal.returns-then-not-good
+returns-then-not-good c =
+    let m = (sym c.within.ensures ∙ c.if-not-within.false) in
+    table-refused c.args.m c.args.table.now c.args.out.now m (sym c.good.ensures ∙ c.if-not-good.true)
+
+pub overflow_sub-root : goal.overflow_sub-root
+overflow_sub-root c =
+    let m = (sym c.within.ensures ∙ c.if-not-within.false) in
+    let g = (sym c.good.ensures ∙ c.if-not-good.false) in
+    omega (arith, c.count-root.ensures, some-nodes c.args.m c.args.table.now c.args.out.now m g)
+
+pub spend-rest-requires : goal.spend-rest-requires
+spend-rest-requires c =
+    let m = (sym c.within.ensures ∙ c.if-not-within.false) in
+    let g = (sym c.good.ensures ∙ c.if-not-good.false) in
+    (printable c.args.m c.args.table.now c.args.out.now m g, omega (arith, c.count-root.ensures, some-nodes c.args.m c.args.table.now c.args.out.now m g))
+
+pub returns-then-rest-eq0 : goal.returns-then-rest-eq0
+returns-then-rest-eq0 c =
+    let m = (sym c.within.ensures ∙ c.if-not-within.false) in
+    let g = (sym c.good.ensures ∙ c.if-not-good.false) in
+    long-refused c.args.m c.args.table.now c.args.out.now m g c.count-root.result c.count-root.ensures
+    c.spend-rest.result c.spend-rest.ensures c.if-rest-eq0.true
+
+pub returns-then-out-length : goal.returns-then-out-length
+returns-then-out-length c =
+    let m = (sym c.within.ensures ∙ c.if-not-within.false) in
+    let g = (sym c.good.ensures ∙ c.if-not-good.false) in
+    room-refused c.args.m c.args.table.now c.args.out.now m g c.count-root.result c.count-root.ensures c.spend-rest.result
+    c.spend-rest.ensures c.if-rest-eq0.false _ refl c.if-out-length.true
+
+pub put_node-requires : goal.put_node-requires
+put_node-requires c =
+    let m = (sym c.within.ensures ∙ c.if-not-within.false) in
+    let g = (sym c.good.ensures ∙ c.if-not-good.false) in
+    putting c.args.m c.args.table.now c.args.out.now m g c.count-root.result c.count-root.ensures c.spend-rest.result c.spend-rest.ensures
+    c.if-rest-eq0.false _ refl (omega (arith, c.if-out-length.false))
+
+pub returns : goal.returns
+returns c =
+    let m = (sym c.within.ensures ∙ c.if-not-within.false) in
+    let g = (sym c.good.ensures ∙ c.if-not-good.false) in
+    text-printed c.args.m c.args.table.now c.args.out.now m g c.count-root.result c.count-root.ensures c.spend-rest.result c.spend-rest.ensures
+    c.if-rest-eq0.false _ refl (omega (arith, c.if-out-length.false)) c.put_node.ensures

@@ -1,0 +1,2 @@
+-- The theorems on the definitions of specs/.
+pub mod Exact

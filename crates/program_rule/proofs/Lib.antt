@@ -1,0 +1,3 @@
+-- The theorems on the definitions of specs/.
+pub mod Cut
+pub mod Refusing

@@ -1,0 +1,27 @@
+-- `rows_node::write_same` meets its contract. The loop's invariant: the rows of the slots passed are written. Assumes nothing.
+use native.Mathlib.Omega.{arith}
+use Rattle.lists.specs.Filling.{filled_none, filled_room, filled_more, filled_all}
+use Rattle.rows_node.specs.Slots.{pairs}
+use Rattle.rows_node.proofs.write_same.Goals as goal
+
+pub loop-s-init : goal.loop-s-init
+loop-s-init c = (omega arith, filled_none _ _ _)
+
+pub put_same-next-requires : goal.put_same-next-requires
+unfolding pairs
+put_same-next-requires c =
+    let l = c in
+    let a = c in
+    filled_room l.loop-s.invariant.1 a.args.t (omega arith) a.requires.t_in_bounds
+
+pub loop-s-preserved : goal.loop-s-preserved
+unfolding pairs
+loop-s-preserved c =
+    let w = c in
+    let l = c in
+    let a = c in
+    (omega arith, filled_more l.loop-s.invariant.1 a.args.t (omega arith) a.requires.t_in_bounds _ _ w.put_same-next.ensures.is w.put_same-next.ensures.to (omega arith))
+
+pub returns : goal.returns
+unfolding pairs
+returns c = filled_all c.loop-s.invariant.1 c.args.t (omega arith)

@@ -1,0 +1,28 @@
+-- `rows_node::write_until_next` meets its contract. The loop's invariant: the rows of the slots passed are written. Assumes nothing.
+use native.Mathlib.Omega.{arith}
+use Rattle.lists.specs.Filling.{filled_none, filled_room, filled_more, filled_all}
+use Rattle.rows_node.specs.Slots.{triples}
+use Rattle.rows_node.proofs.write_until_next.Goals as goal
+
+pub loop-s-init : goal.loop-s-init
+loop-s-init c = (omega arith, filled_none _ _ _)
+
+pub put_until-next-requires : goal.put_until-next-requires
+unfolding triples
+put_until-next-requires c =
+    let l = c in
+    let a = c in
+    filled_room l.loop-s.invariant.1 a.args.t (omega arith) a.requires.t_in_bounds
+
+pub loop-s-preserved : goal.loop-s-preserved
+unfolding triples
+loop-s-preserved c =
+    let w = c in
+    let l = c in
+    let a = c in
+    let p = c.put_until-next.ensures in
+    (omega arith, filled_more l.loop-s.invariant.1 a.args.t (omega arith) a.requires.t_in_bounds _ _ p.is p.to (omega arith))
+
+pub returns : goal.returns
+unfolding triples
+returns c = filled_all c.loop-s.invariant.1 c.args.t (omega arith)

@@ -1,0 +1,16 @@
+-- `sepia::sepia_print` meets its contract, from that of the call.
+use mathlib.Core.Path.{ap, ◌∙◌}
+use lib.ListN.{length}
+use Rattle.sepia_answers.specs.Boundary.{in_c}
+use Rattle.sepia.proofs.Bounds.{print-fits}
+use Rattle.sepia.proofs.sepia_print.Goals as goal
+
+pub plain-requires : goal.plain-requires
+plain-requires c =
+    let a = c.args in
+    rw c.print.ensures.r_value (print-fits a.m a.table.now (length a.out.now))
+
+pub returns : goal.returns
+returns c =
+    let k = c.print.ensures in
+    record { r_value = c.plain.ensures ∙ ap in_c k.r_value; out_after = k.out_after }

@@ -1,0 +1,5 @@
+-- The theorems on the definitions of specs/.
+pub mod Terms
+pub mod Tables
+pub mod Room
+pub mod Proved

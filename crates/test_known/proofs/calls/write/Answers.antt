@@ -1,0 +1,6 @@
+-- The buffer that is lent has its length.
+use Rattle.test_known.proofs.Filled.{filled_length}
+use Rattle.test_known.proofs.calls.write.Goals as goal
+
+pub slice_bounds-lend_part-end : goal.slice_bounds-lend_part-end
+slice_bounds-lend_part-end g c = filled_length 4194304 254

@@ -1,0 +1,8 @@
+-- `text::put_pair` meets its contract. Two bytes. Assumes nothing.
+use Rattle.text.specs.Put.{also}
+use Rattle.text.proofs.put_pair.Goals as goal
+
+pub returns : goal.returns
+returns c =
+    let second = c in
+    also second.put_byte-next.ensures second.put_byte.ensures
