@@ -1,7 +1,7 @@
 #!/usr/bin/env python3
 """Times the toolkit's MPS page beside GLPK's own writer of fixed-column MPS, in one run.
 
-    rt staticlib sepia && python3 bench/mps_glpk.py [ROUNDS]
+    scripts/library && python3 bench/mps_glpk.py [ROUNDS]
 
 Needs gcc and GLPK's library (Debian's package libglpk40). libsepia.a is taken from target/staticlib, or from the folder
 that SEPIA_LIB_DIR names.

@@ -1,4 +1,4 @@
-/* Bastersepia: timing rules as solver rows. Link with libsepia.a (`rt staticlib sepia` writes target/staticlib/libsepia.a). docs/MANUAL.md says
+/* Bastersepia: timing rules as solver rows. Link with libsepia.a (`scripts/library` writes target/staticlib/libsepia.a). docs/MANUAL.md says
  * how rules are written and what verdicts mean; examples/plan.c makes every call.
  *
  * Every call copes with every input. On a refusal nothing in a lent buffer changes; on success what stands past the output stays as it was.
@@ -47,9 +47,8 @@ extern "C" {
  *   6  sepia_evaluate writes a word for each node in place of a byte for each node and slot, and its refusal 11 counts words;
  *      sepia_first_slot
  *   7  a passed verdict carries its error figure, in what was padding
- *   8  sepia_evaluate, sepia_rows, sepia_mps and sepia_judge take the loop slot l after m; refusal 13
- *   9  sepia_print */
-#define SEPIA_VERSION 9
+ *   8  sepia_evaluate, sepia_rows, sepia_mps and sepia_judge take the loop slot l after m; refusal 13 */
+#define SEPIA_VERSION 8
 
 /* The version of the library; to be compared with SEPIA_VERSION. */
 uint32_t sepia_version(void);

@@ -10,7 +10,9 @@ fail() {
 }
 
 # Whether the mark $1 is missing or older than a source. Folders count too, so a file that is gone is seen.
-stale() { [ ! -e "$1" ] || [ -n "$(find "$top/crates.txt" "$top/crates" -newer "$1" -print -quit)" ]; }
+stale() {
+    [ ! -e "$1" ] || [ -n "$(find "$top/crates.txt" "$top"/crates/*/{src,specs,proofs} -newer "$1" -print -quit 2> /dev/null)" ]
+}
 
 # Begins a build: waits for another one, removes what a broken-off one left, and makes `scratch`, a folder for temporary files.
 # Programs are tried as the user nobody, so it stands where temporary files do and may be passed through.
@@ -48,32 +50,35 @@ crate_count() {
             for (i = 1; i <= n; i++) visit(list[i])
         }
         { sub(/#.*/, ""); at = index($0, ":") }
-        at { crate = substr($0, 1, at - 1); gsub(/[ \t]/, "", crate); needs[crate] = substr($0, at + 1) }
+        at { split(substr($0, 1, at - 1), words, " "); needs[words[1]] = substr($0, at + 1) }
         END { visit(wanted); print count }' "$top/crates.txt"
 }
 
-# Shows how far a run of rt has come: each crate as it is proved, of $1. Those that were proved before are counted only.
+# Shows how far a run of rt has come: each crate as it is proved, of $1.
 show_progress() {
-    local line count=0
+    local line crate='' count=0
     while IFS= read -r line; do
         printf '%s\n' "$line"
         case $line in
-        'rt: '*' proved (unchanged'*) count=$((count + 1)) ;;
-        'rt: '*' proved ('*)
+        'crate '*': modules '*)
+            crate=${line#crate }
+            crate=${crate%%:*}
+            ;;
+        'logic=proved'*)
             count=$((count + 1))
-            say "$count of $1: ${line#rt: }"
+            say "$count of $1: $crate proved"
             ;;
         esac
     done
 }
 
-# Runs rt $1 for the crate $2, with its output in target/built/$2.log.
+# Runs rt $1 in the crate $2, with its output in target/built/$2.log.
 run_rt() {
     local log=$top/target/built/$2.log
-    (cd "$top" && TMPDIR=$scratch exec rt "$1" "$2" 2>&1 < /dev/null) | show_progress "$(crate_count "$2")" > "$log"
+    (cd "$top/crates/$2" && TMPDIR=$scratch exec rt "$1" 2>&1 < /dev/null) | show_progress "$(crate_count "$2")" > "$log"
     [ "${PIPESTATUS[0]}" -eq 0 ] && return
     tail -n 20 "$log" >&2
-    fail "rt $1 $2 failed; all that it said is in $log"
+    fail "rt $1 in crates/$2 failed; all that it said is in $log"
 }
 
 # Builds the static library, `library`, where that was not done yet or a source is newer.
@@ -84,8 +89,9 @@ build_library() {
         begin_build
         if stale "$mark" || [ ! -e "$library" ]; then
             say "building the library: $(crate_count sepia) crates are proved, which takes minutes the first time"
-            run_rt check sepia
-            run_rt staticlib sepia
+            run_rt lib sepia
+            mkdir -p "$top/target/staticlib"
+            cp -- "$top/crates/sepia/out/libsepia.a" "$library"
         fi
         end_build "$mark"
     fi

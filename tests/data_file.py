@@ -8,7 +8,7 @@ TOP = Path(__file__).resolve().parent.parent
 
 def write_or_check(name, content):
     target = TOP / name
-    if sys.argv[1:] != ["--check"]:
+    if "--check" not in sys.argv:
         target.write_text(content)
     elif target.read_text() != content:
         sys.exit(f"{name} differs from what this script makes")

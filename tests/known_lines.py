@@ -32,7 +32,7 @@ Cases made by tests/known_lines.py. A line is a call, numbers, and after a colon
   total W X FIGURES.. (the row sum of a window's last row, F's where W is 1 and otherwise G's: the node has the figure X,
     the part the others)
 ROOM is the length of the buffer lent. It is filled with bytes fe and followed by 8 more of them, its guard.
-After a line stand the answer and what the buffer then holds: what was written, of mps, print and list as text, otherwise in
+After a line stand the answer and what the buffer then holds: what was written, of mps and list as text, otherwise in
 hexadecimal, then ~ and how many bytes fe follow, guard included. Of a line, and of what was written, of more than 1,000 bytes
 the length and the FNV-1a sum of 64 bits stand.
 For evaluate all this is counted in words of 64 bits, filled with fefefefefefefefe. They stand in hexadecimal without leading

@@ -8,7 +8,7 @@ Needs glpsol, lp_solve and cbc (Debian's packages glpk-utils, lp-solve and coino
     GLPK 5.0, lp_solve 5.5.2.5, CBC 2.10.8, Python 3.11.7
 
 The program has no loop slot (L is T). With --library the pages come from the C boundary, and L is by chance from 1 to T:
-    rt staticlib sepia
+    scripts/library
     gcc -shared -o LIB.so -Wl,--whole-archive target/staticlib/libsepia.a -Wl,--no-whole-archive
 
 For each of N random rules (300, or as asked) of at most 8 atom variables:

@@ -1,8 +1,8 @@
 #!/usr/bin/env python3
-"""Makes docs/MUST-FAIL.md from the must-fail edits and from what the prover said of each in the last gate.
+"""Makes docs/MUST-FAIL.md from the must-fail edits and from what the prover said of each.
 
-    python3 tests/must_fail.py            writes the page; needs target/must-fail, which `.ci/run` or `rt must-fail` makes
-    python3 tests/must_fail.py --check    says whether the page is what this script makes, and writes nothing
+    python3 tests/must_fail.py LOG ..            writes the page, from what `rt must-fail --anew` or runs of `.ci/run` printed
+    python3 tests/must_fail.py --check LOG ..    says whether the page is what this script makes, and writes nothing
 
 An edit's first line is `# PROMISE, PROMISE ..: WHAT IT DOES`. What the prover said is the first fact that it misses. Each
 demand and each wrong program that document 01, "The wording of each promise" (c), or a request names must have two edits or
@@ -10,7 +10,9 @@ more.
 """
 
 import itertools
+import pathlib
 import re
+import sys
 
 from data_file import TOP, write_or_check
 
@@ -83,36 +85,31 @@ MOST = 300  # characters of what the prover says
 def edits():
     """(crate, name, promises, what it does, what the prover says), in the order of crates.txt."""
     for line in (TOP / "crates.txt").read_text().splitlines():
-        crate = line.partition(":")[0]
+        crate = (line.partition(":")[0].split() or [""])[0]
         for edit in sorted((TOP / "crates" / crate / "must-fail").glob("*.edit")):
             promises, _, does = edit.read_text().partition("\n")[0].removeprefix("# ").partition(": ")
             yield crate, edit.stem, promises.split(", "), does, fact(crate, edit.stem)
 
 
+def told():
+    """What the logs say of each edit: the line of its refusal, the last one where several logs have it."""
+    said = {}
+    for log in sys.argv[1:]:
+        if log != "--check":
+            for of, words in re.findall(r"^rt: must-fail (\S+)\.edit: refused, as it must be: (.*)$", pathlib.Path(log).read_text(), re.M):
+                said[of] = words
+    return said
+
+
+SAID = told()
+
+
 def fact(crate, name):
-    """The first missing fact, without line numbers; what only follows from it is passed over."""
-    log = (TOP / "target" / "must-fail" / crate / name / ".log").read_text()
-    for message in re.split(rf"^(?:note: )?/\S*/must-fail/{crate}/{name}/(?=\S+?:\d+:\d+: )", log, flags=re.M)[1:]:
-        place, _, _, words = message.split(":", 3)
-        if words.startswith((" error: ", " it is not proved that")) and "was not admitted" not in words:
-            return f"{place}: {shortened(words)}"
-    raise SystemExit(f"{crate}/{name}: no missing fact in its log")
-
-
-def shortened(words):
-    """Of a refusal that says how two types differ once they are computed just that; without advice, and cut."""
-    head, *more = [line for line in words.removeprefix(" error:").split("\n") if line.startswith(" ")]
-    label, _, rest = head.strip().partition(": ")
-    computed = re.search(r"computed as far as they go, the two .*?\(found\)", " ".join([head, *more]))
-    if head.startswith(" it is not proved"):
-        words = head
-    elif computed:
-        words = f"{label}: {computed[0]}"
-    elif rest.startswith(("give a proof", "list the missing")) and more:
-        words = " ".join([f"{label}:", *more])
-    else:
-        words = " ".join([head, *more])
-    words = re.sub(r"( \.before){2,}", " ..", " ".join(words.split()))
+    """The first missing fact, without line numbers."""
+    words = SAID.get(f"{crate}/{name}")
+    if words is None:
+        raise SystemExit(f"{crate}/{name}: the logs do not say that it was refused")
+    words = re.sub(r"^(?:note: )?(?:\./)?(\S+?):\d+:\d+:(?: error:)? ", r"\1: ", " ".join(words.split()))
     return words if len(words) <= MOST else words[:MOST].rsplit(" ", 1)[0] + " .."
 
 
