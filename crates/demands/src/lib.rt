@@ -20,14 +20,13 @@ ghost use Rattle.headlines.specs.RowSum.{PositiveFirst, SummedVerdict};
 ghost use Rattle.headlines.specs.Page.{PageRefuses, PageAnswers, PageMeans};
 ghost use Rattle.headlines.specs.Print.{PrinterRefuses, PrinterAnswers, PrintingBack};
 
-use answers::{Answer, Refusal};
-use evaluator::FirstSlot;
-use judge::Ruling;
+use answers::Refusal;
+use judge::Verdict;
 use judge_sums::RowSum;
 use row::Terms;
 
 // Demands 1 and 2 of the reader, and the heights that it writes.
-pub fn read(text: &[u8], m: usize, out: &mut [u8]) -> Answer
+pub fn read(text: &[u8], m: usize, out: &mut [u8]) -> Result<usize, Refusal>
     ensures reader_refuses { ReaderRefuses m text.now (answer_of result) out.old out.new }
     ensures reader_answers { ReaderAnswers m text.now (answer_of result) out.old out.new }
     ensures reader_heights { ReaderHeights text.now (answer_of result) out.new }
@@ -36,7 +35,14 @@ pub fn read(text: &[u8], m: usize, out: &mut [u8]) -> Answer
 }
 
 // Demands 1 and 2 of the evaluator, and that its words say what its bytes said.
-pub fn evaluate(table: &[u8], t: usize, m: usize, l: usize, run: &[u16], out: &mut [u64]) -> Answer
+pub fn evaluate(
+    table: &[u8],
+    t: usize,
+    m: usize,
+    l: usize,
+    run: &[u16],
+    out: &mut [u64],
+) -> Result<usize, Refusal>
     ensures evaluator_refuses { EvaluatorRefuses t m l table.now run.now (answer_of result) out.old out.new }
     ensures evaluator_answers { EvaluatorAnswers t m l table.now run.now (answer_of result) out.old out.new }
     ensures says_bytes { SaysBytes t m l table.now run.now (answer_of result) out.new }
@@ -45,14 +51,20 @@ pub fn evaluate(table: &[u8], t: usize, m: usize, l: usize, run: &[u16], out: &m
 }
 
 // What the first slot of a truth word is.
-pub fn first_slot(word: u64) -> FirstSlot
+pub fn first_slot(word: u64) -> Option<usize>
     ensures { FirstAnswers word (first_slot_of result) }
 {
     evaluator::first_slot(word)
 }
 
 // Demands 1 and 2 of the row writer.
-pub fn write_rows(table: &[u8], t: usize, m: usize, l: usize, out: &mut [u8]) -> Answer
+pub fn write_rows(
+    table: &[u8],
+    t: usize,
+    m: usize,
+    l: usize,
+    out: &mut [u8],
+) -> Result<usize, Refusal>
     ensures row_writer_refuses { RowWriterRefuses t m l table.now (answer_of result) out.old out.new }
     ensures row_writer_answers { RowWriterAnswers t m l table.now (answer_of result) out.old out.new }
 {
@@ -61,7 +73,14 @@ pub fn write_rows(table: &[u8], t: usize, m: usize, l: usize, out: &mut [u8]) ->
 
 // Demands 1 and 2 of the judge, what a passed verdict means and its error figure promises, what a broken one carries, and the
 // verdict by row sums.
-pub fn judge_figures(table: &[u8], t: usize, m: usize, l: usize, figures: &[i32], e: i32) -> Ruling
+pub fn judge_figures(
+    table: &[u8],
+    t: usize,
+    m: usize,
+    l: usize,
+    figures: &[i32],
+    e: i32,
+) -> Result<Verdict, Refusal>
     ensures judge_refuses { JudgeRefuses t m l table.now figures.now e (ruling_of result) }
     ensures judge_answers { JudgeAnswers t m l table.now figures.now e (ruling_of result) }
     ensures passed_means { PassedMeans t m l table.now figures.now e (ruling_of result) }
@@ -82,7 +101,13 @@ pub fn row_sum(figures: &[i32], terms: Terms) -> RowSum
 }
 
 // Demands 1 and 2 of the page writer, and what its page says.
-pub fn mps_page(table: &[u8], t: usize, m: usize, l: usize, out: &mut [u8]) -> Answer
+pub fn mps_page(
+    table: &[u8],
+    t: usize,
+    m: usize,
+    l: usize,
+    out: &mut [u8],
+) -> Result<usize, Refusal>
     ensures page_refuses { PageRefuses t m l table.now (answer_of result) out.old out.new }
     ensures page_answers { PageAnswers t m l table.now (answer_of result) out.old out.new }
     ensures page_means { PageMeans t m l table.now (answer_of result) out.new }
@@ -91,7 +116,7 @@ pub fn mps_page(table: &[u8], t: usize, m: usize, l: usize, out: &mut [u8]) -> A
 }
 
 // Demands 1 and 2 of the printer.
-pub fn print(table: &[u8], m: usize, out: &mut [u8]) -> Answer
+pub fn print(table: &[u8], m: usize, out: &mut [u8]) -> Result<usize, Refusal>
     ensures printer_refuses { PrinterRefuses m table.now (answer_of result) out.old out.new }
     ensures printer_answers { PrinterAnswers m table.now (answer_of result) out.old out.new }
 {
@@ -105,39 +130,30 @@ pub fn print_back(
     table: &mut [u8],
     out: &mut [u8],
     again: &mut [u8],
-) -> Answer
+) -> Result<usize, Refusal>
     ensures { PrintingBack m text.now table.old out.old again.old table.new out.new
         again.new (answer_of result) }
 {
-    match reader::read(text, m, table) {
-        Answer::Refused(r) => Answer::Refused(r),
-        Answer::Value(n) => {
-            let whole = 8 * n;
-            match printer::print(&table[..whole], m, out) {
-                Answer::Refused(r) => Answer::Refused(r),
-                Answer::Value(length) => reader::read(&out[..length], m, again),
-            }
-        }
-    }
+    let nodes = reader::read(text, m, table)?;
+    let whole = &table[..8 * nodes];
+    let length = printer::print(whole, m, out)?;
+    reader::read(&out[..length], m, again)
 }
 
 // The horizon: slots 1 to t with m atoms each, and after slot t comes slot l again.
-#[derive(Clone, Copy)]
+#[derive(Clone, Copy, Debug, PartialEq, Eq)]
 pub struct Horizon {
     pub t: usize,
     pub m: usize,
     pub l: usize,
 }
 
-// The node count, the row count and the root's truth at slot 1, or the first refusal.
-#[derive(Clone, Copy)]
-pub enum Planned {
-    Done {
-        nodes: usize,
-        rows: usize,
-        truth: usize,
-    },
-    Refused(Refusal),
+// The node count, the row count and the root's truth at slot 1.
+#[derive(Clone, Copy, Debug, PartialEq, Eq)]
+pub struct Planned {
+    pub nodes: usize,
+    pub rows: usize,
+    pub truth: usize,
 }
 
 // A text is read, and the rows and the truth of the table that was read are written: what is answered and written for every input, and demand 3.
@@ -148,37 +164,20 @@ pub fn plan(
     table: &mut [u8],
     rows: &mut [u8],
     truth: &mut [u64],
-) -> Planned
+) -> Result<Planned, Refusal>
     ensures planning { Planning horizon.t horizon.m horizon.l text.now run.now table.old rows.old
         truth.old table.new rows.new truth.new (planned_of result) }
     ensures demanded { Demanded horizon.t horizon.m horizon.l text.now run.now table.old rows.old
         truth.old table.new rows.new truth.new (planned_of result) }
 {
-    let t = horizon.t;
-    let m = horizon.m;
-    let l = horizon.l;
-    match reader::read(text, m, table) {
-        Answer::Refused(r) => Planned::Refused(r),
-        Answer::Value(n) => {
-            let end = 8 * n;
-            match rows::write_rows(&table[..end], t, m, l, rows) {
-                Answer::Refused(r) => Planned::Refused(r),
-                Answer::Value(count) => match evaluator::evaluate(
-                    &table[..end],
-                    t,
-                    m,
-                    l,
-                    run,
-                    truth,
-                ) {
-                    Answer::Refused(r) => Planned::Refused(r),
-                    Answer::Value(v) => Planned::Done {
-                        nodes: n,
-                        rows: count,
-                        truth: v,
-                    },
-                },
-            }
-        }
-    }
+    let Horizon { t, m, l } = horizon;
+    let nodes = reader::read(text, m, table)?;
+    let records = &table[..8 * nodes];
+    let count = rows::write_rows(records, t, m, l, rows)?;
+    let at_first = evaluator::evaluate(records, t, m, l, run, truth)?;
+    Ok(Planned {
+        nodes,
+        rows: count,
+        truth: at_first,
+    })
 }

@@ -1,5 +1,5 @@
 -- The words of the nodes, one node after the other.
-use Rattle.std.specs.Prelude.{◌≡◌, refl, List, ℕ, ◌+◌, ◌≤◌, ◌<◌, length, get_or, set}
+use Rattle.std.specs.Prelude.{◌≡◌, List, ℕ, ◌+◌, ◌≤◌, ◌<◌, length, get_or, set}
 use Rattle.std.proofs.Common.{sym, ◌∙◌, arith, length-set, get_or-set_same, get_or-set_other}
 use Rattle.std.proofs.Math.Decide.{ℕ_discrete}
 use Rattle.rules.specs.Table as Table
@@ -13,9 +13,6 @@ pub record Filled (T L : ℕ) (run : List ℕ) (ns : List Node) (l : List ℕ) (
   pub same : length m ≡ length l
   pub at : (c : ℕ) → c < n → Word T (node_at T L run m (Table.node_at ns c)) (get_or m c 0)
   pub behind : (i : ℕ) → n ≤ i → get_or m i 0 ≡ get_or l i 0
-
-pub filled_none : (T L : ℕ) (run : List ℕ) (ns : List Node) (l : List ℕ) → Filled T L run ns l 0 l
-filled_none T L run ns l = record { same = refl; at = λ c h. absurd (omega arith); behind = λ i h. refl }
 
 -- a node looks at its children alone
 pub node-same : (T L M n r : ℕ) (run m k : List ℕ) (nd : Node) → NodeGood M n nd → ((i : ℕ) → i < n → get_or m i 0 ≡ get_or k i 0) →

@@ -1,19 +1,20 @@
 -- "0 for an atom": a node of height 0 is an atom.
-use Rattle.std.specs.Prelude.{◌≡◌, refl, true, List, ℕ, ◌<◌, length, get_or}
+use Rattle.std.specs.Prelude.{◌≡◌, refl, List, ℕ, ◌<◌, length, get_or}
 use Rattle.std.proofs.Common.{sym, ap, ◌∙◌, arith}
 use Rattle.rules.specs.Rule.{Rule, height}
 use Rattle.rules.specs.Table.{Node, NodeGood, left_of, rule_at, grow, node_at}
 use Rattle.rules.specs.Table.Node.{atom, unary, binary, windowed}
-use Rattle.rules.specs.TableRules.{NodesGood}
 use Rattle.rules.proofs.TableRules.{rule_at-is}
-use Rattle.rules.specs.TableTest.{byte_at, good, nodes_in}
-use Rattle.rules.proofs.TableTest.{good-sound, height-byte}
+use Rattle.rules.specs.TableTest.{byte_at, record_count, nodes_in}
+use Rattle.rules.proofs.TableTest.{good-sound, height-byte, length-nodes_in}
 use Rattle.evaluator_words.specs.Words.{Word}
 use Rattle.evaluator_atoms.specs.Columns.{Columns}
 use Rattle.table.specs.Nodes.{node_by, node_of}
 use Rattle.table.specs.declared.Kind.{Kind}
 use Rattle.table.specs.declared.Kind.TheVariants.{Atom, Not, And, Or, Implies, Eventually, Always, Until, Within, Throughout}
 use Rattle.table.specs.declared.Node.{Node as Read}
+use Rattle.table.specs.Checks.{Ready}
+use Rattle.evaluator.specs.Checks.{nodes-good}
 use Rattle.evaluator.specs.Nodes.{node_at as word_at, Children}
 
 abbrev pub IsAtom : Node → Type 0
@@ -32,10 +33,12 @@ only-atoms rule (windowed w a b p) e = omega arith
 abbrev pub Low : (table : List ℕ) (n : ℕ) → Type 0
 Low table n = byte_at table n 7 ≡ 0 → IsAtom (node_at (nodes_in table) n)
 
-pub low-atom : (M : ℕ) (table : List ℕ) → good M table ≡ true → NodesGood M (nodes_in table) → (n : ℕ) → n < length (nodes_in table) → Low table n
-low-atom M table e nodes n h low =
+pub low-atom : {T M L : ℕ} {table : List ℕ} → Ready T M L table → (n : ℕ) → n < record_count table → Low table n
+low-atom {M = M} {table = table} r n h low =
     let ns = nodes_in table in
-    only-atoms (rule_at ns) (node_at ns n) (ap height (sym (rule_at-is M ns nodes n h)) ∙ sym (height-byte M table ns (good-sound M table (rw e tt)) n h) ∙ low)
+    let l : n < length ns = omega (arith, length-nodes_in M table) in
+    let e = good-sound M table (rw r.table-good tt) in
+    only-atoms (rule_at ns) (node_at ns n) (ap height (sym (rule_at-is M ns (nodes-good r) n l)) ∙ sym (height-byte M table ns e n l) ∙ low)
 
 -- an atom that was read has its number on the left
 left_is : (k : Kind) (l r a b : ℕ) → left_of (node_by k l r a b) ≡ l

@@ -1,11 +1,11 @@
 -- A node's word, from the words of the nodes below; after slot T comes slot L again.
 use Rattle.std.specs.Prelude.{◌≡◌, Bool, not as notb, ◌&&◌, ◌||◌, List, ℕ, ◌^◌, ◌≤◌, ◌<◌, length, get_or}
-use Rattle.std.proofs.Common.{subst, arith}
+use Rattle.std.proofs.Common.{subst}
 use Rattle.rules.specs.Rule.{Unary, Binary, Window}
 use Rattle.rules.specs.Rule.Unary.{not, eventually, always}
 use Rattle.rules.specs.Rule.Binary.{and, or, implies, until}
 use Rattle.rules.specs.Rule.Window.{within, throughout}
-use Rattle.rules.specs.Table.{Node, NodeGood}
+use Rattle.rules.specs.Table.{Node}
 use Rattle.rules.specs.Table.Node.{atom, unary, binary, windowed}
 use Rattle.evaluator_words.specs.Bits.{on}
 use Rattle.evaluator_words.specs.Words.{Word, eventually_at, always_at, until_at, within_at, throughout_at}
@@ -41,13 +41,6 @@ Children T words (atom a) = a < 16
 Children T words (unary u p) = Child T words p
 Children T words (binary o p q) = Child T words p × Child T words q
 Children T words (windowed w a b p) = Child T words p × (a ≤ b) × (b < 64)
-
-pub children_there : (T M n : ℕ) (words : List ℕ) (nd : Node) → M ≤ 16 → n ≤ length words → ((c : ℕ) → c < n → get_or words c 0 < 2 ^ T) →
-    NodeGood M n nd → Children T words nd
-children_there T M n words (atom a) h l small g = omega arith
-children_there T M n words (unary u p) h l small g = (omega arith, small p g)
-children_there T M n words (binary o p q) h l small g = ((omega arith, small p g.0), (omega arith, small q g.1))
-children_there T M n words (windowed w a b p) h l small g = ((omega arith, small p g.0), g.1.0, omega (arith, g.1.1))
 
 -- from the words that were read to the words of the nodes below
 pub by_one : {T r x y : ℕ} (f : (ℕ → Bool) → ℕ → Bool) → x ≡ y → Word T (f (on x)) r → Word T (f (on y)) r

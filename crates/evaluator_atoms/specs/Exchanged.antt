@@ -15,12 +15,6 @@ pub record Exchanged (h mask : ℕ) (c : List ℕ) (k : ℕ) (d : List ℕ) : Ty
   pub long : length d ≡ 16
   pub at : (i : ℕ) → i < 16 → get_or d i 0 ≡ cond (ltb (pair_of h i) k) (exchanged h mask c i) (get_or c i 0)
 
-pub exchanged-none : (h mask : ℕ) (c : List ℕ) → length c ≡ 16 → Exchanged h mask c 0 c
-exchanged-none h mask c e = record {
-  long = e;
-  at = λ i l. sym (ap (λ (b : Bool). cond b (exchanged h mask c i) (get_or c i 0)) (le-ltb (pair_of h i) 0 (omega arith)));
-}
-
 module _ (h mask : ℕ) (s : Stage h mask) (c : List ℕ) where
   module _ (k i : ℕ) (d : List ℕ) (p : PairAt h k i) (x : Exchanged h mask c k d) where
     below : i < 16

@@ -1,11 +1,10 @@
 -- The numbers of a run in blocks of w slots and atoms: the number of slot s stands in word s % w, from bit w·(s / w) on.
-use Rattle.std.specs.Prelude.{◌≡◌, refl, Bool, false, ◌&&◌, ◌||◌, List, [], ◌∷◌, ℕ, ◌+◌, ◌-◌, ◌*◌, ◌/◌, ◌%◌, ◌^◌, ◌≤◌, ◌<◌, min, ltb, eqb, length, get_or, set}
-use Rattle.std.proofs.Common.{sym, ap, ap₂, subst, ◌∙◌, mod-lt, lt_of_lt_of_le, arith, lt-ltb, le-ltb, pow_pos, pow_mono, eqb→eq, length-set, get_or-set_same, get_or-set_other}
+use Rattle.std.specs.Prelude.{◌≡◌, Bool, false, ◌&&◌, ◌||◌, List, ℕ, ◌+◌, ◌-◌, ◌*◌, ◌/◌, ◌%◌, ◌^◌, ◌≤◌, ◌<◌, min, ltb, length, get_or, set}
+use Rattle.std.proofs.Common.{sym, ap, ap₂, subst, ◌∙◌, mod-lt, lt_of_lt_of_le, arith, lt-ltb, le-ltb, pow_pos, pow_mono, length-set, get_or-set_same, get_or-set_other}
 use Rattle.std.proofs.Math.Bool.{or-false}
 use Rattle.std.proofs.Math.Decide.{dec_lt, ℕ_discrete}
 use Rattle.std.specs.Int.Bits.{bit_or}
 use Rattle.std.proofs.lemmas.Nat.{or_lt}
-use Rattle.lists.specs.All.{all, all_iff}
 use Rattle.evaluator_words.specs.Bits.{on, on-zero, on-above, on_or, on_shl, on_shl_low, on-mod}
 use Rattle.evaluator_atoms.specs.Turning.{Turned, slot_at, atom_at}
 
@@ -97,13 +96,6 @@ pub record Packed (w : ℕ) (run : List ℕ) (s : ℕ) (c : List ℕ) : Type 0 w
 -- a block as it is made
 abbrev pub Blank : List ℕ → Type 0
 Blank c = (length c ≡ 16) × ((i : ℕ) → i < 16 → get_or c i 0 ≡ 0)
-
-abbrev zeros : List ℕ
-zeros = 0 ∷ 0 ∷ 0 ∷ 0 ∷ 0 ∷ 0 ∷ 0 ∷ 0 ∷ 0 ∷ 0 ∷ 0 ∷ 0 ∷ 0 ∷ 0 ∷ 0 ∷ 0 ∷ []
-
-pub blank_zeros : Blank (0 ∷ 0 ∷ 0 ∷ 0 ∷ 0 ∷ 0 ∷ 0 ∷ 0 ∷ 0 ∷ 0 ∷ 0 ∷ 0 ∷ 0 ∷ 0 ∷ 0 ∷ 0 ∷ [])
-unfolding all
-blank_zeros = (refl, λ i l. eqb→eq (get_or zeros i 0) 0 ((all_iff (λ i. eqb (get_or zeros i 0) 0) 16).0 tt i l))
 
 pub packed_none : (w : ℕ) → Width w → (run : List ℕ) (t : ℕ) (c : List ℕ) → Blank c → Packed w run (min 0 t) c
 packed_none w wide run t c blank = record {

@@ -8,22 +8,14 @@ ghost use Rattle.evaluator_atoms.specs.Turning.{row_of, pairs_for, low_of, high_
 ghost use Rattle.evaluator_atoms.specs.Packing.{Width, Below, Laid, Blank, Packed};
 ghost use Rattle.evaluator_atoms.specs.Columns.{Blocks, Columns};
 
-fn wide(x: u16) -> u64
-    ensures { (result ≡ x) × (result < 65536) }
-{
-    x as u64
-}
-
 // Adds the numbers of `count` slots to the first words, each from bit `place` on.
 fn lay(block: &mut [u64; 16], run: &[u16], place: usize, count: usize)
-    requires { (place < 64) × (count ≤ 16) × (place + count ≤ length run.now) × (length block.old ≡ 16) }
+    requires { (place < 64) × (count ≤ 16) × (place + count ≤ length run.now) }
     ensures { (w : ℕ) → Laid w run.now place count →
         Packed w run.now place block.old → Packed w run.now (place + count) block.new }
 {
-    let mut i: usize = 0;
-    while i < count {
-        block[i] = block[i] | (wide(run[place + i]) << place);
-        i += 1;
+    for i in 0..count {
+        block[i] |= u64::from(run[place + i]) << place;
     }
 }
 
@@ -33,87 +25,80 @@ fn pack(block: &mut [u64; 16], run: &[u16], t: usize, w: usize)
     requires blank { Blank block.old }
     ensures { Packed w run.now t block.new }
 {
+    // A stride of w, and no count: each block begins where the last one ends.
     let mut place: usize = 0;
     while place < t {
-        lay(block, run, place, scalars::smaller(w, t - place));
+        lay(block, run, place, w.min(t - place));
         place += w;
     }
 }
 
-#[derive(Clone, Copy)]
-pub struct Pair {
-    pub low: u64,
-    pub high: u64,
+// From blocks of 2 * half slots and atoms to blocks of `half`; the mask has the bits of first halves.
+#[derive(Clone, Copy, Debug, PartialEq, Eq)]
+struct Halving {
+    half: usize,
+    mask: u64,
 }
 
-// Exchanges the bits of the low word that the mask has not with those of the high word that it has.
-fn exchange(low: u64, high: u64, h: usize, mask: u64) -> Pair
-    requires { h < 64 }
-    ensures { (result.low ≡ low_of h mask low high) × (result.high ≡ high_of h mask low high) }
-{
-    Pair {
-        low: (low & mask) | ((high & mask) << h),
-        high: ((low >> h) & mask) | (high & !mask),
+const TO_EIGHTS: Halving = Halving {
+    half: 8,
+    mask: 0x00FF_00FF_00FF_00FF,
+};
+
+const TO_FOURS: Halving = Halving {
+    half: 4,
+    mask: 0x0F0F_0F0F_0F0F_0F0F,
+};
+
+const TO_TWOS: Halving = Halving {
+    half: 2,
+    mask: 0x3333_3333_3333_3333,
+};
+
+const TO_ONES: Halving = Halving {
+    half: 1,
+    mask: 0x5555_5555_5555_5555,
+};
+
+impl Halving {
+    // Exchanges the bits of the low word that the mask has not with those of the high word that it has.
+    fn exchange(self, low: u64, high: u64) -> (u64, u64)
+        requires { self.half < 64 }
+        ensures { (result.0 ≡ low_of self.half self.mask low high) × (result.1 ≡ high_of self.half self.mask low high) }
+    {
+        (
+            (low & self.mask) | ((high & self.mask) << self.half),
+            ((low >> self.half) & self.mask) | (high & !self.mask),
+        )
     }
-}
 
-// The first word of pair k.
-fn row_of(h: usize, k: usize) -> usize
-    requires { (1 ≤ h) × (h ≤ 8) × PairAt h k (row_of h k) }
-    ensures { PairAt h k result }
-{
-    2 * h * (k / h) + k % h
-}
-
-// How many pairs the words of m atoms come from.
-fn pairs_for(h: usize, m: usize) -> usize
-    requires { (1 ≤ h) × (h ≤ 8) × (m ≤ 16) × (pairs_for h m ≤ 8) }
-    ensures { result ≡ pairs_for h m }
-{
-    h * ((m + 2 * h - 1) / (2 * h))
-}
-
-// From blocks of 2 * h slots and atoms to blocks of h, for the words that the first m atoms need.
-fn turn(block: &mut [u64; 16], h: usize, mask: u64, m: usize)
-    requires { Stage h mask × (m ≤ 16) × (length block.old ≡ 16) }
-    ensures { (run : List ℕ) (t : ℕ) → Blocks (2 * h) run t m block.old → Blocks h run t m block.new }
-{
-    let pairs = pairs_for(h, m);
-    let mut k: usize = 0;
-    while k < pairs {
-        let i = row_of(h, k);
-        let turned = exchange(block[i], block[i + h], h, mask);
-        block[i] = turned.low;
-        block[i + h] = turned.high;
-        k += 1;
+    // The first word of pair k.
+    fn row_of(self, k: usize) -> usize
+        requires { (1 ≤ self.half) × (self.half ≤ 8) × PairAt self.half k (row_of self.half k) }
+        ensures { PairAt self.half k result }
+    {
+        2 * self.half * (k / self.half) + k % self.half
     }
-}
 
-// The run in blocks of 8.
-fn eights(block: &mut [u64; 16], run: &[u16], t: usize, m: usize)
-    requires t_bound { (t ≤ 64) × (t ≤ length run.now) × (m ≤ 16) × Below m t run.now }
-    requires blank { Blank block.old }
-    ensures { Blocks 8 run.now t m block.new }
-{
-    if m <= 8 {
-        pack(block, run, t, 8);
-    } else {
-        pack(block, run, t, 16);
-        turn(block, 8, 0x00FF_00FF_00FF_00FF, m);
+    // How many pairs the words of m atoms come from.
+    fn pairs_for(self, m: usize) -> usize
+        requires { (1 ≤ self.half) × (self.half ≤ 8) × (m ≤ 16) × (pairs_for self.half m ≤ 8) }
+        ensures { result ≡ pairs_for self.half m }
+    {
+        self.half * ((m + 2 * self.half - 1) / (2 * self.half))
     }
-}
 
-// The run in blocks of 4.
-fn fours(block: &mut [u64; 16], run: &[u16], t: usize, m: usize)
-    requires t_bound { (t ≤ 64) × (t ≤ length run.now) × (m ≤ 16) × Below m t run.now }
-    requires blank { Blank block.old }
-    ensures { Blocks 4 run.now t m block.new }
-{
-    if m <= 4 {
-        pack(block, run, t, 4);
-    } else {
-        eights(block, run, t, m);
-        turn(block, 4, 0x0F0F_0F0F_0F0F_0F0F, m);
+    // Exchanges the halves of the words that the first m atoms need.
+    fn turn(self, block: &mut [u64; 16], m: usize)
+        requires { Stage self.half self.mask × (m ≤ 16) }
+        ensures { (run : List ℕ) (t : ℕ) → Blocks (2 * self.half) run t m block.old → Blocks self.half run t m block.new }
+    {
+        for k in 0..self.pairs_for(m) {
+            let i = self.row_of(k);
+            let (low, high) = self.exchange(block[i], block[i + self.half]);
+            block[i] = low;
+            block[i + self.half] = high;
+        }
     }
 }
 
@@ -123,7 +108,18 @@ pub fn columns(cols: &mut [u64; 16], run: &[u16], t: usize, m: usize)
     requires blank { Blank cols.old }
     ensures { Columns t run.now m cols.new }
 {
-    fours(cols, run, t, m);
-    turn(cols, 2, 0x3333_3333_3333_3333, m);
-    turn(cols, 1, 0x5555_5555_5555_5555, m);
+    match m {
+        0..=4 => pack(cols, run, t, 4),
+        5..=8 => {
+            pack(cols, run, t, 8);
+            TO_FOURS.turn(cols, m);
+        }
+        _ => {
+            pack(cols, run, t, 16);
+            TO_EIGHTS.turn(cols, m);
+            TO_FOURS.turn(cols, m);
+        }
+    }
+    TO_TWOS.turn(cols, m);
+    TO_ONES.turn(cols, m);
 }

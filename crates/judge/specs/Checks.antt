@@ -1,9 +1,9 @@
 -- The judge's own checks, after those of T, M, L and the table: the count of the figures, and the tolerance.
-use Rattle.std.specs.Prelude.{◌≡◌, true, false, cond, List, ℕ, ◌+◌, ◌*◌, ◌≤◌, ◌<◌, T as Is, eqb, ltb, length, ℤ, pos, negsuc}
+use Rattle.std.specs.Prelude.{◌≡◌, true, false, cond, List, ℕ, ◌+◌, ◌*◌, eqb, ltb, length, ℤ, pos, negsuc, nat_abs}
 use Rattle.std.proofs.Math.Path.{refl}
 use Rattle.std.proofs.Common.{ap, ap₂, ◌∙◌, add-mul, arith}
-use borrow.Author.Tests.{ltb-true, lt-leb, le-leb, eq-eqb, ne_eqb}
-use Rattle.std.specs.Int.Signed.{lt_z, non_neg}
+use borrow.Author.Tests.{ltb-true, ltb-false, lt-leb, le-leb, eq-eqb, ne_eqb}
+use Rattle.std.specs.Int.Signed.{lt_z}
 use Rattle.rules.specs.Quantities.{tolerance_limit}
 use Rattle.rules.specs.Demands.{Answer}
 use Rattle.rules.specs.Demands.Answer.{refused, answered}
@@ -34,10 +34,6 @@ variables-are T M L table {n} {k} e f g = g ∙ add-mul M (n + k) T ∙ ap (λ (
 
 -- ---- a tolerance that is passed as a whole number
 
-pub not-below : (z : ℤ) → lt_z z (pos 0) ≡ false → Is (non_neg z)
-not-below (pos n) e = tt
-not-below (negsuc n) e = let z : ◌≡◌ {A = ℕ} 0 1 = cc in absurd (omega arith)
-
 module _ (T M L : ℕ) (table : List ℕ) (figures : List ℤ) where
   abbrev answer : ℤ → Answer Verdict
   answer z = tolerated T M L table figures z
@@ -47,13 +43,15 @@ module _ (T M L : ℕ) (table : List ℕ) (figures : List ℤ) where
   tolerance-below (pos n) e = absurd (let h = ltb-true n 0 e in omega arith)
   tolerance-below (negsuc n) e = refl
 
-  pub tolerance-above : (z : ℤ) (n : ℕ) → z ≡ pos n → tolerance_limit < n → refused 10 ≡ answer z
+  pub tolerance-above : (z : ℤ) → lt_z (pos tolerance_limit) z ≡ true → refused 10 ≡ answer z
   unfolding tolerated
-  tolerance-above z n e h = rw (e, lt-leb n tolerance_limit h)
+  tolerance-above (pos n) e = rw (lt-leb n tolerance_limit (ltb-true tolerance_limit n e)) refl
+  tolerance-above (negsuc n) e = refl
 
-  pub tolerance-within : (z : ℤ) (n : ℕ) → z ≡ pos n → n ≤ tolerance_limit → answered (verdict T M L n (nodes_in table) figures) ≡ answer z
+  pub tolerance-within : (z : ℤ) → lt_z z (pos 0) ≡ false → lt_z (pos tolerance_limit) z ≡ false → answered (verdict T M L (nat_abs z) (nodes_in table) figures) ≡ answer z
   unfolding tolerated
-  tolerance-within z n e h = rw (e, le-leb n tolerance_limit h)
+  tolerance-within (pos n) h e = rw (le-leb n tolerance_limit (ltb-false tolerance_limit n e)) refl
+  tolerance-within (negsuc n) h e = absurd (cc)
 
   -- ---- the count of the figures
 

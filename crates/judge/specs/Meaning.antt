@@ -1,4 +1,5 @@
 -- What a ruling says: "Where an answer is an enum, a definition gives this paper's number and values for each of its cases."
+use Rattle.std.specs.Prelude.{Result, Ok, Err}
 use Rattle.rules.specs.Demands.{Answer}
 use Rattle.rules.specs.Demands.Answer.{refused, answered}
 use Rattle.rules.specs.Judge as Judge
@@ -6,8 +7,7 @@ use Rattle.rules.specs.Judge.VerdictWith.{outside, not-binary, broken, passed}
 use Rattle.answers.specs.Meaning.{number_of}
 use Rattle.judge.specs.declared.Verdict.{Verdict}
 use Rattle.judge.specs.declared.Verdict.TheVariants.{Outside, NotBinary, Broken, Passed}
-use Rattle.judge.specs.declared.Ruling.{Ruling}
-use Rattle.judge.specs.declared.Ruling.TheVariants.{Refused, Judged}
+use Rattle.answers.specs.declared.Refusal.{Refusal}
 
 abbrev pub verdict_of : Verdict → Judge.Verdict
 verdict_of (Outside v) = outside v
@@ -15,6 +15,6 @@ verdict_of (NotBinary v) = not-binary v
 verdict_of (Broken d i) = broken i d
 verdict_of (Passed n error) = passed n error
 
-abbrev pub ruling_of : Ruling → Answer Judge.Verdict
-ruling_of (Refused r) = refused (number_of r)
-ruling_of (Judged v) = answered (verdict_of v)
+abbrev pub ruling_of : Result Verdict Refusal → Answer Judge.Verdict
+ruling_of (Err r) = refused (number_of r)
+ruling_of (Ok v) = answered (verdict_of v)

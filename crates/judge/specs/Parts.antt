@@ -1,5 +1,5 @@
 -- The verdict, from its end.
-use Rattle.std.specs.Prelude.{◌≡◌, List, ℕ, ◌*◌, ℤ, length}
+use Rattle.std.specs.Prelude.{◌≡◌, List, ℕ, Ok, Err, ◌*◌, ℤ, length}
 use Rattle.std.proofs.Math.Path.{refl, sym}
 use Rattle.std.proofs.Common.{ap, ap₂, ◌∙◌}
 use Rattle.std.proofs.Math.Option.{Option, none, some}
@@ -12,9 +12,8 @@ use Rattle.rules.specs.Judge.VerdictWith.{outside, not-binary, broken, passed}
 use Rattle.rules.specs.Judge.{shortfall, no_row}
 use Rattle.rules.specs.Errors.Figures.{root_error}
 use Rattle.rules.specs.Verdicts.{or_else, first_outside, first_not_binary, first_broken, broken_at, verdict}
-use Rattle.judge_slot.specs.declared.Search.{Search}
-use Rattle.judge_slot.specs.declared.Search.TheVariants.{Clear, Broken}
-use Rattle.judge_slot.specs.Searches.{tested, first-broken, shortfall-of, all-clear}
+use Rattle.judge_slot.specs.declared.Broken.{Broken}
+use Rattle.judge_slot.specs.Searches.{Search, tested, first-broken, shortfall-of, all-clear}
 use Rattle.judge_slot.specs.Searches as Searches
 use Rattle.judge_limits.specs.Tests.{outside_at, not_binary_at}
 
@@ -29,17 +28,17 @@ module _ (T M L e : ℕ) (ns : List Node) (xs : List ℤ) where
   unfolding verdict atoms_verdict rows_verdict
   verdict-is = refl
 
-  pub broken-is : (s : Search) → s ≡ tested e (shortfall xs) (Clear 0) (rows_of T M L ns) → first_broken T M L e ns xs ≡ Searches.broken s
+  pub broken-is : (s : Search) → s ≡ tested e (shortfall xs) (Ok 0) (rows_of T M L ns) → first_broken T M L e ns xs ≡ Searches.broken s
   broken-is s p = sym (first-broken e (shortfall xs) no_row (rows_of T M L ns)) ∙ ap Searches.broken (sym p)
 
-  pub broken-verdict : (i : ℕ) (d : ℤ) → Broken d i ≡ tested e (shortfall xs) (Clear 0) (rows_of T M L ns) → broken i d ≡ rows_verdict
+  pub broken-verdict : (b : Broken) → Err b ≡ tested e (shortfall xs) (Ok 0) (rows_of T M L ns) → broken b.row b.shortfall ≡ rows_verdict
   unfolding rows_verdict
-  broken-verdict i d p = rw (broken-is (Broken d i) p) (ap (broken i) (shortfall-of e (shortfall xs) no_row (rows_of T M L ns) i d (sym p)))
+  broken-verdict b p = rw (broken-is (Err b) p) (ap (broken b.row) (shortfall-of e (shortfall xs) no_row (rows_of T M L ns) b (sym p)))
 
-  pub clear-verdict : (n f : ℕ) → Clear n ≡ tested e (shortfall xs) (Clear 0) (rows_of T M L ns) → f ≡ root_error T L e ns → passed n f ≡ rows_verdict
+  pub clear-verdict : (n f : ℕ) → Ok n ≡ tested e (shortfall xs) (Ok 0) (rows_of T M L ns) → f ≡ root_error T L e ns → passed n f ≡ rows_verdict
   unfolding rows_verdict
   clear-verdict n f p q =
-      rw (broken-is (Clear n) p)
+      rw (broken-is (Ok n) p)
       (ap₂ passed (all-clear e (shortfall xs) (rows_of T M L ns) 0 n (sym p) ∙ zero-add (length (rows_of T M L ns))) q)
 
   pub atoms-found : (k v : ℕ) → k ≡ M * T → first (not_binary_at e xs) k 0 ≡ some v → not-binary v ≡ atoms_verdict

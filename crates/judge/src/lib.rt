@@ -3,24 +3,21 @@
 
 ghost use Rattle.std.specs.Prelude.{◌≡◌, ◌*◌, ◌≤◌, length};
 ghost use Rattle.rules.specs.Rows.{variable_count};
-ghost use Rattle.rules.specs.TableTest.{record_count, nodes_in};
+ghost use Rattle.rules.specs.TableTest.{nodes_in};
 ghost use Rattle.rules.specs.Outcome.{judge_outcome};
 ghost use Rattle.rules.specs.Verdicts as Verdicts;
-ghost use Rattle.table.specs.Checks.{Ready};
-ghost use Rattle.judge_slot.specs.Spreads.{Limited};
 ghost use Rattle.judge.specs.Meaning.{verdict_of, ruling_of};
 ghost use Rattle.judge.specs.Checks.{tolerated, counted};
 ghost use Rattle.judge.specs.Parts.{rows_verdict, atoms_verdict};
 
 use answers::Refusal;
-use judge_limits::Found;
-use judge_slot::Search;
-use table::Checked;
+use judge_slot::{Broken, LimitedTest, Test};
+use table::Plan;
 
 // The largest tolerance, in millionths.
-const TOLERANCE: u32 = 1_000;
+const TOLERANCE: i32 = 1_000;
 
-#[derive(Clone, Copy)]
+#[derive(Clone, Copy, Debug, PartialEq, Eq)]
 pub enum Verdict {
     // the lowest variable outside the limits
     Outside(usize),
@@ -32,127 +29,90 @@ pub enum Verdict {
     Passed { rows: usize, error: u32 },
 }
 
-#[derive(Clone, Copy)]
-pub enum Ruling {
-    Refused(Refusal),
-    Judged(Verdict),
-}
-
 // The verdict where no figure is outside and every atom is binary.
-fn rows_verdict(
-    table: &[u8],
-    n: usize,
-    t: usize,
-    m: usize,
-    l: usize,
-    figures: &[i32],
-    e: u16,
-) -> Verdict
-    requires { Ready t m l table.now × (n ≡ record_count table.now) × Limited figures.now }
-    ensures { verdict_of result ≡ rows_verdict t m l e (nodes_in table.now) figures.now }
+fn rows_verdict(plan: Plan, test: LimitedTest) -> Verdict
+    ensures { verdict_of result ≡ rows_verdict plan.entry.t plan.entry.m plan.entry.l test.entry.test.e (nodes_in plan.entry.table.now)
+        test.entry.test.figures.now }
 {
-    let rows = judge_search::test_all(table, n, t, m, l, figures, e);
-    match rows {
-        Search::Broken { shortfall, row } => Verdict::Broken { shortfall, row },
-        Search::Clear(count) => Verdict::Passed {
-            rows: count,
-            error: judge_errors::root_figure(table, n, t, m, l, e),
+    match judge_search::test_all(plan, test) {
+        Err(Broken { shortfall, row }) => Verdict::Broken { shortfall, row },
+        Ok(rows) => Verdict::Passed {
+            rows,
+            error: judge_errors::root_figure(plan, test.test.e),
         },
     }
 }
 
 // The verdict where no figure is outside.
-fn atoms_verdict(
-    table: &[u8],
-    n: usize,
-    t: usize,
-    m: usize,
-    l: usize,
-    figures: &[i32],
-    e: u16,
-) -> Verdict
-    requires { Ready t m l table.now × (n ≡ record_count table.now) × (m * t ≤ length figures.now) × Limited figures.now }
-    ensures { verdict_of result ≡ atoms_verdict t m l e (nodes_in table.now) figures.now }
+fn atoms_verdict(plan: Plan, test: LimitedTest) -> Verdict
+    requires { plan.m * plan.t ≤ length test.test.figures.now }
+    ensures { verdict_of result ≡ atoms_verdict plan.entry.t plan.entry.m plan.entry.l test.entry.test.e (nodes_in plan.entry.table.now)
+        test.entry.test.figures.now }
 {
-    let atoms = row::first_variable(m, t) as usize;
-    let binary = judge_limits::first_not_binary(figures, atoms, e);
-    match binary {
-        Found::At(v) => Verdict::NotBinary(v),
-        Found::Nowhere => rows_verdict(table, n, t, m, l, figures, e),
+    let Test { figures, e } = test.test;
+    let atoms = usize::from(row::first_variable(plan.m, plan.t));
+    match judge_limits::first_not_binary(figures, atoms, e) {
+        Some(v) => Verdict::NotBinary(v),
+        None => rows_verdict(plan, test),
     }
 }
 
 // The verdict on the figures of a checked table's variables.
-fn verdict_of(
-    table: &[u8],
-    n: usize,
-    t: usize,
-    m: usize,
-    l: usize,
-    figures: &[i32],
-    e: u16,
-) -> Verdict
-    requires { Ready t m l table.now × (n ≡ record_count table.now) × (length figures.now ≡ variable_count t m l (nodes_in table.now)) }
-    ensures { verdict_of result ≡ Verdicts.verdict t m l e (nodes_in table.now) figures.now }
+fn verdict_of(plan: Plan, test: Test) -> Verdict
+    requires { length test.figures.now ≡ variable_count plan.t plan.m plan.l (nodes_in plan.table.now) }
+    ensures { verdict_of result ≡ Verdicts.verdict plan.entry.t plan.entry.m plan.entry.l test.entry.e (nodes_in plan.entry.table.now) test.entry.figures.now }
 {
-    let all = figures.len();
-    let outside = judge_limits::first_outside(figures, all, e);
-    match outside {
-        Found::At(v) => Verdict::Outside(v),
-        Found::Nowhere => atoms_verdict(table, n, t, m, l, figures, e),
+    let all = test.figures.len();
+    match judge_limits::first_outside(test.figures, all, test.e) {
+        Some(v) => Verdict::Outside(v),
+        None => atoms_verdict(plan, LimitedTest { test }),
     }
 }
 
 // The ruling where the table is checked and the figures are as many as the variables.
-fn judge_counted(
+fn judge_counted(plan: Plan, figures: &[i32], e: i32) -> Result<Verdict, Refusal>
+    requires { length figures.now ≡ variable_count plan.t plan.m plan.l (nodes_in plan.table.now) }
+    ensures { ruling_of result ≡ tolerated plan.entry.t plan.entry.m plan.entry.l plan.entry.table.now figures.now e }
+{
+    if e < 0 || TOLERANCE < e {
+        return Err(Refusal::Tolerance);
+    }
+    let test = Test {
+        figures,
+        e: e as u16,
+    };
+    Ok(verdict_of(plan, test))
+}
+
+// How many variables there are.
+fn variable_count(plan: Plan) -> usize
+    ensures { result ≡ variable_count plan.entry.t plan.entry.m plan.entry.l (nodes_in plan.entry.table.now) }
+{
+    let slacks = plan.nodes + plan.kept_count();
+    usize::from(row::first_variable(plan.m + slacks, plan.t))
+}
+
+// The ruling where the table is checked.
+fn judge_checked(plan: Plan, figures: &[i32], e: i32) -> Result<Verdict, Refusal>
+    ensures { ruling_of result ≡ counted plan.entry.t plan.entry.m plan.entry.l plan.entry.table.now figures.now e }
+{
+    if figures.len() != variable_count(plan) {
+        return Err(Refusal::Figures);
+    }
+    judge_counted(plan, figures, e)
+}
+
+// Judges figures, one for each variable, with a tolerance; after slot t comes slot l again. It writes nothing.
+pub fn judge(
     table: &[u8],
-    n: usize,
     t: usize,
     m: usize,
     l: usize,
     figures: &[i32],
     e: i32,
-) -> Ruling
-    requires { Ready t m l table.now × (n ≡ record_count table.now) × (length figures.now ≡ variable_count t m l (nodes_in table.now)) }
-    ensures { ruling_of result ≡ tolerated t m l table.now figures.now e }
-{
-    if e < 0 {
-        return Ruling::Refused(Refusal::Tolerance);
-    }
-    let tolerance = e as u32;
-    if TOLERANCE < tolerance {
-        return Ruling::Refused(Refusal::Tolerance);
-    }
-    Ruling::Judged(verdict_of(table, n, t, m, l, figures, tolerance as u16))
-}
-
-// How many variables there are, of a checked table of n nodes.
-fn variable_count(table: &[u8], n: usize, t: usize, m: usize, l: usize) -> usize
-    requires { Ready t m l table.now × (n ≡ record_count table.now) }
-    ensures { result ≡ variable_count t m l (nodes_in table.now) }
-{
-    row::first_variable(m + (n + table::kept_count(table, t, l)), t) as usize
-}
-
-// The ruling where the table is checked.
-fn judge_checked(table: &[u8], t: usize, m: usize, l: usize, figures: &[i32], e: i32) -> Ruling
-    requires { Ready t m l table.now }
-    ensures { ruling_of result ≡ counted t m l table.now figures.now e }
-{
-    let n = table::count(table);
-    if figures.len() != variable_count(table, n, t, m, l) {
-        return Ruling::Refused(Refusal::Figures);
-    }
-    judge_counted(table, n, t, m, l, figures, e)
-}
-
-// Judges figures, one for each variable, with a tolerance; after slot t comes slot l again. It writes nothing.
-pub fn judge(table: &[u8], t: usize, m: usize, l: usize, figures: &[i32], e: i32) -> Ruling
+) -> Result<Verdict, Refusal>
     ensures { ruling_of result ≡ judge_outcome t m l table.now figures.now e }
 {
-    let checked = table::check(table, t, m, l);
-    match checked {
-        Checked::Refused(r) => Ruling::Refused(r),
-        Checked::Passed => judge_checked(table, t, m, l, figures, e),
-    }
+    let plan = table::check(table, t, m, l)?;
+    judge_checked(plan, figures, e)
 }

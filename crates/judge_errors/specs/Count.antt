@@ -1,5 +1,5 @@
 -- What a node counts at a slot, by the kind that its record has. Slots count from 0 here.
-use Rattle.std.specs.Prelude.{◌≡◌, refl, Bool, true, false, cond, ◌||◌, List, ℕ, ◌+◌, ◌-◌, ◌*◌, ◌≤◌, ◌<◌, min, ltb, length}
+use Rattle.std.specs.Prelude.{◌≡◌, Some, None, is_some, unwrap_or, refl, Bool, true, false, cond, ◌||◌, List, ℕ, ◌+◌, ◌-◌, ◌*◌, ◌≤◌, ◌<◌, min, ltb, length}
 use Rattle.std.proofs.Common.{sym, ap, ap₂, ◌∙◌, add-zero, arith, ltb-false}
 use Rattle.lists.specs.Place.{place_end}
 use Rattle.rules.specs.Quantities.{one, WindowAllowed}
@@ -44,19 +44,26 @@ figure_now T L e l nd s x =
 abbrev pub figure_atom : (e s x : ℕ) → ℕ
 figure_atom e s x = raised e e
 
+-- whether there are two parts, and the last of them
+abbrev pub two_of : Parts → Bool
+two_of p = is_some p.right
+
+abbrev pub right_of : Parts → ℕ
+right_of p = unwrap_or p.right p.left
+
 -- the parts at slot s
 abbrev pub parts_at : (T : ℕ) → List ℕ → Parts → (s : ℕ) → ℕ
-parts_at T l p s = figure_at T l p.left s + cond p.two (figure_at T l p.right s) 0
+parts_at T l p s = figure_at T l p.left s + cond (two_of p) (figure_at T l (right_of p) s) 0
 
 abbrev pub figure_here : (T e : ℕ) → List ℕ → Parts → (s x : ℕ) → ℕ
 figure_here T e l p s x = raised e (parts_at T l p s)
 
 -- F, G and U: where something follows, the parts, and else the right one alone; and with x, the figure of what follows
 abbrev pub later_at : (T : ℕ) → List ℕ → Parts → (follows : Bool) → (s : ℕ) → ℕ
-later_at T l p follows s = cond follows (parts_at T l p s) (figure_at T l p.right s)
+later_at T l p follows s = cond follows (parts_at T l p s) (figure_at T l (right_of p) s)
 
 abbrev chained : (T e : ℕ) → List ℕ → Parts → (follows : Bool) → (s x : ℕ) → ℕ
-chained T e l p follows s x = raised e (cond follows (parts_at T l p s + x) (figure_at T l p.right s))
+chained T e l p follows s x = raised e (cond follows (parts_at T l p s + x) (figure_at T l (right_of p) s))
 
 -- of a V
 abbrev pub kept_later : (T e : ℕ) → List ℕ → Parts → (s x : ℕ) → ℕ
@@ -76,19 +83,19 @@ figure_by Window T L e l p a b s x = figure_now T L e l (windowed within a b p.l
 
 -- ---- a node of each kind: where it has one part, that one stands for the right too
 
-abbrev parts_of : Kind → (l r : ℕ) → Parts
-parts_of k l r = record { left = l; right = cond (is_binary k) r l; two = is_binary k }
+abbrev pub parts_of : Kind → (l r : ℕ) → Parts
+parts_of k l r = record { left = l; right = cond (is_binary k) (Some r) None }
 
 module _ (T L e : ℕ) (m : List ℕ) (l r a b : ℕ) where
   slot : (s : ℕ) → s + 1 - 1 ≡ s
   slot s = omega arith
 
   -- one part, as it is counted and as the definition has it
-  one-part : (follows : Bool) (s x : ℕ) → chained T e m (record { left = l; right = l; two = false }) follows s x ≡
+  one-part : (follows : Bool) (s x : ℕ) → chained T e m (record { left = l; right = None }) follows s x ≡
       raised e (cond follows (figure_at T m l (s + 1 - 1) + x) (figure_at T m l (s + 1 - 1)))
   one-part follows s x = rw slot (ap (λ (y : ℕ). raised e (cond follows (y + x) (figure_at T m l s))) (add-zero (figure_at T m l s)))
 
-  two-parts : (follows : Bool) (s x : ℕ) → chained T e m (record { left = l; right = r; two = true }) follows s x ≡
+  two-parts : (follows : Bool) (s x : ℕ) → chained T e m (record { left = l; right = Some r }) follows s x ≡
       raised e (cond follows (figure_at T m l (s + 1 - 1) + figure_at T m r (s + 1 - 1) + x) (figure_at T m r (s + 1 - 1)))
   two-parts follows s x = rw slot refl
 
@@ -122,7 +129,7 @@ module _ (T L e : ℕ) (m : List ℕ) (l r a b : ℕ) where
 -- what is counted is there
 pub record PartsBelow (n : ℕ) (p : Parts) : Type 0 where
   pub left_below : p.left < n
-  pub right-below : p.right < n
+  pub right-below : right_of p < n
 
 abbrev pub GoodBy : Counting → (n : ℕ) → Parts → (a b : ℕ) → Type 0
 GoodBy Atom n p a b = Unit {0}
@@ -143,22 +150,19 @@ good-by M n l r a b Kinds.Within g = g
 good-by M n l r a b Kinds.Throughout g = g
 
 -- by what the code found of the kind
-module _ (k : Kind) (c : Counting) (right : ℕ) (two : Bool) (l r a b : ℕ) (is : c ≡ counting_of k) (both : two ≡ is_binary k) (at : right ≡ cond two r l) where
-  abbrev found : Parts
-  found = record { left = l; right = right; two = two }
+module _ (k : Kind) (c : Counting) (p : Parts) (l r a b : ℕ) (is : c ≡ counting_of k) (at : p ≡ parts_of k l r) where
+  pub good-found : (M n : ℕ) → NodeGood M n (node_by k l r a b) → GoodBy c n p a b
+  good-found M n g = rw (is, at) (good-by M n l r a b k g)
 
-  pub good-found : (M n : ℕ) → NodeGood M n (node_by k l r a b) → GoodBy c n found a b
-  good-found M n g = rw (is, at, both) (good-by M n l r a b k g)
-
-  pub figure-found : (T L e : ℕ) (m : List ℕ) (s x : ℕ) → figure_by c T L e m found a b s x ≡ figure_now T L e m (node_by k l r a b) s x
-  figure-found T L e m s x = rw (is, at, both) (by_counting T L e m l r a b s x k)
+  pub figure-found : (T L e : ℕ) (m : List ℕ) (s x : ℕ) → figure_by c T L e m p a b s x ≡ figure_now T L e m (node_by k l r a b) s x
+  figure-found T L e m s x = rw (is, at) (by_counting T L e m l r a b s x k)
 
 -- the places of the parts are there
 pub record PartsIn (T : ℕ) (p : Parts) (l : List ℕ) : Type 0 where
   pub left_in : p.left * T + T ≤ length l
-  pub right-in : p.right * T + T ≤ length l
+  pub right-in : right_of p * T + T ≤ length l
   pub left-few : p.left < 128
-  pub right-few : p.right < 128
+  pub right-few : right_of p < 128
   pub slots : T ≤ 64
 
 pub parts_in : {T n : ℕ} {p : Parts} {l : List ℕ} (m : List ℕ) → Room T n l → PartsBelow n p → length m ≡ length l → PartsIn T p m
@@ -174,7 +178,7 @@ parts_in {T} m r b e = record {
 module _ {T n : ℕ} {f : (s x : ℕ) → ℕ} {l : List ℕ} {k : ℕ} {m : List ℕ} (w : Worked T n f l k m) {p : Parts} (h : PartsBelow n p) (s : ℕ) (in-run : s < T)
   where
     pub parts-read : parts_at T m p s ≡ parts_at T l p s
-    parts-read = ap₂ (λ (x y : ℕ). x + cond p.two y 0) (worked_below w h.left_below in-run) (worked_below w h.right-below in-run)
+    parts-read = ap₂ (λ (x y : ℕ). x + cond (two_of p) y 0) (worked_below w h.left_below in-run) (worked_below w h.right-below in-run)
 
     pub later-read : (follows : Bool) → later_at T m p follows s ≡ later_at T l p follows s
     later-read follows = ap₂ (cond follows) parts-read (worked_below w h.right-below in-run)
@@ -188,7 +192,7 @@ module _ (T L e : ℕ) (l : List ℕ) (p : Parts) (s : ℕ) (low : 0 < s) where
   all = parts_at T l p (s - 1)
 
   abbrev last : ℕ
-  last = figure_at T l p.right (s - 1)
+  last = figure_at T l (right_of p) (s - 1)
 
   pub kept_more : {sum : ℕ} → s ≤ T → Summed T s (down T (kept_later T e l p) (T - s)) sum →
       min one (sum + (e + later_at T l p (ltb s T) (s - 1))) ≡ down T (kept_later T e l p) (T - (s - 1))

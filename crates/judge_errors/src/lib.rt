@@ -9,16 +9,14 @@ ghost use Rattle.rules.specs.Table.{node_at};
 ghost use Rattle.rules.specs.Table.Node.{windowed};
 ghost use Rattle.rules.specs.TableTest.{record_count, nodes_in};
 ghost use Rattle.rules.specs.Errors.Figures.{root_error};
-ghost use Rattle.table.specs.Checks.{Ready};
-ghost use Rattle.window.specs.Slots.{Few};
 ghost use Rattle.judge_errors.specs.Worked.{places, Room, Small, figure_at, Done, down};
 ghost use Rattle.judge_errors.specs.Window.{Running, Rising, rise, window_rise};
-ghost use Rattle.judge_errors.specs.Count.{counting_of, PartsIn, PartsBelow, parts_at, later_at};
+ghost use Rattle.judge_errors.specs.Count.{counting_of, parts_of, PartsIn, PartsBelow, parts_at, later_at};
 ghost use Rattle.judge_errors.specs.Count.{figure_now, figure_atom, figure_here, kept_later, later_end, figure_later};
-ghost use Rattle.judge_errors.specs.Known.{Known, Countable};
+ghost use Rattle.judge_errors.specs.Known.{Known};
 
 use millionths::Millionths;
-use table::Kind;
+use table::{Kind, Node, Plan};
 use window::Looks;
 
 // The places of the error figures of 128 nodes at 64 slots.
@@ -28,7 +26,7 @@ const PLACES: usize = 8192;
 const SUMS: usize = 65;
 
 // What a node counts beside e.
-#[derive(Clone, Copy)]
+#[derive(Clone, Copy, Debug, PartialEq, Eq)]
 enum Counting {
     // its atom's variable
     Atom,
@@ -40,12 +38,11 @@ enum Counting {
     Window,
 }
 
-// The nodes that a node has as its parts; where it has one, that is the right one too.
+// The nodes that a node has as its parts.
 #[derive(Clone, Copy)]
 struct Parts {
     left: usize,
-    right: usize,
-    two: bool,
+    right: Option<usize>,
 }
 
 // A window over a part.
@@ -62,15 +59,23 @@ fn counted_by(kind: Kind) -> Counting
 {
     match kind {
         Kind::Atom => Counting::Atom,
-        Kind::Not => Counting::Here,
-        Kind::And => Counting::Here,
-        Kind::Or => Counting::Here,
-        Kind::Implies => Counting::Here,
-        Kind::Eventually => Counting::Later,
-        Kind::Always => Counting::Later,
-        Kind::Until => Counting::Later,
-        Kind::Within => Counting::Window,
-        Kind::Throughout => Counting::Window,
+        Kind::Not | Kind::And | Kind::Or | Kind::Implies => Counting::Here,
+        Kind::Eventually | Kind::Always | Kind::Until => Counting::Later,
+        Kind::Within | Kind::Throughout => Counting::Window,
+    }
+}
+
+// The parts of a node.
+fn parts_of(node: Node) -> Parts
+    ensures { result ≡ parts_of node.kind node.left node.right }
+{
+    Parts {
+        left: node.left,
+        right: if table::is_binary(node.kind) {
+            Some(node.right)
+        } else {
+            None
+        },
     }
 }
 
@@ -79,7 +84,7 @@ fn stopped(sum: u32) -> u32
     ensures { result ≡ min one sum }
 {
     let one = Millionths::ONE.value as u32;
-    if sum < one { sum } else { one }
+    sum.min(one)
 }
 
 // Where the error figures of node c start.
@@ -103,18 +108,14 @@ fn parts_sum(figures: &[u32], t: usize, s: usize, parts: Parts) -> u32
     requires { PartsIn t parts figures.now × (s < t) × Small figures.now }
     ensures { (result ≡ parts_at t figures.now parts s) × (result ≤ 2 * one) }
 {
-    let p = parts.left;
-    let q = parts.right;
-    let two = parts.two;
-    let left = figure_at(figures, t, p, s);
-    if two {
-        left + figure_at(figures, t, q, s)
-    } else {
-        left
+    let left = figure_at(figures, t, parts.left, s);
+    match parts.right {
+        Some(right) => left + figure_at(figures, t, right, s),
+        None => left,
     }
 }
 
-// What F, G and U count at slot s beside what follows: their parts and, where nothing follows, the right one alone.
+// What F, G and U count at slot s beside what follows: their parts and, where nothing follows, the last of them alone.
 fn later_sum(figures: &[u32], t: usize, s: usize, parts: Parts, follows: bool) -> u32
     requires { PartsIn t parts figures.now × (s < t) × Small figures.now }
     ensures { (result ≡ later_at t figures.now parts follows s) × (result ≤ 2 * one) }
@@ -122,7 +123,7 @@ fn later_sum(figures: &[u32], t: usize, s: usize, parts: Parts, follows: bool) -
     if follows {
         parts_sum(figures, t, s, parts)
     } else {
-        figure_at(figures, t, parts.right, s)
+        figure_at(figures, t, parts.right.unwrap_or(parts.left), s)
     }
 }
 
@@ -133,11 +134,8 @@ fn kept_figure(figures: &[u32], t: usize, l: usize, parts: Parts, e: u16) -> u32
     ensures { (result ≡ down t (kept_later t e figures.now parts) (t + 1 - l)) × (result ≤ one) }
 {
     let mut sum: u32 = 0;
-    let mut s = t;
-    while l <= s {
-        let follows = s < t;
-        s -= 1;
-        sum += e as u32 + later_sum(figures, t, s, parts, follows);
+    for s in (l - 1..t).rev() {
+        sum += u32::from(e) + later_sum(figures, t, s, parts, s + 1 < t);
     }
     stopped(sum)
 }
@@ -160,10 +158,8 @@ fn work_atom(figures: &mut [u32], t: usize, n: usize, e: u16)
     ensures { Done t n (figure_atom e) figures.old figures.new }
 {
     let here = place(n, t);
-    let figure = stopped(e as u32 + e as u32);
-    let mut s = t;
-    while 0 < s {
-        s -= 1;
+    let figure = stopped(u32::from(e) + u32::from(e));
+    for s in (0..t).rev() {
         figures[here + s] = figure;
     }
 }
@@ -174,10 +170,8 @@ fn work_here(figures: &mut [u32], t: usize, n: usize, parts: Parts, e: u16)
     ensures { Done t n (figure_here t e figures.old parts) figures.old figures.new }
 {
     let here = place(n, t);
-    let mut s = t;
-    while 0 < s {
-        s -= 1;
-        figures[here + s] = stopped(e as u32 + parts_sum(figures, t, s, parts));
+    for s in (0..t).rev() {
+        figures[here + s] = stopped(u32::from(e) + parts_sum(figures, t, s, parts));
     }
 }
 
@@ -189,11 +183,9 @@ fn work_later(figures: &mut [u32], t: usize, l: usize, n: usize, parts: Parts, e
     let here = place(n, t);
     let loops = l < t;
     let mut sum = end_figure(figures, t, l, parts, e);
-    let mut s = t;
-    while 0 < s {
-        let follows = scalars::either(s < t, loops);
-        s -= 1;
-        sum += e as u32 + later_sum(figures, t, s, parts, follows);
+    for s in (0..t).rev() {
+        let follows = s + 1 < t || loops;
+        sum += u32::from(e) + later_sum(figures, t, s, parts, follows);
         figures[here + s] = stopped(sum);
     }
 }
@@ -204,11 +196,9 @@ fn sum_up(figures: &[u32], p: usize, t: usize, sums: &mut [u32])
     ensures { Running figures.now p t sums.new }
 {
     let mut sum: u32 = 0;
-    let mut i: usize = 0;
-    while i < t {
+    for i in 0..t {
         sum += figures[p + i];
-        i += 1;
-        sums[i] = sum;
+        sums[i + 1] = sum;
     }
 }
 
@@ -222,13 +212,13 @@ fn between(sums: &[u32], i: usize, k: usize) -> u32
 
 // The figures at a window's slots, which are in one range or in two, together.
 fn window_sum(sums: &[u32], looks: Looks) -> u32
-    requires { Few looks × Rising (looks.first + looks.count + looks.skip) sums.now }
+    requires { Rising (looks.first + looks.count + looks.skip) sums.now }
     ensures { (result ≡ window_rise looks sums.now) × (result ≤ 128 * one) }
 {
-    let first = looks.first as usize;
-    let head = looks.head as usize;
-    let next = first + head + looks.skip as usize;
-    between(sums, first, head) + between(sums, next, looks.rest as usize)
+    let first = usize::from(looks.first);
+    let head = usize::from(looks.head);
+    let next = first + head + usize::from(looks.skip);
+    between(sums, first, head) + between(sums, next, usize::from(looks.rest))
 }
 
 // Writes the error figures of node n, which counts its part at the slots of its window.
@@ -240,103 +230,90 @@ fn work_window(figures: &mut [u32], t: usize, l: usize, n: usize, x: Windowed, e
     let here = place(n, t);
     let mut sums = [0u32; SUMS];
     sum_up(figures, place(x.part, t), t, &mut sums);
-    let mut s = t;
-    while 0 < s {
-        s -= 1;
+    for s in (0..t).rev() {
         let looks = window::look(t as u16, l as u16, s as u16, x.from, x.to);
-        figures[here + s] = stopped(e as u32 + window_sum(&sums, looks));
+        figures[here + s] = stopped(u32::from(e) + window_sum(&sums, looks));
     }
 }
 
 // Writes the error figures of node n of the table.
-fn work_one(table: &[u8], n: usize, t: usize, l: usize, e: u16, figures: &mut [u32])
-    requires { Countable t l table.now × (n < record_count table.now) × (n * t + t ≤ length figures.old) × Small figures.old }
-    ensures { Done t n (figure_now t l e figures.old (node_at (nodes_in table.now) n))
+fn work_one(plan: Plan, n: usize, e: u16, figures: &mut [u32])
+    requires { (n < record_count plan.table.now) × (n * plan.t + plan.t ≤ length figures.old) × Small figures.old }
+    ensures { Done plan.entry.t n (figure_now plan.entry.t plan.entry.l e figures.old (node_at (nodes_in plan.entry.table.now) n))
         figures.old figures.new }
 {
-    let node = table::node_at(table, n);
-    let kind = node.kind;
-    let left = node.left;
-    let two = table::is_binary(kind);
-    let parts = Parts {
-        left: left,
-        right: scalars::pick(two, node.right, left),
-        two: two,
-    };
+    let node = plan.node(n);
+    let parts = parts_of(node);
     let over = Windowed {
-        part: left,
+        part: parts.left,
         from: node.from as u16,
         to: node.to as u16,
     };
-    match counted_by(kind) {
-        Counting::Atom => work_atom(figures, t, n, e),
-        Counting::Here => work_here(figures, t, n, parts, e),
-        Counting::Later => work_later(figures, t, l, n, parts, e),
-        Counting::Window => work_window(figures, t, l, n, over, e),
+    match counted_by(node.kind) {
+        Counting::Atom => work_atom(figures, plan.t, n, e),
+        Counting::Here => work_here(figures, plan.t, n, parts, e),
+        Counting::Later => work_later(figures, plan.t, plan.l, n, parts, e),
+        Counting::Window => work_window(figures, plan.t, plan.l, n, over, e),
     }
 }
 
-// Writes the error figures of n nodes, in number order: children stand below their node.
-fn work(table: &[u8], n: usize, t: usize, l: usize, e: u16, figures: &mut [u32])
-    requires { Countable t l table.now × (n ≡ record_count table.now) × (n * t ≤ length figures.old) × Small figures.old }
-    ensures { Known t l e (nodes_in table.now) (length figures.old) n figures.new }
+// Writes the error figures of the nodes, in number order: children stand below their node.
+fn work(plan: Plan, e: u16, figures: &mut [u32])
+    requires { (plan.nodes * plan.t ≤ length figures.old) × Small figures.old }
+    ensures { Known plan.entry.t plan.entry.l e (nodes_in plan.entry.table.now) (length figures.old) plan.entry.nodes figures.new }
 {
-    let mut i: usize = 0;
-    while i < n {
-        work_one(table, i, t, l, e, figures);
-        i += 1;
+    for n in 0..plan.nodes {
+        work_one(plan, n, e, figures);
     }
 }
 
 // The root's error figure at slot 1, worked out in the lent places.
-fn root_in(table: &[u8], n: usize, t: usize, l: usize, e: u16, figures: &mut [u32]) -> u32
-    requires { Countable t l table.now × (n ≡ record_count table.now) × (n * t ≤ length figures.old) × Small figures.old }
-    ensures { result ≡ root_error t l e (nodes_in table.now) }
+fn root_in(plan: Plan, e: u16, figures: &mut [u32]) -> u32
+    requires { (plan.nodes * plan.t ≤ length figures.old) × Small figures.old }
+    ensures { result ≡ root_error plan.entry.t plan.entry.l e (nodes_in plan.entry.table.now) }
 {
-    work(table, n, t, l, e, figures);
-    figures[place(n - 1, t)]
+    work(plan, e, figures);
+    figures[place(plan.nodes - 1, plan.t)]
 }
 
 // The same in the lent places or, where they are too few, in its own. A function that calls itself does not become a part of its
 // caller, so the frame of these 32 KB is not made where no error figure is worked out.
-fn root_with(table: &[u8], n: usize, t: usize, l: usize, e: u16, figures: &mut [u32]) -> u32
-    requires { Countable t l table.now × (n ≡ record_count table.now) × Small figures.old }
-    ensures { result ≡ root_error t l e (nodes_in table.now) }
+fn root_with(plan: Plan, e: u16, figures: &mut [u32]) -> u32
+    requires { Small figures.old }
+    ensures { result ≡ root_error plan.entry.t plan.entry.l e (nodes_in plan.entry.table.now) }
 {
-    if figures.len() < place(n, t) {
+    if figures.len() < place(plan.nodes, plan.t) {
         let mut own = [0u32; PLACES];
-        return root_with(table, n, t, l, e, &mut own);
+        return root_with(plan, e, &mut own);
     }
-    root_in(table, n, t, l, e, figures)
+    root_in(plan, e, figures)
 }
 
 // Places are zeros before they are written. To clear those of the largest table takes longer than to judge a small one, so a small
 // table has 256 ..
-fn root_of_few(table: &[u8], n: usize, t: usize, l: usize, e: u16) -> u32
-    requires { Countable t l table.now × (n ≡ record_count table.now) × (n * t ≤ 256) }
-    ensures { result ≡ root_error t l e (nodes_in table.now) }
+fn root_of_few(plan: Plan, e: u16) -> u32
+    requires { plan.nodes * plan.t ≤ 256 }
+    ensures { result ≡ root_error plan.entry.t plan.entry.l e (nodes_in plan.entry.table.now) }
 {
     let mut figures = [0u32; 256];
-    root_in(table, n, t, l, e, &mut figures)
+    root_in(plan, e, &mut figures)
 }
 
 // .. and any other 896 at first, less than a page of the stack.
-fn root_of_more(table: &[u8], n: usize, t: usize, l: usize, e: u16) -> u32
-    requires { Countable t l table.now × (n ≡ record_count table.now) }
-    ensures { result ≡ root_error t l e (nodes_in table.now) }
+fn root_of_more(plan: Plan, e: u16) -> u32
+    ensures { result ≡ root_error plan.entry.t plan.entry.l e (nodes_in plan.entry.table.now) }
 {
     let mut figures = [0u32; 896];
-    root_with(table, n, t, l, e, &mut figures)
+    root_with(plan, e, &mut figures)
 }
 
-// The root's error figure at slot 1, of a checked table of n nodes.
-pub fn root_figure(table: &[u8], n: usize, t: usize, m: usize, l: usize, e: u16) -> u32
-    requires { Ready t m l table.now × (n ≡ record_count table.now) }
-    ensures { result ≡ root_error t l e (nodes_in table.now) }
+// The root's error figure at slot 1, of a checked table.
+pub fn root_figure(plan: Plan, e: u16) -> u32
+    ensures { result ≡ root_error plan.entry.t plan.entry.l e (nodes_in plan.entry.table.now) }
 {
-    if place(n, t) <= 256 {
-        root_of_few(table, n, t, l, e)
+    if place(plan.nodes, plan.t) <= 256 {
+        root_of_few(plan, e)
     } else {
-        root_of_more(table, n, t, l, e)
+        root_of_more(plan, e)
     }
 }

@@ -1,5 +1,5 @@
 -- The blocks of a node, its V's and its own, tested one after the other.
-use Rattle.std.specs.Prelude.{◌≡◌, refl, Bool, true, false, ◌&&◌, ℕ, zero, suc, ◌+◌, ◌*◌, ◌≤◌, ◌<◌, ltb, ℤ, length, take}
+use Rattle.std.specs.Prelude.{◌≡◌, Option, Some, None, refl, Bool, true, false, ◌&&◌, ℕ, zero, suc, ◌+◌, ◌*◌, ◌≤◌, ◌<◌, ltb, ℤ, length, take}
 use Rattle.std.proofs.Common.{sym, ap₂, ◌∙◌, arith}
 use Rattle.std.proofs.Math.Path.{ap}
 use Rattle.std.proofs.Math.Bool.{cond}
@@ -18,9 +18,8 @@ use Rattle.row.specs.declared.Block.{Block}
 use Rattle.row.specs.Kinds.{Allowed, allowed}
 use Rattle.row.specs.Placed.{first_limit, Placed}
 use Rattle.row.specs.NodeRows.{Own, Kept, block_on, block_rows, both-rows, part_rows}
-use Rattle.judge_slot.specs.declared.Search.{Search}
 use Rattle.judge_slot.specs.Counts as Counts
-use Rattle.judge_slot.specs.Searches.{tested, reached, over, tested-none, tested-start, tested-more, over-rest}
+use Rattle.judge_slot.specs.Searches.{Search, tested, reached, over, tested-none, tested-start, tested-more, over-rest}
 
 -- a block can be tested; a node's can, with its V, whose first variable is v
 pub record BlockReady (T L : ℕ) (b : Block) : Type 0 where
@@ -33,18 +32,24 @@ pub record NodeReady (T L : ℕ) (b : Block) (v : ℕ) : Type 0 where
   pub block : BlockReady T L b
   pub place-low : v ≤ first_limit
 
--- the i-th of a node's two blocks
-pub record NthBlock (v : ℕ) (b : Block) (i : ℕ) (c : Block) : Type 0 where
+-- the i-th of a node's two blocks, if it has it
+pub record NthIs (T L v : ℕ) (b : Block) (i : ℕ) (c : Block) : Type 0 where
+  pub has_it : i ≡ 0 → (ltb L T && loops_by b.kind) ≡ true
   pub kept : i ≡ 0 → Kept v b c
   pub own : i ≡ 1 → c ≡ b
+  pub placed : Placed c
 
-pub nth-ready : {T L : ℕ} {b : Block} {v i : ℕ} {c : Block} → NodeReady T L b v → i < 2 → NthBlock v b i c → Placed c → BlockReady T L c
-nth-ready {T} {L} {b} {v} {i} {c} r h n p = go i refl h
+abbrev pub NthBlock : (T L v : ℕ) (b : Block) (i : ℕ) → Option Block → Type 0
+NthBlock T L v b i (Some c) = NthIs T L v b i c
+NthBlock T L v b i None = (i ≡ 0) × ((ltb L T && loops_by b.kind) ≡ false)
+
+pub nth-ready : {T L : ℕ} {b : Block} {v i : ℕ} {c : Block} → NodeReady T L b v → i < 2 → NthIs T L v b i c → BlockReady T L c
+nth-ready {T} {L} {b} {v} {i} {c} r h n = go i refl h
   where
     go : (j : ℕ) → i ≡ j → j < 2 → BlockReady T L c
     go zero e g =
         let k = n.kept e in
-        record { slots-high = r.block.slots-high; loop = r.block.loop; placed = p; window = rw (k.kind_is, k.from_is, k.to_is) r.block.window }
+        record { slots-high = r.block.slots-high; loop = r.block.loop; placed = n.placed; window = rw (k.kind_is, k.from_is, k.to_is) r.block.window }
     go (suc zero) e g = rw (n.own e) r.block
     go (suc (suc j)) e g = absurd (omega arith)
 
@@ -55,71 +60,51 @@ kept_rows T L b c = cond (ltb L T && loops_by b.kind) (block_rows c T L) []
 kept_same : (T L : ℕ) {v : ℕ} {b c d : Block} → Kept v b c → Kept v b d → block_rows c T L ≡ block_rows d T L
 unfolding block_rows
 kept_same T L {c = c} {d = d} k j = flat-same (block_on c T L) (block_on d T L) T
-    (λ s h. rw (k.kind_is, k.own_is, k.left_is, k.right_is, k.from_is, k.to_is, k.loops_is, k.next-is)
-    (rw (j.kind_is, j.own_is, j.left_is, j.right_is, j.from_is, j.to_is, j.loops_is, j.next-is) refl))
+    (λ s h. rw (k.kind_is, k.own_is, k.left_is, k.right_is, k.from_is, k.to_is, k.next-is)
+    (rw (j.kind_is, j.own_is, j.left_is, j.right_is, j.from_is, j.to_is, j.next-is) refl))
 
 -- the rows of the i-th block, c being V's
 abbrev block_at : (T L : ℕ) → (b c : Block) → (i : ℕ) → List Row
 block_at T L b c zero = kept_rows T L b c
 block_at T L b c (suc i) = block_rows b T L
 
--- a loop over them, from V's or the node's own on
+-- a loop over them
 module _ (T L : ℕ) (b : Block) (v : ℕ) (e : ℕ) (f : Row → ℤ) (s : Search) where
-  abbrev has : Bool
-  has = ltb L T && loops_by b.kind
-
   -- those of the first i blocks are tested
   pub record Testing (i : ℕ) (x : Search) : Type 0 where
     pub is : (c : Block) → Kept v b c → x ≡ tested e f s (flat (block_at T L b c) i)
     pub few : reached x ≤ reached s + Counts.block * i
-    pub from : cond has 0 1 ≤ i
-    pub to : i ≤ 2
 
-  pub testing_start : (i : ℕ) → i ≡ cond has 0 1 → Testing i s
-  testing_start i h = go has refl h
-    where
-      start : (c : Block) → s ≡ tested e f s (flat (block_at T L b c) 0)
-      start c = sym (tested-start e f s (block_at T L b c))
+  pub testing_start : Testing 0 s
+  testing_start = record { is = λ c j. sym (tested-start e f s (block_at T L b c)); few = omega arith }
 
-      -- V's rows are none
-      second : (c : Block) → has ≡ false → s ≡ tested e f s (flat (block_at T L b c) 1)
-      second c z =
-          start c ∙ sym (tested-more e f s (block_at T L b c) 0 ∙ ap
-          (λ (x : Bool). tested e f (tested e f s (flat (block_at T L b c) 0)) (cond x (block_rows c T L) [])) z
-          ∙ tested-none e f (tested e f s (flat (block_at T L b c) 0)))
+  more_is : (i : ℕ) {y x : Search} {rs : List Row} (c : Block) → y ≡ tested e f s (flat (block_at T L b c) i) → rs ≡ block_at T L b c i → x ≡ tested e f y rs →
+      x ≡ tested e f s (flat (block_at T L b c) (i + 1))
+  more_is i {y} c t r p =
+      p ∙ ap (tested e f y) r ∙ ap (λ (z : Search). tested e f z (block_at T L b c i)) t ∙ sym (tested-more e f s (block_at T L b c) i)
 
-      go : (x : Bool) → has ≡ x → i ≡ cond x 0 1 → Testing i s
-      go true z k = rw k (record { is = λ c j. start c; few = omega arith; from = rw z (omega arith); to = omega arith })
-      go false z k = rw k (record { is = λ c j. second c z; few = omega arith; from = rw z (omega arith); to = omega arith })
-
-  pub testing_more : (i : ℕ) {y x : Search} {d : Block} → i < 2 → Testing i y → NthBlock v b i d → x ≡ tested e f y (block_rows d T L) →
+  pub testing_more : (i : ℕ) {y x : Search} {d : Block} → i < 2 → Testing i y → NthIs T L v b i d → x ≡ tested e f y (block_rows d T L) →
       reached x ≤ reached y + Counts.block → Testing (i + 1) x
-  testing_more i {y} {x} {d} h t n p m = record {
-    is = λ c j. p ∙ ap (tested e f y) (rows c j i refl h) ∙ ap (λ (z : Search). tested e f z (block_at T L b c i)) (t.is c j) ∙ sym
-        (tested-more e f s (block_at T L b c) i);
-    few = omega (arith, t.few);
-    from = omega (arith, t.from);
-    to = omega arith;
-  }
+  testing_more i {d = d} h t n p m = record { is = λ c j. more_is i c (t.is c j) (rows c j i refl h) p; few = omega (arith, t.few) }
     where
-      there : (x : Bool) → cond x 0 1 ≤ 0 → x ≡ true
-      there true l = refl
-      there false l = absurd (omega arith)
-
       rows : (c : Block) → Kept v b c → (j : ℕ) → i ≡ j → j < 2 → block_rows d T L ≡ block_at T L b c j
-      rows c k zero z g =
-          let some = there has (rw z at t.from) in
-          kept_same T L (n.kept z) k ∙ sym (ap (λ (x : Bool). cond x (block_rows c T L) []) some)
+      rows c k zero z g = kept_same T L (n.kept z) k ∙ sym (ap (λ (x : Bool). cond x (block_rows c T L) []) (n.has_it z))
       rows c k (suc zero) z g = ap (λ (a : Block). block_rows a T L) (n.own z)
       rows c k (suc (suc j)) z g = absurd (omega arith)
 
+  -- V has none
+  pub testing_none : (i : ℕ) {y : Search} → Testing i y → (i ≡ 0) × ((ltb L T && loops_by b.kind) ≡ false) → Testing (i + 1) y
+  testing_none i {y} t n =
+      record {
+        is = λ c j. more_is i c (t.is c j) (rw n.0 (sym (ap (λ (x : Bool). cond x (block_rows c T L) []) n.1))) (sym (tested-none e f y));
+        few = omega (arith, t.few);
+      }
+
   -- a row is broken
-  pub testing_over : (i : ℕ) {x : Search} → Testing i x → over x ≡ true → Testing 2 x
-  testing_over i t o = record {
-    is = λ c j. over-rest e f s (block_at T L b c) i 2 t.to (t.is c j) o;
-    few = omega (arith, t.few, t.to);
-    from = omega (arith, t.from, t.to);
-    to = omega arith;
+  pub testing_over : (i : ℕ) {x : Search} → i < 2 → Testing (i + 1) x → over x ≡ true → Testing 2 x
+  testing_over i h t o = record {
+    is = λ c j. over-rest e f s (block_at T L b c) (i + 1) 2 (omega arith) (t.is c j) o;
+    few = omega (arith, t.few);
   }
 
 -- block b is that of node n in the table ns, and v the first variable of its V
@@ -132,10 +117,10 @@ pub record OwnIn (T M L : ℕ) (ns : List Node) (n v : ℕ) (b : Block) : Type 0
 module _ (T M L : ℕ) (ns : List Node) (n v : ℕ) (b : Block) (o : OwnIn T M L ns n v b) where
   -- its V's block
   abbrev kept_of : Block
-  kept_of = record { kind = b.kind; own = v; left = b.left; right = b.right; from = b.from; to = b.to; loops = false; next = 0 }
+  kept_of = record { kind = b.kind; own = v; left = b.left; right = b.right; from = b.from; to = b.to; next = None }
 
   kept-is : Kept v b kept_of
-  kept-is = record { kind_is = refl; own_is = refl; left_is = refl; right_is = refl; from_is = refl; to_is = refl; loops_is = refl; next-is = refl }
+  kept-is = record { kind_is = refl; own_is = refl; left_is = refl; right_is = refl; from_is = refl; to_is = refl; next-is = refl }
 
   part-is : flat (block_at T L b kept_of) 2 ≡ part_rows T M L ns n
   unfolding flat

@@ -1,5 +1,5 @@
 -- The rows of a block, tested slot by slot.
-use Rattle.std.specs.Prelude.{◌≡◌, refl, Bool, true, false, List, ℕ, ◌+◌, ◌-◌, ◌*◌, ◌≤◌, ◌<◌, ℤ}
+use Rattle.std.specs.Prelude.{◌≡◌, refl, Bool, true, false, List, ℕ, ◌+◌, ◌-◌, ◌*◌, ◌≤◌, ◌<◌, ℤ, Ok, Err}
 use Rattle.std.proofs.Common.{sym, ◌∙◌, lt-ltb, le-ltb}
 use Rattle.std.proofs.Math.Path.{ap}
 use native.Mathlib.Omega.{arith}
@@ -7,13 +7,16 @@ use Rattle.lists.specs.Flat.{flat, flat-same}
 use Rattle.rules.specs.Rule.Window.{within, throughout}
 use Rattle.rules.specs.Rows.{Row, same_rows, not_rows, and_rows, or_rows, implies_rows, until_rows}
 use Rattle.table.specs.declared.Kind.TheVariants.{Atom, Not, And, Or, Implies, Eventually, Always, Until, Within, Throughout}
+use Rattle.table.specs.declared.Kind.{Kind}
+use Rattle.judge_sums.specs.declared.WindowKind.{WindowKind}
+use Rattle.judge_sums.specs.declared.WindowKind.TheVariants as Over
+use Rattle.judge_slot.specs.Windows.{window_of}
 use Rattle.row.specs.declared.Block.{Block}
 use Rattle.row.specs.Kinds.{over_rows, window_at, followed, following, followed-inner, followed-last}
-use Rattle.row.specs.NodeRows.{block_on, block_rows}
-use Rattle.judge_slot.specs.declared.Search.{Search}
-use Rattle.judge_slot.specs.declared.Search.TheVariants.{Clear}
+use Rattle.row.specs.NodeRows.{loops_of, next_of, block_on, block_rows}
+use Rattle.judge_slot.specs.declared.Broken.{Broken}
 use Rattle.judge_slot.specs.Counts as Counts
-use Rattle.judge_slot.specs.Searches.{tested, reached, over, Tested, reached-clear, tested-start, tested-more, over-rest}
+use Rattle.judge_slot.specs.Searches.{Search, tested, reached, over, Tested, tested-start, tested-more, over-rest, stuck}
 
 -- k slots, after `count` rows
 abbrev pub Room : (count k : ℕ) → Type 0
@@ -45,40 +48,44 @@ module _ (e : ℕ) (f : Row → ℤ) (s : Search) (g : ℕ → List Row) where
   passing-same h k t p = (p.is ∙ ap (tested e f s) (flat-same g h k t), p.few)
 
 -- few enough to go on
-pub passing-low : {e : ℕ} {f : Row → ℤ} {count k : ℕ} {g : ℕ → List Row} {x : Search} → Passing e f (Clear count) g k x → k ≤ 64 →
+pub passing-low : {e : ℕ} {f : Row → ℤ} {count k : ℕ} {g : ℕ → List Row} {x : Search} → Passing e f (Ok count) g k x → k ≤ 64 →
     count ≤ Counts.before_block →
     reached x ≤ Counts.before_slot
-passing-low {count = count} p h b = omega (arith, p.few, reached-clear (Clear count) count refl)
+passing-low {count = count} p h b = omega (arith, p.few)
 
 -- ---- the rows of a block
 
 -- after `count` rows that hold
 pub record BlockTested (e : ℕ) (f : Row → ℤ) (count T L : ℕ) (b : Block) (x : Search) : Type 0 where
-  pub is : x ≡ tested e f (Clear count) (block_rows b T L)
+  pub is : x ≡ tested e f (Ok count) (block_rows b T L)
   pub few : reached x ≤ count + Counts.block
 
 module _ (b : Block) (T L : ℕ) (high : T ≤ 64) where
   -- a loop over all slots
   pub block-all : {e : ℕ} {f : Row → ℤ} {count : ℕ} {x : Search} (g : ℕ → List Row) → ((s : ℕ) → s < T → g s ≡ block_on b T L s) →
-      Passing e f (Clear count) g T x →
+      Passing e f (Ok count) g T x →
       BlockTested e f count T L b x
   unfolding block_rows
   block-all {e} {f} {count} g h p =
-      let o = passing-same e f (Clear count) g (block_on b T L) T h p in
-      record { is = o.0; few = omega (arith, o.1, reached-clear (Clear count) count refl) }
+      let o = passing-same e f (Ok count) g (block_on b T L) T h p in
+      record { is = o.0; few = omega (arith, o.1) }
 
   -- a loop over all but the last, and the last
   pub block_last : {e : ℕ} {f : Row → ℤ} {count : ℕ} {rs : List Row} {y x : Search} (g : ℕ → List Row) → 1 ≤ T → ((s : ℕ) → s < T - 1 → g s ≡ block_on b T L s) →
-      Passing e f (Clear count) g (T - 1) y → rs ≡ block_on b T L (T - 1) → Tested e f y rs x → BlockTested e f count T L b x
+      Passing e f (Ok count) g (T - 1) y → rs ≡ block_on b T L (T - 1) → Tested e f y rs x → BlockTested e f count T L b x
   unfolding block_rows
   block_last {e} {f} {count} g low h p q t =
-      let o = passing-same e f (Clear count) g (block_on b T L) (T - 1) h p in
+      let o = passing-same e f (Ok count) g (block_on b T L) (T - 1) h p in
       let n : T - 1 + 1 ≡ T = omega arith in
-      let r = passing-more e f (Clear count) (block_on b T L) (T - 1) (record { is = o.0; few = o.1 }) t q in
+      let r = passing-more e f (Ok count) (block_on b T L) (T - 1) (record { is = o.0; few = o.1 }) t q in
       record {
-        is = r.is ∙ ap (λ (k : ℕ). tested e f (Clear count) (flat (block_on b T L) k)) n;
-        few = omega (arith, r.few, reached-clear (Clear count) count refl);
+        is = r.is ∙ ap (λ (k : ℕ). tested e f (Ok count) (flat (block_on b T L) k)) n;
+        few = omega (arith, r.few);
       }
+
+-- a search that is over passes the rows of a slot
+pub over-tested : (e : ℕ) (f : Row → ℤ) (b : Broken) (rs : List Row) → Tested e f (Err b) rs (Err b)
+over-tested e f b rs = record { is = sym (stuck e f b rs); by_many = omega arith }
 
 -- ---- by kind
 
@@ -116,21 +123,17 @@ module _ (b : Block) (T L s : ℕ) where
 
   -- F, G and U at a slot that another follows
   module _ (h : s < T - 1) where
-    inner : followed T b.loops s ≡ true
-    inner = followed-inner T b.loops s h
+    inner : followed T (loops_of b) s ≡ true
+    inner = followed-inner T (loops_of b) s h
 
-    next-slot : following T b.own b.next s ≡ b.own + s + 1
+    next-slot : following T b.own (next_of b) s ≡ b.own + s + 1
     next-slot = rw (lt-ltb (s + 1) T (omega arith)) refl
 
-    -- counted from the second slot
-    second : b.own + 1 + s ≡ b.own + s + 1
-    second = omega arith
+    pub eventually-inner : b.kind ≡ Eventually → or_rows P p (b.own + s + 1) ≡ block_on b T L s
+    eventually-inner k = rw (k, inner, next-slot) refl
 
-    pub eventually-inner : b.kind ≡ Eventually → or_rows P p (b.own + 1 + s) ≡ block_on b T L s
-    eventually-inner k = rw (k, inner, next-slot, second) refl
-
-    pub always-inner : b.kind ≡ Always → and_rows P p (b.own + 1 + s) ≡ block_on b T L s
-    always-inner k = rw (k, inner, next-slot, second) refl
+    pub always-inner : b.kind ≡ Always → and_rows P p (b.own + s + 1) ≡ block_on b T L s
+    always-inner k = rw (k, inner, next-slot) refl
 
     pub until-inner : b.kind ≡ Until → until_rows P p q (b.own + s + 1) ≡ block_on b T L s
     until-inner k = rw (k, inner, next-slot) refl
@@ -140,26 +143,44 @@ module _ (b : Block) (T L : ℕ) (low : 1 ≤ T) where
   abbrev end : ℕ
   end = T - 1
 
-  behind : following T b.own b.next end ≡ b.next
+  behind : following T b.own (next_of b) end ≡ (next_of b)
   behind = rw (le-ltb (T - 1 + 1) T (omega arith)) refl
 
-  goes_on_lem : (x : Bool) → b.loops ≡ x → followed T b.loops end ≡ x
-  goes_on_lem x e = followed-last T b.loops low ∙ e
+  goes_on_lem : (x : Bool) → (loops_of b) ≡ x → followed T (loops_of b) end ≡ x
+  goes_on_lem x e = followed-last T (loops_of b) low ∙ e
 
-  pub eventually-loops : b.kind ≡ Eventually → b.loops ≡ true → or_rows (b.own + end) (b.left + end) b.next ≡ block_on b T L end
+  pub eventually-loops : b.kind ≡ Eventually → (loops_of b) ≡ true → or_rows (b.own + end) (b.left + end) (next_of b) ≡ block_on b T L end
   eventually-loops k e = rw (k, goes_on_lem true e, behind) refl
 
-  pub eventually-ends : b.kind ≡ Eventually → b.loops ≡ false → same_rows (b.own + end) (b.left + end) ≡ block_on b T L end
+  pub eventually-ends : b.kind ≡ Eventually → (loops_of b) ≡ false → same_rows (b.own + end) (b.left + end) ≡ block_on b T L end
   eventually-ends k e = rw (k, goes_on_lem false e) refl
 
-  pub always-loops : b.kind ≡ Always → b.loops ≡ true → and_rows (b.own + end) (b.left + end) b.next ≡ block_on b T L end
+  pub always-loops : b.kind ≡ Always → (loops_of b) ≡ true → and_rows (b.own + end) (b.left + end) (next_of b) ≡ block_on b T L end
   always-loops k e = rw (k, goes_on_lem true e, behind) refl
 
-  pub always-ends : b.kind ≡ Always → b.loops ≡ false → same_rows (b.own + end) (b.left + end) ≡ block_on b T L end
+  pub always-ends : b.kind ≡ Always → (loops_of b) ≡ false → same_rows (b.own + end) (b.left + end) ≡ block_on b T L end
   always-ends k e = rw (k, goes_on_lem false e) refl
 
-  pub until-loops : b.kind ≡ Until → b.loops ≡ true → until_rows (b.own + end) (b.left + end) (b.right + end) b.next ≡ block_on b T L end
+  pub until-loops : b.kind ≡ Until → (loops_of b) ≡ true → until_rows (b.own + end) (b.left + end) (b.right + end) (next_of b) ≡ block_on b T L end
   until-loops k e = rw (k, goes_on_lem true e, behind) refl
 
-  pub until-ends : b.kind ≡ Until → b.loops ≡ false → same_rows (b.own + end) (b.right + end) ≡ block_on b T L end
+  pub until-ends : b.kind ≡ Until → (loops_of b) ≡ false → same_rows (b.own + end) (b.right + end) ≡ block_on b T L end
   until-ends k e = rw (k, goes_on_lem false e) refl
+
+-- ---- with parameters
+
+-- the kind of a block over a window
+abbrev pub kind_of : WindowKind → Kind
+kind_of Over.Within = Within
+kind_of Over.Throughout = Throughout
+
+pub window-rows : (b : Block) (T L s : ℕ) (kind : WindowKind) {vs : List ℕ} → b.kind ≡ kind_of kind → vs ≡ window_at T L b.left b.from b.to s →
+    over_rows (window_of kind) (b.own + s) vs ≡ block_on b T L s
+window-rows b T L s Over.Within k e = within-rows b T L s k e
+window-rows b T L s Over.Throughout k e = throughout_rows b T L s k e
+
+-- g has the rows of F, G or U at a slot, by the variable of what follows; `part` is what the last slot has where nothing does
+pub record FollowedBy (T L : ℕ) (b : Block) (part : ℕ) (g : ℕ → ℕ → List Row) : Type 0 where
+  pub inner : (s : ℕ) → s < T - 1 → g s (b.own + s + 1) ≡ block_on b T L s
+  pub loops : loops_of b ≡ true → g (T - 1) (next_of b) ≡ block_on b T L (T - 1)
+  pub ends : loops_of b ≡ false → same_rows (b.own + (T - 1)) (part + (T - 1)) ≡ block_on b T L (T - 1)

@@ -1,5 +1,5 @@
 -- The search for the first broken row, and its shortfall.
-use Rattle.std.specs.Prelude.{◌≡◌, Bool, ℤ}
+use Rattle.std.specs.Prelude.{◌≡◌, Bool, ℤ, Result, Ok, Err, map}
 use Rattle.std.proofs.Math.Path.{refl, ap}
 use Rattle.std.proofs.Common.{sym, ◌∙◌, arith, length-append}
 use Rattle.std.proofs.Math.Bool.{true, false, cond}
@@ -13,16 +13,40 @@ use Rattle.lists.specs.First.{first}
 use Rattle.lists.specs.Flat.{flat, flat-zero, flat-more}
 use Rattle.rules.specs.Rows.{Row}
 use Rattle.rules.specs.Verdicts.{is_short}
-use Rattle.judge_slot.specs.declared.Search.{Search}
-use Rattle.judge_slot.specs.declared.Search.TheVariants.{Clear, Broken}
+use Rattle.judge_slot.specs.declared.Broken.{Broken}
 use Rattle.judge_slot.specs.Counts.{at_slot}
+
+-- how a search stands: so many rows are tested and hold, or the first broken one is found
+abbrev pub Search : Type 0
+Search = Result ℕ Broken
+
+abbrev pub broken_at : ℤ → ℕ → Search
+broken_at x i = Err (record { shortfall = x; row = i })
 
 -- ---- rows one after the other
 
 -- one more row, of shortfall d, is tested, if none was broken
 abbrev pub stepped : (e : ℕ) (d : ℤ) → Search → Search
-stepped e d (Clear i) = cond (is_short e d) (Broken d i) (Clear (i + 1))
-stepped e d (Broken x i) = Broken x i
+stepped e d (Ok i) = cond (is_short e d) (broken_at d i) (Ok (i + 1))
+stepped e d (Err b) = Err b
+
+-- rows of these shortfalls
+unfoldable pub steps : (e : ℕ) → List ℤ → Search → Search
+steps e [] s = s
+steps e (d ∷ ds) s = steps e ds (stepped e d s)
+
+pub steps-none : (e : ℕ) (s : Search) → steps e [] s ≡ s
+unfolding steps
+steps-none e s = refl
+
+pub steps_more : (e : ℕ) (d : ℤ) (ds : List ℤ) (s : Search) → steps e (d ∷ ds) s ≡ steps e ds (stepped e d s)
+unfolding steps
+steps_more e d ds s = refl
+
+pub steps-stuck : (e : ℕ) (ds : List ℤ) (b : Broken) → steps e ds (Err b) ≡ Err b
+unfolding steps
+steps-stuck e [] b = refl
+steps-stuck e (d ∷ ds) b = steps-stuck e ds b
 
 -- f is the shortfall of a row
 module _ (e : ℕ) (f : Row → ℤ) where
@@ -46,6 +70,11 @@ module _ (e : ℕ) (f : Row → ℤ) where
   tested-append s [] b = refl
   tested-append s (r ∷ a) b = tested-append (next s r) a b
 
+  tested-steps : (s : Search) (rs : List Row) → tested s rs ≡ steps e (map f rs) s
+  unfolding tested steps
+  tested-steps s [] = refl
+  tested-steps s (r ∷ rs) = tested-steps (next s r) rs
+
   -- a loop over parts of rows
   pub tested-start : (s : Search) (g : ℕ → List Row) → tested s (flat g 0) ≡ s
   tested-start s g = ap (tested s) (flat-zero g) ∙ tested-none s
@@ -56,35 +85,22 @@ module _ (e : ℕ) (f : Row → ℤ) where
 -- ---- what it finds
 
 abbrev pub broken : Search → Option ℕ
-broken (Clear i) = none
-broken (Broken x i) = some i
+broken (Ok i) = none
+broken (Err b) = some b.row
 
-unfoldable pub reached : Search → ℕ
-reached (Clear i) = i
-reached (Broken x i) = i
+abbrev pub reached : Search → ℕ
+reached (Ok i) = i
+reached (Err b) = b.row
 
 -- one more row, as the call that tests it ensures
 pub record Step (e : ℕ) (d : ℤ) (s x : Search) : Type 0 where
   pub is : x ≡ stepped e d s
   pub by_one : reached x ≤ reached s + 1
 
-module _ (e : ℕ) (d : ℤ) (s : Search) (i : ℕ) where
-  -- x is the shortfall as it is stored
-  pub already_broken : {y x : ℤ} → s ≡ Broken y i → x ≡ y → Step e d s (Broken x i)
-  unfolding reached
-  already_broken p q = record { is = rw (q, p) refl; by_one = rw p (omega arith) }
-
-  pub now_broken : {x : ℤ} → s ≡ Clear i → is_short e d ≡ true → x ≡ d → Step e d s (Broken x i)
-  unfolding reached
-  now_broken p t q = record { is = rw (q, p, t) refl; by_one = rw p (omega arith) }
-
-  pub still_clear : s ≡ Clear i → is_short e d ≡ false → Step e d s (Clear (i + 1))
-  unfolding reached
-  still_clear p t = record { is = rw (p, t); by_one = rw p (omega arith) }
-
-pub reached-clear : (s : Search) (i : ℕ) → s ≡ Clear i → reached s ≡ i
-unfolding reached
-reached-clear s i e = rw e
+-- several more, as the call that tests them ensures
+pub record Stepped (e : ℕ) (ds : List ℤ) (s x : Search) : Type 0 where
+  pub is : x ≡ steps e ds s
+  pub by_each : reached x ≤ reached s + length ds
 
 -- the rows of a node at a slot, as the call that tests them ensures
 pub record Tested (e : ℕ) (f : Row → ℤ) (s : Search) (rs : List Row) (x : Search) : Type 0 where
@@ -95,28 +111,21 @@ module _ (e : ℕ) (f : Row → ℤ) where
   step-next : {i : ℤ} {a : Row} {s x : Search} → i ≡ f a → Step e i s x → x ≡ next e f s a
   step-next {s = s} t p = p.is ∙ ap (λ (d : ℤ). stepped e d s) t
 
-  pub one-tested : {i : ℤ} {a : Row} {s x : Search} → i ≡ f a → Step e i s x → Tested e f s (a ∷ []) x
-  unfolding tested
-  one-tested t p = record { is = step-next t p; by_many = omega (arith, p.by_one) }
+  -- rows by their shortfalls
+  pub steps-tested : {ds : List ℤ} {rs : List Row} {s x : Search} → ds ≡ map f rs → length ds ≤ at_slot → Stepped e ds s x → Tested e f s rs x
+  steps-tested {rs = rs} {s = s} p h t =
+      record { is = t.is ∙ ap (λ (l : List ℤ). steps e l s) p ∙ sym (tested-steps e f s rs); by_many = omega (arith, t.by_each) }
 
-  pub three-tested : {i j k : ℤ} {a b c : Row} {s x y z : Search} → i ≡ f a → j ≡ f b → k ≡ f c → Step e i s x → Step e j x y → Step e k y z →
-      Tested e f s (a ∷ b ∷ c ∷ []) z
-  unfolding tested
-  three-tested {b = b} {c = c} t u v p q r =
-      record {
-        is = step-next v r ∙ ap (λ (o : Search). next e f o c) (step-next u q ∙ ap (λ (o : Search). next e f o b) (step-next t p));
-        by_many = omega (arith, p.by_one, q.by_one, r.by_one);
-      }
+  pub one-tested : {d : ℤ} {a : Row} {s x : Search} → d ≡ f a → Stepped e (d ∷ []) s x → Tested e f s (a ∷ []) x
+  one-tested t = steps-tested (rw t refl) (omega arith)
 
-  pub four-tested : {i j k l : ℤ} {a b c d : Row} {s w x y z : Search} → i ≡ f a → j ≡ f b → k ≡ f c → l ≡ f d →
-      Step e i s w → Step e j w x → Step e k x y → Step e l y z → Tested e f s (a ∷ b ∷ c ∷ d ∷ []) z
-  unfolding tested
-  four-tested {b = b} {c = c} {d = d} t u v w p q r o =
-      record {
-        is = step-next w o ∙ ap (λ (o : Search). next e f o d)
-            (step-next v r ∙ ap (λ (o : Search). next e f o c) (step-next u q ∙ ap (λ (o : Search). next e f o b) (step-next t p)));
-        by_many = omega (arith, p.by_one, q.by_one, r.by_one, o.by_one);
-      }
+  pub three-tested : {i j k : ℤ} {a b c : Row} {s x : Search} → i ≡ f a → j ≡ f b → k ≡ f c → Stepped e (i ∷ j ∷ k ∷ []) s x →
+      Tested e f s (a ∷ b ∷ c ∷ []) x
+  three-tested t u v = steps-tested (rw (t, u, v) refl) (omega arith)
+
+  pub four-tested : {i j k l : ℤ} {a b c d : Row} {s x : Search} → i ≡ f a → j ≡ f b → k ≡ f c → l ≡ f d → Stepped e (i ∷ j ∷ k ∷ l ∷ []) s x →
+      Tested e f s (a ∷ b ∷ c ∷ d ∷ []) x
+  four-tested t u v w = steps-tested (rw (t, u, v, w) refl) (omega arith)
 
   -- rows one by one: one more
   pub tested-next : (h : ℕ → Row) (s : Search) (k : ℕ) {d : ℤ} {y x : Search} → y ≡ tested e f s (flat (λ i. h i ∷ []) k) → d ≡ f (h k) → Step e d y x →
@@ -135,26 +144,20 @@ module _ (e : ℕ) (f : Row → ℤ) where
         by_many = omega (arith, b, h, o.by_one);
       }
 
-  pub stuck : (i : ℕ) (x : ℤ) (rs : List Row) → tested e f (Broken x i) rs ≡ Broken x i
+  pub stuck : (b : Broken) (rs : List Row) → tested e f (Err b) rs ≡ Err b
   unfolding tested
-  stuck i x [] = refl
-  stuck i x (r ∷ rs) = stuck i x rs
+  stuck b [] = refl
+  stuck b (r ∷ rs) = stuck b rs
 
 -- ---- a search that is over: it passes the rest
 
 abbrev pub over : Search → Bool
-over (Clear i) = false
-over (Broken x i) = true
-
--- one that is not is known by its count
-pub clear-is : (x : Search) → over x ≡ false → Clear (reached x) ≡ x
-unfolding reached
-clear-is (Clear i) o = refl
-clear-is (Broken x i) o = let z : ◌≡◌ {A = ℕ} 0 1 = cc in absurd (omega arith)
+over (Ok i) = false
+over (Err b) = true
 
 stays : (e : ℕ) (f : Row → ℤ) (x : Search) (rs : List Row) → over x ≡ true → tested e f x rs ≡ x
-stays e f (Broken x i) rs o = stuck e f i x rs
-stays e f (Clear i) rs o = let z : ◌≡◌ {A = ℕ} 0 1 = cc in absurd (omega arith)
+stays e f (Err b) rs o = stuck e f b rs
+stays e f (Ok i) rs o = absurd (cc)
 
 module _ (e : ℕ) (f : Row → ℤ) (s : Search) (g : ℕ → List Row) where
   later : (k j : ℕ) → over (tested e f s (flat g k)) ≡ true → tested e f s (flat g (k + j)) ≡ tested e f s (flat g k)
@@ -187,8 +190,8 @@ module _ (e : ℕ) (f : Row → ℤ) (d : Row) where
 
   -- the shortfall is that of the row
   abbrev Carries : List Row → Search → Type 0
-  Carries l (Clear i) = Unit {0}
-  Carries l (Broken x i) = x ≡ f (get_or l i d)
+  Carries l (Ok i) = Unit {0}
+  Carries l (Err b) = b.shortfall ≡ f (get_or l b.row d)
 
   -- in what follows the rows rs stand after p in l, and the search is at the first of them
   seam : (r : Row) (rs p l : List Row) → p ++ (r ∷ rs) ≡ l → get_or l (length p) d ≡ r
@@ -197,47 +200,46 @@ module _ (e : ℕ) (f : Row → ℤ) (d : Row) where
   one_more : (r : Row) (p : List Row) → length (p ++ (r ∷ [])) ≡ suc (length p)
   one_more r p = length-append p (r ∷ []) ∙ add-one (length p)
 
-  from : (rs p l : List Row) → p ++ rs ≡ l → broken (tested e f (Clear (length p)) rs) ≡ first (breaks l) (length rs) (length p)
+  from : (rs p l : List Row) → p ++ rs ≡ l → broken (tested e f (Ok (length p)) rs) ≡ first (breaks l) (length rs) (length p)
   unfolding tested first
   from [] p l q = refl
   from (r ∷ rs) p l q = go (is_short e (f r)) refl (seam r rs p l q) (one_more r p) (from rs (p ++ (r ∷ [])) l (append_assoc p (r ∷ []) rs ∙ q))
     where
       go : (b : Bool) → is_short e (f r) ≡ b → get_or l (length p) d ≡ r → length (p ++ (r ∷ [])) ≡ suc (length p) →
-          broken (tested e f (Clear (length (p ++ (r ∷ [])))) rs) ≡ first (breaks l) (length rs) (length (p ++ (r ∷ []))) →
-          broken (tested e f (cond (is_short e (f r)) (Broken (f r) (length p)) (Clear (length p + 1))) rs) ≡ cond (breaks l (length p)) (some (length p))
+          broken (tested e f (Ok (length (p ++ (r ∷ [])))) rs) ≡ first (breaks l) (length rs) (length (p ++ (r ∷ []))) →
+          broken (tested e f (cond (is_short e (f r)) (broken_at (f r) (length p)) (Ok (length p + 1))) rs) ≡ cond (breaks l (length p)) (some (length p))
           (first (breaks l) (length rs) (suc (length p)))
-      go true t here size rest = rw (here, t) (ap broken (stuck e f (length p) (f r) rs))
+      go true t here size rest = rw (here, t) (ap broken (stuck e f (record { shortfall = f r; row = length p }) rs))
       go false t here size rest = rw (here, t, add-one (length p), ← size) rest
 
-  carried : (rs p l : List Row) → p ++ rs ≡ l → Carries l (tested e f (Clear (length p)) rs)
+  carried : (rs p l : List Row) → p ++ rs ≡ l → Carries l (tested e f (Ok (length p)) rs)
   unfolding tested
   carried [] p l q = tt
   carried (r ∷ rs) p l q = go (is_short e (f r)) refl (seam r rs p l q) (one_more r p) (carried rs (p ++ (r ∷ [])) l (append_assoc p (r ∷ []) rs ∙ q))
     where
       go : (b : Bool) → is_short e (f r) ≡ b → get_or l (length p) d ≡ r → length (p ++ (r ∷ [])) ≡ suc (length p) →
-          Carries l (tested e f (Clear (length (p ++ (r ∷ [])))) rs) →
-          Carries l (tested e f (cond (is_short e (f r)) (Broken (f r) (length p)) (Clear (length p + 1))) rs)
-      go true t here size rest = rw (t, stuck e f (length p) (f r) rs, here) refl
+          Carries l (tested e f (Ok (length (p ++ (r ∷ [])))) rs) →
+          Carries l (tested e f (cond (is_short e (f r)) (broken_at (f r) (length p)) (Ok (length p + 1))) rs)
+      go true t here size rest = rw (t, stuck e f (record { shortfall = f r; row = length p }) rs, here) refl
       go false t here size rest = rw (t, add-one (length p), ← size) rest
 
-  pub first-broken : (l : List Row) → broken (tested e f (Clear 0) l) ≡ first (breaks l) (length l) 0
+  pub first-broken : (l : List Row) → broken (tested e f (Ok 0) l) ≡ first (breaks l) (length l) 0
   first-broken l = from l [] l refl
 
-  pub shortfall-of : (l : List Row) (i : ℕ) (x : ℤ) → tested e f (Clear 0) l ≡ Broken x i → x ≡ f (get_or l i d)
-  shortfall-of l i x p = rw p at (carried l [] l refl)
+  pub shortfall-of : (l : List Row) (b : Broken) → tested e f (Ok 0) l ≡ Err b → b.shortfall ≡ f (get_or l b.row d)
+  shortfall-of l b p = rw p at (carried l [] l refl)
 
 -- a search that finds none has counted the rows
-pub all-clear : (e : ℕ) (f : Row → ℤ) (l : List Row) (i n : ℕ) → tested e f (Clear i) l ≡ Clear n → n ≡ i + length l
+pub all-clear : (e : ℕ) (f : Row → ℤ) (l : List Row) (i n : ℕ) → tested e f (Ok i) l ≡ Ok n → n ≡ i + length l
 unfolding tested
 all-clear e f [] i n p = let z : i ≡ n = cc in omega arith
 all-clear e f (r ∷ rs) i n p = go (is_short e (f r)) refl (all-clear e f rs (i + 1) n)
   where
-    step : (b : Bool) → is_short e (f r) ≡ b → tested e f (cond b (Broken (f r) i) (Clear (i + 1))) rs ≡ Clear n
-    step b t = sym (ap (λ (b : Bool). tested e f (cond b (Broken (f r) i) (Clear (i + 1))) rs) t) ∙ p
+    step : (b : Bool) → is_short e (f r) ≡ b → tested e f (cond b (broken_at (f r) i) (Ok (i + 1))) rs ≡ Ok n
+    step b t = sym (ap (λ (b : Bool). tested e f (cond b (broken_at (f r) i) (Ok (i + 1))) rs) t) ∙ p
 
-    go : (b : Bool) → is_short e (f r) ≡ b → (tested e f (Clear (i + 1)) rs ≡ Clear n → n ≡ i + 1 + length rs) → n ≡ i + suc (length rs)
+    go : (b : Bool) → is_short e (f r) ≡ b → (tested e f (Ok (i + 1)) rs ≡ Ok n → n ≡ i + 1 + length rs) → n ≡ i + suc (length rs)
     go true t rest =
-        let z : Broken (f r) i ≡ Clear n = sym (stuck e f i (f r) rs) ∙ step true t in
-        let y : ◌≡◌ {A = ℕ} 0 1 = cc in
-        absurd (omega arith)
+        let z : broken_at (f r) i ≡ Ok n = sym (stuck e f (record { shortfall = f r; row = i }) rs) ∙ step true t in
+        absurd (cc)
     go false t rest = let z = rest (step false t) in omega arith

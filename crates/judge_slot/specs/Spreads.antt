@@ -1,6 +1,6 @@
 -- The sum, the least and the largest of some figures, as a part's at the slots of a window; where the row of the extreme one holds, all do.
 use Rattle.std.specs.Prelude.{◌≡◌, refl, Bool, true, false, List, map, ℕ, ◌+◌, ◌-◌, ◌*◌, ◌≤◌, ◌<◌, ℤ, pos, negsuc, neg_ℤ, nat_abs, ◌+ℤ◌, ◌-ℤ◌, ◌*ℤ◌, ◌≤ℤ◌}
-use Rattle.std.proofs.Common.{sym, ap, ap₂, ◌∙◌, subst, arith, ltb-true, lt-ltb, le-ltb, le→leb, SFits, to_z, of_z}
+use Rattle.std.proofs.Common.{sym, ap, ap₂, ◌∙◌, subst, arith, lt-ltb, le-ltb, SFits, to_z, of_z}
 use Rattle.std.proofs.Math.Path.{subst⁻¹}
 use Rattle.std.proofs.Math.Decide.{dec_lt}
 use Rattle.std.proofs.Math.IntN.{+ℤ_idl, +ℤ_idr, +ℤ_comm, +ℤ_assoc, neg_ℤ-+ℤ, neg_ℤ-neg_ℤ}
@@ -11,15 +11,19 @@ use Rattle.ints.specs.Sums.{swap-last}
 use Rattle.ints.specs.Stored.{sfits_abs, cast_fits, cast_back}
 use Rattle.rules.specs.Rows.{plus, value_at, sum_of}
 use Rattle.rules.proofs.Shortfalls.{below_difference}
+use Rattle.rules.specs.Judge.{shortfall}
 use Rattle.rules.specs.Verdicts.{is_short}
 use Rattle.millionths.specs.Bounds as Bounds
+use Rattle.millionths.specs.declared.Millionths.{Millionths}
+use Rattle.judge_sums.specs.declared.WindowKind.{WindowKind}
+use Rattle.judge_sums.specs.declared.WindowKind.TheVariants.{Within, Throughout}
 use Rattle.judge_sums.specs.Sums.{pair_of}
 use Rattle.judge_sums.specs.Laws.{short_of}
 use Rattle.judge_sums.specs.Windows.{plus_times, minus-times}
 use Rattle.window.specs.declared.Looks.{Looks}
 use Rattle.window.specs.Slots.{variable_at, variables}
 use Rattle.judge_slot.specs.declared.Spread.{Spread}
-use Rattle.judge_slot.specs.Windows.{sum_to, sum-none, sum_more, sum_same, sum-joined, sum-all}
+use Rattle.judge_slot.specs.Windows.{slot_row, slot_sum, slot_short-is, sum_to, sum-none, sum_more, sum_same, sum-joined, sum-all}
 
 -- figures that are not far outside the limits: few of them have a sum of 32 bits
 abbrev pub Limited : List ℤ → Type 0
@@ -35,6 +39,11 @@ pub record Spreads (xs : List ℤ) (at : ℕ → ℕ) (k : ℕ) (sum least most 
 abbrev pub SpreadOf : List ℤ → (at : ℕ → ℕ) → (k : ℕ) → Spread → Type 0
 SpreadOf xs at k x = Spreads xs at k x.sum x.least.value x.most.value
 
+-- the figure whose row falls short by most
+abbrev pub extreme_of : WindowKind → Spread → Millionths
+extreme_of Within x = x.most
+extreme_of Throughout x = x.least
+
 -- two spreads as one
 pub record Joined (a b x : Spread) : Type 0 where
   pub sum_is : x.sum ≡ a.sum +ℤ b.sum
@@ -47,16 +56,6 @@ pub record Joined (a b x : Spread) : Type 0 where
     go : (t : Bool) → lt_z c a ≡ t → a ≤ℤ c
     go true e = clash_ℤ (<ℤ-≤ℤ_trans (record { lt = rw e tt }) h) k
     go false e = lt_z_no (rw e tt)
-
--- what a test tells
-pub lower : (a b : ℤ) → lt_z a b ≡ true → a ≤ℤ b
-lower (pos a) (pos b) e = record { le = le→leb a b (let h = ltb-true a b e in omega arith) }
-lower (pos a) (negsuc b) e = let z : ◌≡◌ {A = ℕ} 0 1 = cc in absurd (omega arith)
-lower (negsuc a) (pos b) e = record { le = tt }
-lower (negsuc a) (negsuc b) e = record { le = le→leb b a (let h = ltb-true b a e in omega arith) }
-
-pub not_lower : (a b : ℤ) → lt_z a b ≡ false → b ≤ℤ a
-not_lower a b e = lt_z_no (rw e tt)
 
 module _ (xs : List ℤ) (at : ℕ → ℕ) where
   pub spread_none : {a b : ℤ} → Spreads xs at 0 (pos 0) a b
@@ -189,3 +188,10 @@ pub over-least : (e : ℕ) (x : ℤ) {y m : ℤ} → m ≤ℤ y → is_short e (
 over-least e x {y} {m} h t =
     ap (lt_z (pos e)) (short-pair y x) ∙ below_less (pos e) x y
     ∙ not-below (x -ℤ pos e) h (sym (ap (lt_z (pos e)) (short-pair m x) ∙ below_less (pos e) x m) ∙ t)
+
+-- where the extreme one's row holds, all do
+pub extreme-tells : (e : ℕ) (xs : List ℤ) (kind : WindowKind) (P : ℕ) (w : Looks) (p : ℕ) {x : ℤ} {s : Spread} → x ≡ value_at xs P →
+    SpreadOf xs (variable_at w p) w.count s → is_short e (short_of (pos 0) (slot_sum kind x (extreme_of kind s).value)) ≡ false →
+    (i : ℕ) → i < w.count → is_short e (shortfall xs (slot_row kind P w p i)) ≡ false
+extreme-tells e xs Within P w p {x} f h t i g = ap (is_short e) (sym (slot_short-is xs Within P w p i f refl)) ∙ under-most e x (h.above i g) t
+extreme-tells e xs Throughout P w p {x} f h t i g = ap (is_short e) (sym (slot_short-is xs Throughout P w p i f refl)) ∙ over-least e x (h.below i g) t

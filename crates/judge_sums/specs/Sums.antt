@@ -1,10 +1,8 @@
 -- The row sum: of a few coefficients and figures, and of a row's terms.
 use Rattle.std.specs.Prelude.{◌≡◌, refl, Bool, cond, List, [], ◌∷◌, ℕ, ◌+◌, ◌≤◌, ℤ, pos, nat_abs, ◌+ℤ◌, ◌*ℤ◌}
-use Rattle.std.proofs.Common.{ap, ap₂, ◌∙◌, arith, to_z, of_z}
+use Rattle.std.proofs.Common.{ap, ap₂, ◌∙◌, arith}
 use Rattle.std.proofs.Math.IntN.{+ℤ_idr}
-use Rattle.std.specs.Int.{w64}
 use Rattle.ints.specs.Magnitudes.{sum_magnitude}
-use Rattle.ints.specs.Stored.{back}
 use Rattle.rules.specs.Rows.{Term, value_at, sum_of}
 use Rattle.rules.specs.RowSum as Definitions
 use Rattle.rules.specs.RowSum.{row_sum}
@@ -42,9 +40,9 @@ pub record RowSumOf (xs : List ℤ) (ts : List Term) (r : RowSum) : Type 0 where
   pub positive-small : nat_abs r.positive ≤ Bounds.row_sum
   pub whole-small : nat_abs r.whole ≤ Bounds.row_sum
 
--- the whole sum, as it is passed on, is the same number as before
-pub sums_whole : {xs : List ℤ} {ts : List Term} {r : RowSum} → RowSumOf xs ts r → to_z w64 (of_z w64 r.whole) ≡ sum_of xs ts
-sums_whole {xs} {ts} {r} h = back r.whole (omega (arith, h.whole-small)) ∙ ap (λ (s : Definitions.RowSum). s.whole) h.is ∙ whole_is xs ts
+-- the whole sum
+pub whole_of : {xs : List ℤ} {ts : List Term} {r : RowSum} → RowSumOf xs ts r → r.whole ≡ sum_of xs ts
+whole_of {xs} {ts} h = ap (λ (s : Definitions.RowSum). s.whole) h.is ∙ whole_is xs ts
 
 pub sums_as : {xs ys : List ℤ} {ts us : List Term} {r : RowSum} → row_sum xs ts ≡ row_sum ys us → RowSumOf xs ts r → RowSumOf ys us r
 sums_as e h = record { is = h.is ∙ e; positive-small = h.positive-small; whole-small = h.whole-small }

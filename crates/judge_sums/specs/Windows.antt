@@ -7,6 +7,8 @@ use Rattle.rules.specs.RowSum.{positive_terms}
 use Rattle.rules.proofs.RowSumLaws.{sums_equal, positive-is, whole_is}
 use Rattle.millionths.specs.Bounds as Bounds
 use Rattle.judge_sums.specs.declared.RowSum.{RowSum}
+use Rattle.judge_sums.specs.declared.WindowKind.{WindowKind}
+use Rattle.judge_sums.specs.declared.WindowKind.TheVariants.{Within, Throughout}
 use Rattle.judge_sums.specs.Sums.{RowSumOf}
 
 -- the terms of the last row for F[a,b] and for G[a,b], over the part's variables at the slots of the window, and the node's
@@ -15,6 +17,10 @@ within_terms vs v = map plus vs ++ (minus v ∷ [])
 
 abbrev pub throughout_terms : List ℕ → ℕ → List Term
 throughout_terms vs v = plus v ∷ map minus vs
+
+abbrev pub last_terms : WindowKind → List ℕ → ℕ → List Term
+last_terms Within = within_terms
+last_terms Throughout = throughout_terms
 
 -- their row sum, where `sum` is that of the part's figures, and x the node's figure
 abbrev pub WindowSum : (terms : List ℕ → ℕ → List Term) (sum x : ℤ) (r : RowSum) → Type 0

@@ -5,8 +5,8 @@ ghost use Rattle.std.specs.Prelude.{◌≡◌, [], ◌∷◌, ◌+◌, ◌*◌, 
 ghost use Rattle.rules.specs.Quantities as Quantities;
 ghost use Rattle.rules.specs.Rows.{value_at};
 ghost use Rattle.rules.specs.Judge as Judge;
-ghost use Rattle.judge_sums.specs.Sums.{added, passed, term, RowSumOf, pair_of, triple_of};
-ghost use Rattle.judge_sums.specs.Windows.{within_terms, throughout_terms, WindowSum};
+ghost use Rattle.judge_sums.specs.Sums.{added, passed, term, RowSumOf};
+ghost use Rattle.judge_sums.specs.Windows.{last_terms, WindowSum};
 ghost use Rattle.judge_sums.specs.Laws.{short_of, off_of};
 ghost use Rattle.millionths.specs.Bounds as Bounds;
 ghost use Rattle.row.specs.Meaning.{terms_of, row_of};
@@ -18,11 +18,9 @@ use row::{Relation, Row, Terms};
 pub fn figure_of(figures: &[i32], variable: u16) -> Millionths
     ensures { result.value ≡ value_at figures.now variable }
 {
-    let at = scalars::wide(variable);
-    if at < figures.len() {
-        Millionths { value: figures[at] }
-    } else {
-        Millionths::ZERO
+    match figures.get(usize::from(variable)) {
+        Some(value) => Millionths { value: *value },
+        None => Millionths::ZERO,
     }
 }
 
@@ -30,7 +28,7 @@ pub fn figure_of(figures: &[i32], variable: u16) -> Millionths
 fn product(coefficient: i8, figure: Millionths) -> i64
     ensures { (result ≡ coefficient *ℤ figure.value) × (nat_abs result ≤ Bounds.product) }
 {
-    (coefficient as i64) * figure.wide()
+    i64::from(coefficient) * i64::from(figure.value)
 }
 
 // A right side in millionths.
@@ -41,7 +39,7 @@ fn scaled(right: i8) -> i64
 }
 
 // The sum of a row, its terms added in the order of the solver's trace: those with a positive coefficient first.
-#[derive(Clone, Copy)]
+#[derive(Clone, Copy, Debug, PartialEq, Eq)]
 pub struct RowSum {
     // the sum reached after those
     pub positive: i64,
@@ -74,10 +72,7 @@ pub fn triple(j: i8, x: Millionths, k: i8, y: Millionths, l: i8, z: Millionths) 
     let c = product(l, z);
     let positive = pass(0, 0 < j, a, 0 < k, b, 0 < l, c);
     let whole = pass(positive, !(0 < j), a, !(0 < k), b, !(0 < l), c);
-    RowSum {
-        positive: positive,
-        whole: whole,
-    }
+    RowSum { positive, whole }
 }
 
 // The row sum of two terms: the third is zero.
@@ -87,20 +82,22 @@ pub fn pair(j: i8, x: Millionths, k: i8, y: Millionths) -> RowSum
     triple(j, x, k, y, 0, Millionths::ZERO)
 }
 
-// What a sum falls short of the right side by.
-pub fn short(right: i8, sum: i64) -> i64
-    requires { nat_abs sum ≤ Bounds.row_sum }
-    ensures { (result ≡ short_of right sum) × (nat_abs result ≤ Bounds.shortfall) }
-{
-    millionths::less(scaled(right), sum)
-}
+impl RowSum {
+    // What the sum falls short of the right side by.
+    pub fn short(self, right: i8) -> i64
+        requires { nat_abs self.whole ≤ Bounds.row_sum }
+        ensures { (result ≡ short_of right self.whole) × (nat_abs result ≤ Bounds.shortfall) }
+    {
+        scaled(right) - self.whole
+    }
 
-// How far a sum is from the right side.
-fn off(right: i8, sum: i64) -> i64
-    requires { nat_abs sum ≤ Bounds.row_sum }
-    ensures { (result ≡ off_of right sum) × (nat_abs result ≤ Bounds.shortfall) }
-{
-    millionths::magnitude(millionths::less(sum, scaled(right)))
+    // How far the sum is from the right side.
+    pub fn off(self, right: i8) -> i64
+        requires { nat_abs self.whole ≤ Bounds.row_sum }
+        ensures { (result ≡ off_of right self.whole) × (nat_abs result ≤ Bounds.shortfall) }
+    {
+        (self.whole - scaled(right)).abs()
+    }
 }
 
 // A sum of figures, and one more.
@@ -108,62 +105,33 @@ pub fn grown(sum: i64, figure: Millionths) -> i64
     requires { nat_abs sum ≤ Bounds.window_sum }
     ensures { (result ≡ sum +ℤ figure.value) × (nat_abs result ≤ nat_abs sum + Bounds.figure) }
 {
-    sum + figure.wide()
+    sum + i64::from(figure.value)
 }
 
-// The row sum of a window's last row for F[a,b]: `sum` is that of the part's figures at the slots of the window, and x the node's figure.
-pub fn within_sum(sum: i64, x: Millionths) -> RowSum
+// The rows over a window: those of F[a,b], or of G[a,b].
+#[derive(Clone, Copy, Debug, PartialEq, Eq)]
+pub enum WindowKind {
+    Within,
+    Throughout,
+}
+
+// The row sum of a window's last row: `sum` is that of the part's figures at the slots of the window, and x the node's figure.
+pub fn window_sum(kind: WindowKind, sum: i64, x: Millionths) -> RowSum
     requires { nat_abs sum ≤ Bounds.window_sum }
-    ensures { WindowSum within_terms sum x.value result }
+    ensures terms { WindowSum (last_terms kind) sum x.value result }
+    ensures small { (nat_abs result.positive ≤ Bounds.row_sum) × (nat_abs result.whole ≤ Bounds.row_sum) }
 {
-    RowSum {
-        positive: sum,
-        whole: millionths::less(sum, x.wide()),
+    let figure = i64::from(x.value);
+    match kind {
+        WindowKind::Within => RowSum {
+            positive: sum,
+            whole: sum - figure,
+        },
+        WindowKind::Throughout => RowSum {
+            positive: figure,
+            whole: figure - sum,
+        },
     }
-}
-
-// The row sum of a window's last row for G[a,b]: `sum` is that of the part's figures at the slots of the window, and x the node's figure.
-pub fn throughout_sum(sum: i64, x: Millionths) -> RowSum
-    requires { nat_abs sum ≤ Bounds.window_sum }
-    ensures { WindowSum throughout_terms sum x.value result }
-{
-    let figure = x.wide();
-    RowSum {
-        positive: figure,
-        whole: millionths::less(figure, sum),
-    }
-}
-
-// What jx + ky falls short of the right side by.
-pub fn pair_short(j: i8, x: Millionths, k: i8, y: Millionths, right: i8) -> i64
-    ensures { (result ≡ short_of right (pair_of j x.value k y.value)) × (nat_abs result ≤ Bounds.shortfall) }
-{
-    let sum = pair(j, x, k, y);
-    short(right, sum.whole)
-}
-
-// How far jx + ky is from the right side.
-pub fn pair_off(j: i8, x: Millionths, k: i8, y: Millionths, right: i8) -> i64
-    ensures { (result ≡ off_of right (pair_of j x.value k y.value)) × (nat_abs result ≤ Bounds.shortfall) }
-{
-    let sum = pair(j, x, k, y);
-    off(right, sum.whole)
-}
-
-// What jx + ky + lz falls short of the right side by.
-pub fn triple_short(
-    j: i8,
-    x: Millionths,
-    k: i8,
-    y: Millionths,
-    l: i8,
-    z: Millionths,
-    right: i8,
-) -> i64
-    ensures { (result ≡ short_of right (triple_of j x.value k y.value l z.value)) × (nat_abs result ≤ Bounds.shortfall) }
-{
-    let sum = triple(j, x, k, y, l, z);
-    short(right, sum.whole)
 }
 
 // The row sum of terms over the figures.
@@ -193,12 +161,9 @@ pub fn row_sum(figures: &[i32], terms: Terms) -> RowSum
 pub fn shortfall(row: Row, figures: &[i32]) -> i64
     ensures { (result ≡ Judge.shortfall figures.now (row_of row)) × (nat_abs result ≤ Bounds.shortfall) }
 {
-    let relation = row.relation;
-    let right = row.right;
-    let terms = row.terms;
-    let sum = row_sum(figures, terms);
-    match relation {
-        Relation::AtLeast => short(right, sum.whole),
-        Relation::Equal => off(right, sum.whole),
+    let sum = row_sum(figures, row.terms);
+    match row.relation {
+        Relation::AtLeast => sum.short(row.right),
+        Relation::Equal => sum.off(row.right),
     }
 }

@@ -1,25 +1,34 @@
--- What the writer of the columns knows: the plan of a checked table, and the variable that it looks for.
-use Rattle.std.specs.Prelude.{◌≡◌, List, ℕ, ◌*◌, ◌+◌, ◌≤◌, ◌<◌, length}
-use Rattle.rules.specs.Rows.{slack_rows, rows_of}
-use Rattle.rules.specs.TableTest.{record_count, nodes_in}
+-- What the writer of the columns puts of a plan, and the variable that it looks for.
+use Rattle.std.specs.Prelude.{◌≡◌, true, List, ℕ, ◌*◌, ◌+◌, ◌<◌, length, get_or}
+use Rattle.lists.specs.Flat.{flat}
+use Rattle.rules.specs.Table.{node_at}
+use Rattle.rules.specs.Rows.{Row, loops, rows_of}
+use Rattle.rules.specs.TableTest.{nodes_in}
 use Rattle.mps.specs.Page.{column_lines}
-use Rattle.table.specs.Checks.{Ready}
-use Rattle.mps_line.specs.Bounds.{number_limit, row_limit}
-use Rattle.mps_users.specs.Found.{Layout}
+use Rattle.mps_line.specs.Bounds.{number_limit}
+use Rattle.mps_users.specs.Users.{kept_part, user_text}
+use Rattle.table.specs.declared.plan.Plan.{Plan}
 use Rattle.mps_columns.specs.Parts.{part_text}
-use Rattle.mps_columns.specs.declared.Plan.{Plan}
 use Rattle.mps_columns.specs.declared.Variable.{Variable}
 
--- the table is checked, `rows` is the number of its goal row, and the layout says where each node's rows begin
-pub record Planned (p : Plan) (table layout : List ℕ) : Type 0 where
-  pub ready : Ready p.t p.m p.l table
-  pub goal : p.rows ≡ length (slack_rows p.t p.m p.l (nodes_in table))
-  pub few : p.rows ≤ row_limit
-  pub laid : Layout p.t p.m p.l (nodes_in table) (record_count table) layout
+-- the rows
+abbrev pub plan_rows : Plan → List Row
+plan_rows p = rows_of p.t p.m p.l (nodes_in p.table.now)
 
 -- the lines of the variables of part x
-abbrev pub planned_part : Plan → (table : List ℕ) (x : ℕ) → List ℕ
-planned_part p table x = part_text p.t (column_lines (rows_of p.t p.m p.l (nodes_in table))) x
+abbrev pub planned_part : Plan → (x : ℕ) → List ℕ
+planned_part p x = part_text p.t (column_lines (plan_rows p)) x
+
+-- the lines of variable v in the rows of a node, and of the nodes listed
+abbrev pub planned_user : Plan → (v n : ℕ) → List ℕ
+planned_user p v n = user_text p.t p.m p.l (nodes_in p.table.now) v n
+
+abbrev pub planned_users : Plan → (users : List ℕ) (v : ℕ) → List ℕ
+planned_users p users v = flat (λ j. planned_user p v (get_or users j 0)) (length users)
+
+-- x is the part of node n's V, which it has
+abbrev pub KeptPart : Plan → (n x : ℕ) → Type 0
+KeptPart p n x = (x ≡ kept_part p.m (nodes_in p.table.now) n) × (loops (node_at (nodes_in p.table.now) n) ≡ true)
 
 -- v is the variable of some part at slot s + 1
 abbrev pub AtSlot : (T s v : ℕ) → Type 0

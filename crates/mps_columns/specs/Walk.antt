@@ -1,7 +1,7 @@
 -- The lines of a variable in the rows of a block, by the block's kind and variables.
 use Rattle.std.proofs.Math.Path.{◌≡◌, refl, sym, ap, ap₂}
 use Rattle.std.proofs.Common.{◌∙◌, eqb-true, ltb-true, lt-ltb}
-use Rattle.std.specs.Prelude.{Bool, ◌&&◌, ◌||◌, eqb, ltb, get_or}
+use Rattle.std.specs.Prelude.{Option, Some, None, Bool, ◌&&◌, ◌||◌, eqb, ltb}
 use Rattle.std.proofs.Math.Bool.{true, false, cond}
 use mathlib.Core.List.{List, [], ◌++◌}
 use Prim.Native.Nat.{ℕ, zero, suc, ◌+◌, ◌-◌, ◌*◌, ◌≤◌, ◌<◌}
@@ -19,30 +19,19 @@ use Rattle.table.specs.declared.Kind.TheVariants.{Atom, Not, And, Or, Implies, E
 use Rattle.row.specs.declared.Block.{Block}
 use Rattle.row.specs.Apart.{Apart, Behind}
 use Rattle.row.specs.Kinds.{kind_rows, window_at, slot_count, left_block, followed, following}
-use Rattle.row.specs.NodeRows.{block_on, block_rows, Own, Kept}
+use Rattle.row.specs.NodeRows.{loops_of, next_of, block_on, block_rows, Own}
 use Rattle.mps_row.specs.Slots.{slot_text, rows_before}
 use Rattle.mps_row.specs.Laws.{Plain, not_plain, before_kind, block-text}
+use Rattle.mps_row.specs.Spots.{spot_at, spot_rows, plain_rows}
 use Rattle.mps_row.specs.Absent.{Lacks, absent}
+use Rattle.mps_node.specs.Places.{KeptAt}
 use Rattle.mps_users.specs.Around.{and-false}
 use Rattle.mps_users.specs.Picked.{before, flat_around, flat-only}
-
-plain_rows : (k : Kind) → Plain k → (inner : Bool) (P p q P' : ℕ) (vs : List ℕ) → kind_rows k inner P p q P' [] ≡ kind_rows k inner P p q P' vs
-plain_rows Atom h inner P p q P' vs = refl
-plain_rows Not h inner P p q P' vs = refl
-plain_rows And h inner P p q P' vs = refl
-plain_rows Or h inner P p q P' vs = refl
-plain_rows Implies h inner P p q P' vs = refl
-plain_rows Eventually h inner P p q P' vs = refl
-plain_rows Always h inner P p q P' vs = refl
-plain_rows Until h inner P p q P' vs = refl
-plain_rows Within h inner P p q P' vs = absurd (not_plain h)
-plain_rows Throughout h inner P p q P' vs = absurd (not_plain h)
 
 -- the lines of variable v in the rows of a block without a window at slot s + 1; the block's first row is `start`
 unfoldable pub kind_text : (v : ℕ) → Block → (T start s : ℕ) → List ℕ
 kind_text v b T start s =
-    each_row (entry_line v) (start + s * slot_count b.kind true 0)
-    (kind_rows b.kind (followed T b.loops s) (b.own + s) (b.left + s) (b.right + s) (following T b.own b.next s) [])
+    each_row (entry_line v) (start + s * slot_count b.kind true 0) (spot_rows (spot_at T b s) [])
 
 -- those at the slot before it, and those at it
 abbrev pub kind_before : (v : ℕ) → Block → (T start s : ℕ) → List ℕ
@@ -54,7 +43,7 @@ kind_around v b T start s = kind_before v b T start s ++ kind_text v b T start s
 
 -- what follows the last slot stands at the last slot alone; another variable at its own slot s + 1 and the one before
 unfoldable pub kind_lines : (v : ℕ) → Block → (T start s : ℕ) → List ℕ
-kind_lines v b T start s = cond (b.loops && eqb v b.next) (kind_text v b T start (T - 1)) (kind_around v b T start s)
+kind_lines v b T start s = cond (loops_of b && eqb v (next_of b)) (kind_text v b T start (T - 1)) (kind_around v b T start s)
 
 module _ (v : ℕ) (b : Block) (T start s : ℕ) where
   pub around_first : s ≡ 0 → kind_text v b T start s ≡ kind_around v b T start s
@@ -67,11 +56,11 @@ module _ (v : ℕ) (b : Block) (T start s : ℕ) where
       let e : s ≡ suc (s - 1) = omega arith in
       ap (λ (l : List ℕ). l ++ kind_text v b T start s) (sym (ap (kind_before v b T start) e))
 
-  pub lines-last : {c : Bool} → c ≡ (b.loops && eqb v b.next) → c ≡ true → kind_text v b T start (T - 1) ≡ kind_lines v b T start s
+  pub lines-last : {c : Bool} → c ≡ (loops_of b && eqb v (next_of b)) → c ≡ true → kind_text v b T start (T - 1) ≡ kind_lines v b T start s
   unfolding kind_lines
   lines-last e f = sym (ap (λ (x : Bool). cond x (kind_text v b T start (T - 1)) (kind_around v b T start s)) (sym e ∙ f))
 
-  pub lines_around : {c : Bool} → c ≡ (b.loops && eqb v b.next) → c ≡ false → kind_around v b T start s ≡ kind_lines v b T start s
+  pub lines_around : {c : Bool} → c ≡ (loops_of b && eqb v (next_of b)) → c ≡ false → kind_around v b T start s ≡ kind_lines v b T start s
   unfolding kind_lines
   lines_around e f = sym (ap (λ (x : Bool). cond x (kind_text v b T start (T - 1)) (kind_around v b T start s)) (sym e ∙ f))
 
@@ -96,15 +85,21 @@ own-whole T M L n v nd b o = record {
   right_is = o.right_is;
 }
 
-pub kept_whole : (T c v : ℕ) (b k : Block) → v ≡ c * T → Kept v b k → Whole T b → Whole T k
-kept_whole T c v b k e g w = record {
+-- so are those of V's block, where there is one
+abbrev pub KeptWhole : (T : ℕ) → Option Block → Type 0
+KeptWhole T (Some b) = Whole T b
+KeptWhole T None = Unit {0}
+
+pub kept_whole : (T c v : ℕ) (own : Block) (has : Bool) (kept : Option Block) → v ≡ c * T → KeptAt v own has kept → Whole T own → KeptWhole T kept
+kept_whole T c v own has (Some b) e h w = record {
   own-part = c;
   left-block = w.left-block;
   right-part = w.right-part;
-  own_is = g.own_is ∙ e;
-  left_is = g.left_is ∙ w.left_is;
-  right_is = g.right_is ∙ w.right_is;
+  own_is = h.1.own_is ∙ e;
+  left_is = h.1.left_is ∙ w.left_is;
+  right_is = h.1.right_is ∙ w.right_is;
 }
+kept_whole T c v own has None e h w = tt
 
 -- rows without a window lack a variable that is none of theirs
 abbrev PartsLack : Kind → (v p q : ℕ) → Type 0
@@ -168,21 +163,20 @@ module _ (T L : ℕ) (b : Block) (plain : Plain b.kind) (0<T : 1 ≤ T) (v start
   unfolding kind_text slot_text
   text-is s h =
       ap₂ (λ (i : ℕ) (rs : List Row). each_row (entry_line v) i rs) (ap (λ (i : ℕ). start + i) (sym (before_kind T L b plain s h)))
-      (plain_rows b.kind plain (followed T b.loops s) (b.own + s) (b.left + s) (b.right + s) (following T b.own b.next s)
-      (window_at T L b.left b.from b.to s))
+      (plain_rows T L b s plain)
 
   -- no lines at slot i + 1
   empty : (i : ℕ) → (b.own + i ≡ v → ⊥) → PartsLack b.kind v (b.left + i) (b.right + i)
-      → (loops_by b.kind ≡ true → followed T b.loops i ≡ true → following T b.own b.next i ≡ v → ⊥) →
+      → (loops_by b.kind ≡ true → followed T (loops_of b) i ≡ true → following T b.own (next_of b) i ≡ v → ⊥) →
       text i ≡ []
   unfolding slot_text
   empty i a h c =
-      absent v (start + rows_before T L b i) (block_on b T L i) (kind_lacks v b.kind (followed T b.loops i) (b.own + i) (b.left + i)
-      (b.right + i) (following T b.own b.next i)
+      absent v (start + rows_before T L b i) (block_on b T L i) (kind_lacks v b.kind (followed T (loops_of b) i) (b.own + i) (b.left + i)
+      (b.right + i) (following T b.own (next_of b) i)
       (window_at T L b.left b.from b.to i) a h c)
 
   -- what follows the last slot: at the last slot alone
-  module _ (behind : Behind T b) (loops : b.loops ≡ true) (is : v ≡ b.next) where
+  module _ (behind : Behind T b) (loops : loops_of b ≡ true) (is : v ≡ next_of b) where
     far : b.own + T ≤ v
     far = omega (arith, behind.next loops)
 
@@ -190,8 +184,8 @@ module _ (T L : ℕ) (b : Block) (plain : Plain b.kind) (0<T : 1 ≤ T) (v start
     last-text =
         flat-only text (T - 1) T (omega arith)
         (λ i l f. empty i (λ e. omega (arith, far)) (behind_lack b.kind T b.own b.left b.right v i plain behind.parts far l)
-        (λ k c e. let z : following T b.own b.next i ≡ b.own + i + 1 =
-        ap (λ (x : Bool). cond x (b.own + i + 1) b.next) (lt-ltb (i + 1) T (omega arith)) in
+        (λ k c e. let z : following T b.own (next_of b) i ≡ b.own + i + 1 =
+        ap (λ (x : Bool). cond x (b.own + i + 1) (next_of b)) (lt-ltb (i + 1) T (omega arith)) in
         omega (arith, far, z)))
         ∙ sym (text-is (T - 1) (omega arith))
 
@@ -213,15 +207,15 @@ module _ (T L : ℕ) (b : Block) (plain : Plain b.kind) (0<T : 1 ≤ T) (v start
             (parts_lack b.kind v (b.left + i) (b.right + i) plain
             (λ f. at_slot_lem whole.left-block i (omega arith) (λ z. omega arith) (omega (arith, whole.left_is, f)))
             (λ f. at_slot_lem whole.right-part i (omega arith) (λ z. omega arith) (omega (arith, whole.right_is, f))))
-            (λ k c f. let z : following T b.own b.next i ≡ b.own + i + 1 =
-            ap (λ (x : Bool). cond x (b.own + i + 1) b.next) (lt-ltb (i + 1) T (omega arith)) in
+            (λ k c f. let z : following T b.own (next_of b) i ≡ b.own + i + 1 =
+            ap (λ (x : Bool). cond x (b.own + i + 1) (next_of b)) (lt-ltb (i + 1) T (omega arith)) in
             n k (omega (arith, f, z)))
 
-    module _ (other : b.loops ≡ true → b.next ≡ v → ⊥) where
-      follow : (i : ℕ) → i < T → (i + 1 ≡ s → ⊥) → followed T b.loops i ≡ true → following T b.own b.next i ≡ v → ⊥
+    module _ (other : loops_of b ≡ true → next_of b ≡ v → ⊥) where
+      follow : (i : ℕ) → i < T → (i + 1 ≡ s → ⊥) → followed T (loops_of b) i ≡ true → following T b.own (next_of b) i ≡ v → ⊥
       follow i l g c = go (ltb (i + 1) T) refl c
         where
-          go : (d : Bool) → ltb (i + 1) T ≡ d → (d || b.loops) ≡ true → cond d (b.own + i + 1) b.next ≡ v → ⊥
+          go : (d : Bool) → ltb (i + 1) T ≡ d → (d || loops_of b) ≡ true → cond d (b.own + i + 1) (next_of b) ≡ v → ⊥
           go true z w e = at_slot_lem whole.own-part (i + 1) (ltb-true (i + 1) T z) g (omega (arith, whole.own_is, e))
           go false z w e = other w e
 
@@ -239,20 +233,16 @@ module _ (T L : ℕ) (b : Block) (plain : Plain b.kind) (0<T : 1 ≤ T) (v start
 
   pub plain_lines_lem : Behind T b → Whole T b → (x s : ℕ) → s < T → v ≡ x * T + s → kind_lines v b T start s ≡ each_row (entry_line v) start (block_rows b T L)
   unfolding kind_lines
-  plain_lines_lem behind whole x s low is = go b.loops refl (eqb v b.next) refl ∙ sym (block-text T L b (entry_line v) start)
+  plain_lines_lem behind whole x s low is = go (loops_of b) refl (eqb v (next_of b)) refl ∙ sym (block-text T L b (entry_line v) start)
     where
       never : false ≡ true → ◌≡◌ {A = ℕ} 0 1
       never e = cc
 
-      go : (c : Bool) → b.loops ≡ c → (d : Bool) → eqb v b.next ≡ d → cond (c && d) (kind_text v b T start (T - 1)) (kind_around v b T start s) ≡ flat text T
-      go true e true f = sym (last-text behind e (eqb-true v b.next f))
-      go true e false f = sym (around_text whole x s low is (λ z q. eqb-false v b.next f (sym q)))
+      go : (c : Bool) → loops_of b ≡ c → (d : Bool) → eqb v (next_of b) ≡ d → cond (c && d) (kind_text v b T start (T - 1)) (kind_around v b T start s) ≡ flat text T
+      go true e true f = sym (last-text behind e (eqb-true v (next_of b) f))
+      go true e false f = sym (around_text whole x s low is (λ z q. eqb-false v (next_of b) f (sym q)))
       go false e d f = sym (around_text whole x s low is (λ z q. let w : ◌≡◌ {A = ℕ} 0 1 = never (sym e ∙ z) in omega arith))
 
 -- two tests, the second of equal numbers, do not both pass
 pub not-both : {r a c : Bool} (v w : ℕ) → r ≡ (a && eqb v w) → a ≡ c → r ≡ false → c ≡ true → w ≡ v → ⊥
 not-both {r} {a} {c} v w e f g h q = eqb-false v w (and-false a (eqb v w) (sym e ∙ g) (f ∙ h)) (sym q)
-
--- numbers of a list are below n
-abbrev pub Low : (n : ℕ) → List ℕ → (count : ℕ) → Type 0
-Low n list count = (j : ℕ) → j < count → get_or list j 0 < n

@@ -1,85 +1,48 @@
 // The lines of the columns of an MPS page. A variable is looked for in the rows of its own node and of those that have it as a part alone.
 #![tactic(auto)]
 
-ghost use Rattle.std.specs.Prelude.{◌≡◌, cond, true, [], ◌+◌, ◌-◌, ◌*◌, ◌≤◌, ◌<◌, length, get_or};
+ghost use Rattle.std.specs.Prelude.{◌≡◌, ◌&&◌, true, eqb, ◌+◌, ◌*◌, ◌≤◌, ◌<◌};
 ghost use Rattle.lists.specs.Flat.{flat};
-ghost use Rattle.rules.specs.Table.{node_at};
-ghost use Rattle.rules.specs.Rows.{loops, looping, rows_of, variable_count};
-ghost use Rattle.rules.specs.TableTest.{record_count, nodes_in};
+ghost use Rattle.rules.specs.Rows.{looping, rows_of, variable_count};
+ghost use Rattle.rules.specs.TableTest.{nodes_in};
 ghost use Rattle.mps.specs.Page.{entry_line, each_row, column_lines};
-ghost use Rattle.table.specs.Checks.{Ready};
 ghost use Rattle.table.specs.Ends.{has_window};
-ghost use Rattle.row.specs.NodeRows.{block_rows};
+ghost use Rattle.row.specs.NodeRows.{loops_of, next_of, block_rows};
 ghost use Rattle.mps_line.specs.Bounds.{number_limit, LinesFit, plain_lines, slot_lines, block_lines, node_lines, nodes_lines, table_lines};
 ghost use Rattle.mps_line.specs.Bounds.{part_lines, own_parts, kept_parts, all_parts};
 ghost use Rattle.mps_line.specs.Emitted.{Lines};
 ghost use Rattle.mps_row.specs.Laws.{Plain};
-ghost use Rattle.window.specs.Slots.{Few};
-ghost use Rattle.mps_window.specs.Places.{rows_over, PartBelow};
-ghost use Rattle.mps_node.specs.Places.{blocks_rows, Fit};
-ghost use Rattle.mps_users.specs.Users.{kept_part, user_text};
-ghost use Rattle.mps_users.specs.Found.{Found};
-ghost use Rattle.mps_columns.specs.Walk.{kind_text, kind_around, kind_lines, Whole, Low};
-ghost use Rattle.mps_columns.specs.Windows.{is_within, Missed, Overlooked};
-ghost use Rattle.mps_columns.specs.Plans.{Planned, planned_part, AtSlot, Slotted};
+ghost use Rattle.mps_window.specs.Places.{rows_over};
+ghost use Rattle.mps_node.specs.Places.{blocks_rows, Fit, KeptFit};
+ghost use Rattle.mps_columns.specs.Walk.{kind_text, kind_around, kind_lines, Whole, KeptWhole};
+ghost use Rattle.mps_columns.specs.Windows.{Missed};
+ghost use Rattle.mps_columns.specs.Plans.{plan_rows, planned_part, planned_user, planned_users, KeptPart, Slotted};
 
-use mps_entry::Spot;
+mod columns;
+
+use columns::{Columns, Part};
 use mps_line::Name;
 use mps_node::Blocks;
 use mps_row::Text;
+use mps_users::Place;
 use mps_window::Over;
 use row::Block;
-use table::Kind;
+use table::Plan;
 
 // A variable, and its slot, counted from 0.
-#[derive(Clone, Copy)]
+#[derive(Clone, Copy, Debug, PartialEq, Eq)]
 struct Variable {
     v: usize,
-    s: usize,
-}
-
-// A part of the variables, and a slot, counted from 0.
-#[derive(Clone, Copy)]
-struct Slot {
-    x: usize,
-    s: usize,
-}
-
-// T, M and L, and the number of the goal row.
-#[derive(Clone, Copy)]
-struct Plan {
-    t: usize,
-    m: usize,
-    l: usize,
-    rows: usize,
+    s: u16,
 }
 
 // The lines of variable v in the rows of a block without a window at slot s + 1. `start` is the block's first row.
-fn put_at(
-    out: &mut [u8],
-    at: usize,
-    v: usize,
-    start: usize,
-    block: Block,
-    s: usize,
-    t: usize,
-) -> usize
+fn put_at(out: &mut [u8], at: usize, v: usize, start: usize, block: Block, s: u16, t: u16) -> usize
     requires { LinesFit at plain_lines × (v < number_limit) × (start + block_lines ≤ number_limit) × (s < t) × (t ≤ 64) × Fit t block × Plain block.kind }
     ensures { Lines plain_lines at (kind_text v block t start s) out.old out.new result }
 {
-    let kind = block.kind;
-    let i = start + row::rows_before(s, row::slot_count(kind, true, 0));
-    let own = block.own as usize + s;
-    let more = s + 1 < t;
-    let spot = Spot {
-        kind: kind,
-        inner: scalars::either(more, block.loops),
-        own: own,
-        left: block.left as usize + s,
-        right: block.right as usize + s,
-        next: scalars::pick(more, own + 1, block.next as usize),
-    };
-    mps_entry::put_entries(out, at, v, i, spot)
+    let i = start + row::rows_before(usize::from(s), row::slot_count(block.kind, true, 0));
+    mps_entry::put_entries(out, at, v, i, mps_row::spot_of(block, t, s))
 }
 
 // Its lines in the rows of such a block at slot s + 1, and before it at the slot before.
@@ -89,8 +52,8 @@ fn put_around(
     v: usize,
     start: usize,
     block: Block,
-    s: usize,
-    t: usize,
+    s: u16,
+    t: u16,
 ) -> usize
     requires { LinesFit at (2 * plain_lines) × (v < number_limit) × (start + block_lines ≤ number_limit) × (s < t) × (t ≤ 64)
         × Fit t block × Plain block.kind }
@@ -103,47 +66,35 @@ fn put_around(
     put_at(out, next, v, start, block, s, t)
 }
 
+// Whether it is what follows the block's last slot.
+fn follows(block: Block, v: usize) -> bool
+    ensures { result ≡ (loops_of block && eqb v (next_of block)) }
+{
+    block.next.is_some_and(|next| v == usize::from(next))
+}
+
 // All its lines in the rows of such a block: what follows the last slot stands there alone, and so does a variable at its slot, but for the own one of
 // F, G and U.
 fn put_plain(
     out: &mut [u8],
     at: usize,
-    v: usize,
+    variable: Variable,
     start: usize,
     block: Block,
-    s: usize,
-    t: usize,
+    t: u16,
 ) -> usize
-    requires lines_fit { LinesFit at (2 * plain_lines) × (v < number_limit) × (start + block_lines ≤ number_limit) × (s < t) × (t ≤ 64)
+    requires lines_fit { LinesFit at (2 * plain_lines) × Slotted t variable × (start + block_lines ≤ number_limit) × (t ≤ 64)
         × Fit t block × Plain block.kind }
-    requires whole { Whole t block × AtSlot t s v }
-    ensures { Lines (2 * plain_lines) at (kind_lines v block t start s) out.old out.new result }
+    requires whole { Whole t block }
+    ensures { Lines (2 * plain_lines) at (kind_lines variable.v block t start variable.s) out.old out.new result }
 {
-    if scalars::both(block.loops, v == block.next as usize) {
-        return put_at(out, at, v, start, block, t - 1, t);
-    }
-    let kind = block.kind;
-    if scalars::both(table::loops(kind), v == block.own as usize + s) {
-        return put_around(out, at, v, start, block, s, t);
-    }
-    put_at(out, at, v, start, block, s, t)
-}
-
-// Whether a kind with a window is F[a,b].
-fn is_within(kind: Kind) -> bool
-    ensures { result ≡ is_within kind }
-{
-    match kind {
-        Kind::Atom => false,
-        Kind::Not => false,
-        Kind::And => false,
-        Kind::Or => false,
-        Kind::Implies => false,
-        Kind::Eventually => false,
-        Kind::Always => false,
-        Kind::Until => false,
-        Kind::Within => true,
-        Kind::Throughout => false,
+    let Variable { v, s } = variable;
+    if follows(block, v) {
+        put_at(out, at, v, start, block, t - 1, t)
+    } else if table::loops(block.kind) && v == usize::from(block.own + s) {
+        put_around(out, at, v, start, block, s, t)
+    } else {
+        put_at(out, at, v, start, block, s, t)
     }
 }
 
@@ -152,41 +103,20 @@ fn misses(over: Over, v: usize) -> bool
     ensures { Missed over v result }
 {
     let looks = over.looks;
-    let first = scalars::wide(over.left) + scalars::wide(looks.first);
-    if v == scalars::wide(over.own) {
-        return false;
-    }
-    if v < first {
-        return true;
-    }
-    if v < first + scalars::wide(looks.count) + scalars::wide(looks.skip) {
-        return false;
-    }
-    true
+    let first = usize::from(over.left) + usize::from(looks.first);
+    v != usize::from(over.own)
+        && (v < first || first + usize::from(looks.count) + usize::from(looks.skip) <= v)
 }
 
 // Its lines in the rows of a window at a slot, from row i on.
 fn put_seen(out: &mut [u8], at: usize, v: usize, i: usize, over: Over) -> usize
-    requires { LinesFit at slot_lines × (v < number_limit) × (i + slot_lines ≤ number_limit) × Few over.looks × PartBelow over }
+    requires { LinesFit at slot_lines × (v < number_limit) × (i + slot_lines ≤ number_limit) }
     ensures { Lines slot_lines at (each_row (entry_line v) i (rows_over over)) out.old out.new result }
 {
     if misses(over, v) {
-        return at;
-    }
-    mps_window::put_entries(out, at, v, i, over)
-}
-
-// The window of a block at slot s + 1.
-fn over_at(block: Block, within: bool, t: u16, l: u16, s: u16) -> Over
-    requires { (1 ≤ l) × (l ≤ t) × (t ≤ 64) × (s < t) × Fit t block × (has_window block.kind ≡ true) × (within ≡ is_within block.kind) }
-    ensures { Overlooked block t l s result }
-{
-    let looks = window::look(t, l, s, block.from, block.to);
-    Over {
-        within: within,
-        own: block.own + s,
-        left: block.left,
-        looks: looks,
+        at
+    } else {
+        mps_window::put_entries(out, at, v, i, over)
     }
 }
 
@@ -204,18 +134,12 @@ fn put_windows(
         × Fit t block × (has_window block.kind ≡ true) }
     ensures { Lines block_lines at (each_row (entry_line v) start (block_rows block t l)) out.old out.new result }
 {
-    let kind = block.kind;
-    let within = is_within(kind);
     let mut next = at;
     let mut i = start;
-    let mut s: u16 = 0;
-    while s < t {
-        let over = over_at(block, within, t, l, s);
-        let looks = over.looks;
-        let count = scalars::wide(looks.count);
+    for s in 0..t {
+        let over = mps_node::over_at(block, t, l, s).unwrap();
         next = put_seen(out, next, v, i, over);
-        i += count + 1;
-        s += 1;
+        i += usize::from(over.looks.count) + 1;
     }
     next
 }
@@ -227,19 +151,18 @@ fn put_block(
     variable: Variable,
     start: usize,
     block: Block,
-    t: usize,
-    l: usize,
+    t: u16,
+    l: u16,
 ) -> usize
     requires { LinesFit at block_lines × Slotted t variable × (start + block_lines ≤ number_limit) × (1 ≤ l) × (l ≤ t) × (t ≤ 64)
         × Fit t block × Whole t block }
     ensures { Lines block_lines at (each_row (entry_line variable.v) start (block_rows block t l)) out.old out.new result }
 {
-    let kind = block.kind;
-    let v = variable.v;
-    if table::has_window(kind) {
-        return put_windows(out, at, v, start, block, t as u16, l as u16);
+    if table::has_window(block.kind) {
+        put_windows(out, at, variable.v, start, block, t, l)
+    } else {
+        put_plain(out, at, variable, start, block, t)
     }
-    put_plain(out, at, v, start, block, variable.s, t)
 }
 
 // All its lines in the rows of a node, V's before its own.
@@ -248,230 +171,165 @@ fn put_node(
     at: usize,
     variable: Variable,
     start: usize,
-    blocks: Blocks,
-    t: usize,
-    l: usize,
+    node: Blocks,
+    t: u16,
+    l: u16,
 ) -> usize
     requires lines_fit { LinesFit at node_lines × Slotted t variable × (start + node_lines ≤ number_limit) × (1 ≤ l) × (l ≤ t) × (t ≤ 64) }
-    requires fit { Fit t blocks.own × Whole t blocks.own × Fit t blocks.kept × Whole t blocks.kept }
-    ensures { Lines node_lines at (each_row (entry_line variable.v) start (blocks_rows t l blocks)) out.old out.new result }
+    requires fit { Fit t node.own × Whole t node.own × KeptFit t node.kept × KeptWhole t node.kept }
+    ensures { Lines node_lines at (each_row (entry_line variable.v) start (blocks_rows t l node)) out.old out.new result }
 {
-    let own = blocks.own;
-    let kept = blocks.kept;
-    if blocks.both {
-        let kind = kept.kind;
-        let last = put_block(out, at, variable, start, kept, t, l);
-        let rows = row::block_count(kind, kept.loops, t as u16, l as u16, kept.from, kept.to);
-        return put_block(out, last, variable, start + rows, own, t, l);
+    let Blocks { own, kept } = node;
+    match kept {
+        None => put_block(out, at, variable, start, own, t, l),
+        Some(kept) => {
+            let last = put_block(out, at, variable, start, kept, t, l);
+            let rows = row::block_count(kept.kind, kept.next.is_some(), t, l, kept.from, kept.to);
+            put_block(out, last, variable, start + rows, own, t, l)
+        }
     }
-    let kind = own.kind;
-    let v = variable.v;
-    if table::has_window(kind) {
-        return put_windows(out, at, v, start, own, t as u16, l as u16);
-    }
-    put_plain(out, at, v, start, own, variable.s, t)
 }
 
-// All its lines in the rows of node n of a checked table.
-fn put_user(
-    out: &mut [u8],
-    at: usize,
-    table: &[u8],
-    layout: &[usize; 256],
-    n: usize,
-    variable: Variable,
-    plan: Plan,
-) -> usize
-    requires { LinesFit at node_lines × Slotted plan.t variable × Planned plan table.now layout.now × (n < record_count table.now) }
-    ensures { Lines node_lines at (user_text plan.t plan.m plan.l (nodes_in table.now) variable.v n)
+// All its lines in the rows of node n.
+fn put_user(out: &mut [u8], at: usize, columns: &Columns, n: usize, variable: Variable) -> usize
+    requires { LinesFit at node_lines × Slotted columns.now.plan.t variable × (n < columns.now.plan.nodes) }
+    ensures { Lines node_lines at (planned_user columns.now.plan variable.v n)
         out.old out.new result }
 {
-    let kept = layout[128 + n] as u16;
-    let blocks = mps_node::blocks_at(table, n, plan.t, plan.m, plan.l, kept);
-    put_node(out, at, variable, layout[n], blocks, plan.t, plan.l)
+    let Plan { t, l, .. } = columns.plan;
+    let place = columns.layout[n];
+    let blocks = mps_node::blocks_at(columns.plan, n, place.kept);
+    put_node(
+        out,
+        at,
+        variable,
+        place.first_row,
+        blocks,
+        t as u16,
+        l as u16,
+    )
 }
 
-// All its lines in the rows of the nodes listed.
-fn put_users(
-    out: &mut [u8],
-    at: usize,
-    table: &[u8],
-    layout: &[usize; 256],
-    users: &[u8],
-    variable: Variable,
-    plan: Plan,
-) -> usize
-    requires lines_fit { LinesFit at nodes_lines × Slotted plan.t variable × Planned plan table.now layout.now }
-    requires users_len_bound { (length users.now ≤ 128) × Low (record_count table.now) users.now (length users.now) }
-    ensures { Lines nodes_lines at (flat (λ j. user_text plan.t plan.m plan.l (nodes_in table.now) variable.v
-        (get_or users.now j 0)) (length users.now)) out.old out.new result }
+// All its lines in the rows of the nodes in whose rows its part stands.
+fn put_users(out: &mut [u8], at: usize, part: Part, variable: Variable) -> usize
+    requires { LinesFit at nodes_lines × Slotted part.columns.now.plan.t variable }
+    ensures { Lines nodes_lines at (planned_users part.entry.columns.now.plan part.entry.users.now variable.v) out.old out.new result }
 {
     let mut next = at;
-    let mut j: usize = 0;
-    while j < users.len() {
-        let user = users[j] as usize;
-        next = put_user(out, next, table, layout, user, variable, plan);
-        j += 1;
+    for user in part.users {
+        next = put_user(out, next, part.columns, usize::from(*user), variable);
     }
     next
 }
 
-// The lines of the variable of part x at slot s + 1; a variable in no row has its COST line.
-fn put_variable(
-    out: &mut [u8],
-    at: usize,
-    table: &[u8],
-    layout: &[usize; 256],
-    users: &[u8],
-    slot: Slot,
-    plan: Plan,
-) -> usize
-    requires lines_fit { LinesFit at table_lines × (slot.x < all_parts) × (slot.s < plan.t) × Planned plan table.now layout.now }
-    requires found { Found plan.m (nodes_in table.now) slot.x users.now (length users.now) }
-    ensures { Lines table_lines at (column_lines (rows_of plan.t plan.m plan.l (nodes_in table.now))
-        (slot.x * plan.t + slot.s)) out.old out.new result }
+// The lines of the variable of a part at slot s + 1; a variable in no row has its COST line.
+fn put_variable(out: &mut [u8], at: usize, part: Part, s: u16) -> usize
+    requires { LinesFit at table_lines × (s < part.columns.now.plan.t) }
+    ensures { Lines table_lines at (column_lines (plan_rows part.entry.columns.now.plan) (part.entry.x * part.entry.columns.now.plan.t + s)) out.old out.new result }
 {
-    let v = row::first_variable(slot.x, plan.t) as usize + slot.s;
-    let n = table::count(table);
-    let here = Variable { v: v, s: slot.s };
-    let next = put_users(out, at, table, layout, users, here, plan);
-    let goal = row::goal(row::slack(plan.t, plan.m, n - 1, 1));
-    let last = mps_row::put_row(out, next, Text::Entry(v), plan.rows, goal);
+    let Plan { nodes, t, m, .. } = part.columns.plan;
+    let v = usize::from(row::first_variable(part.x, t) + s);
+    let next = put_users(out, at, part, Variable { v, s });
+    let goal = row::goal(row::slack(t, m, nodes - 1, 1));
+    let last = mps_row::put_row(out, next, Text::Entry(v), part.columns.goal_row, goal);
     if last == at {
-        return mps_line::put_number_line(out, at, Name::Variable(v), Name::Cost, 0);
+        mps_line::put_number_line(out, at, Name::Variable(v), Name::Cost, 0)
+    } else {
+        last
     }
-    last
 }
 
-// The lines of the variables of part x.
-fn put_part(
-    out: &mut [u8],
-    at: usize,
-    table: &[u8],
-    layout: &[usize; 256],
-    users: &[u8],
-    x: usize,
-    plan: Plan,
-) -> usize
-    requires lines_fit { LinesFit at part_lines × (x < all_parts) × Planned plan table.now layout.now }
-    requires found { Found plan.m (nodes_in table.now) x users.now (length users.now) }
-    ensures { Lines part_lines at (planned_part plan table.now x) out.old out.new result }
+// The lines of the variables of a part.
+fn put_part(out: &mut [u8], at: usize, part: Part) -> usize
+    requires { LinesFit at part_lines }
+    ensures { Lines part_lines at (planned_part part.entry.columns.now.plan part.entry.x) out.old out.new result }
 {
-    let t = plan.t;
     let mut next = at;
-    let mut s: usize = 0;
-    while s < t {
-        let here = Slot { x: x, s: s };
-        next = put_variable(out, next, table, layout, users, here, plan);
-        s += 1;
+    for s in 0..part.columns.plan.t as u16 {
+        next = put_variable(out, next, part, s);
     }
     next
 }
 
 // Those of an atom's part, or of a node's own.
-fn put_found(
-    out: &mut [u8],
-    at: usize,
-    table: &[u8],
-    layout: &[usize; 256],
-    x: usize,
-    plan: Plan,
-) -> usize
-    requires { LinesFit at part_lines × (x < plan.m + record_count table.now) × Planned plan table.now layout.now }
-    ensures { Lines part_lines at (planned_part plan table.now x) out.old out.new result }
+fn put_found(out: &mut [u8], at: usize, columns: &Columns, x: usize) -> usize
+    requires { LinesFit at part_lines × (x < columns.now.plan.m + columns.now.plan.nodes) }
+    ensures { Lines part_lines at (planned_part columns.now.plan x) out.old out.new result }
 {
-    let mut users = [0u8; 128];
-    let count = mps_users::find_users(table, table::count(table), plan.m, x, &mut users);
-    put_part(out, at, table, layout, &users[..count], x, plan)
+    let mut users = [0; 128];
+    let users = mps_users::find_users(columns.plan, x, &mut users);
+    put_part(out, at, Part { columns, x, users })
 }
 
-// Those of node n's V, the part x, if it has one.
-fn put_kept(
-    out: &mut [u8],
-    at: usize,
-    table: &[u8],
-    layout: &[usize; 256],
-    n: usize,
-    x: usize,
-    plan: Plan,
-) -> usize
-    requires { LinesFit at part_lines × (n < record_count table.now) × (x ≡ kept_part plan.m (nodes_in table.now) n)
-        × Planned plan table.now layout.now }
-    ensures { Lines part_lines at (cond (loops (node_at (nodes_in table.now) n)) (planned_part plan table.now x) [])
-        out.old out.new result }
+// Those of node n's V, the part x.
+fn put_kept(out: &mut [u8], at: usize, columns: &Columns, n: usize, x: usize) -> usize
+    requires fit { LinesFit at part_lines × (n < columns.now.plan.nodes) }
+    requires kept { KeptPart columns.now.plan n x }
+    ensures { Lines part_lines at (planned_part columns.now.plan x) out.old out.new result }
 {
-    if table::loops_at(table, n) {
-        let users = [n as u8];
-        return put_part(out, at, table, layout, &users, x, plan);
-    }
-    at
+    let users = [n as u8];
+    put_part(
+        out,
+        at,
+        Part {
+            columns,
+            x,
+            users: &users,
+        },
+    )
 }
 
 // Those of all atoms and nodes.
-fn put_own_parts(
-    out: &mut [u8],
-    at: usize,
-    table: &[u8],
-    layout: &[usize; 256],
-    plan: Plan,
-) -> usize
-    requires { LinesFit at (own_parts * part_lines) × Planned plan table.now layout.now }
-    ensures { Lines (own_parts * part_lines) at (flat (planned_part plan table.now) (plan.m + record_count table.now))
-        out.old out.new result }
+fn put_own_parts(out: &mut [u8], at: usize, columns: &Columns) -> usize
+    requires { LinesFit at (own_parts * part_lines) }
+    ensures { Lines (own_parts * part_lines) at (flat (planned_part columns.now.plan) (columns.now.plan.m + columns.now.plan.nodes)) out.old out.new result }
 {
-    let m = plan.m;
-    let parts = m + table::count(table);
+    let Plan { nodes, m, .. } = columns.plan;
     let mut next = at;
-    let mut x: usize = 0;
-    while x < parts {
-        next = put_found(out, next, table, layout, x, plan);
-        x += 1;
+    for x in 0..m + nodes {
+        next = put_found(out, next, columns, x);
     }
     next
 }
 
 // Those of the V's, in node order.
-fn put_kept_parts(
-    out: &mut [u8],
-    at: usize,
-    table: &[u8],
-    layout: &[usize; 256],
-    plan: Plan,
-) -> usize
-    requires { LinesFit at (kept_parts * part_lines) × Planned plan table.now layout.now }
-    ensures { Lines (kept_parts * part_lines) at (flat (λ j. planned_part plan table.now
-        (plan.m + record_count table.now + j)) (looping (nodes_in table.now))) out.old out.new result }
+fn put_kept_parts(out: &mut [u8], at: usize, columns: &Columns) -> usize
+    requires { LinesFit at (kept_parts * part_lines) }
+    ensures { Lines (kept_parts * part_lines) at (flat (λ j. planned_part columns.now.plan (columns.now.plan.m + columns.now.plan.nodes + j))
+        (looping (nodes_in columns.now.plan.table.now))) out.old out.new result }
 {
-    let m = plan.m;
-    let count = table::count(table);
+    let Plan { nodes, m, .. } = columns.plan;
     let mut next = at;
-    let mut found: usize = 0;
-    let mut n: usize = 0;
-    while n < count {
-        next = put_kept(out, next, table, layout, n, m + count + found, plan);
-        found = table::one_more(found, table::loops_at(table, n));
-        n += 1;
+    let mut found = 0;
+    for n in 0..nodes {
+        if columns.plan.loops(n) {
+            next = put_kept(out, next, columns, n, m + nodes + found);
+            found += 1;
+        }
     }
     next
 }
 
 // The lines of all variables of a checked table.
-pub fn put_columns(out: &mut [u8], at: usize, table: &[u8], t: usize, m: usize, l: usize) -> usize
-    requires { LinesFit at (all_parts * part_lines) × Ready t m l table.now }
-    ensures { Lines (all_parts * part_lines) at (flat (column_lines (rows_of t m l (nodes_in table.now)))
-        (variable_count t m l (nodes_in table.now))) out.old out.new result }
+pub fn put_columns(out: &mut [u8], at: usize, plan: Plan) -> usize
+    requires { LinesFit at (all_parts * part_lines) }
+    ensures { Lines (all_parts * part_lines) at (flat (column_lines (rows_of plan.entry.t plan.entry.m plan.entry.l (nodes_in plan.entry.table.now)))
+        (variable_count plan.entry.t plan.entry.m plan.entry.l (nodes_in plan.entry.table.now))) out.old out.new result }
 {
-    let mut layout = [0usize; 256];
-    let rows = mps_users::find_layout(table, t, m, l, &mut layout);
-    let plan = Plan {
-        t: t,
-        m: m,
-        l: l,
-        rows: rows,
+    let mut layout = [Place {
+        first_row: 0,
+        kept: 0,
+    }; 128];
+    let goal_row = mps_users::find_layout(plan, &mut layout);
+    let columns = Columns {
+        plan,
+        layout: &layout,
+        goal_row,
     };
-    let next = put_own_parts(out, at, table, &layout, plan);
-    if l < t {
-        return put_kept_parts(out, next, table, &layout, plan);
+    let next = put_own_parts(out, at, &columns);
+    if plan.l < plan.t {
+        put_kept_parts(out, next, &columns)
+    } else {
+        next
     }
-    next
 }

@@ -17,6 +17,11 @@ two false = negsuc 1
 abbrev pub double_line : (v i : ℕ) (up : Bool) → List ℕ
 double_line v i up = number_line (variable_name v) (row_name i) (two up)
 
+-- the row of "not", where the part goes up, and that of an atom or of what has one part alone
+abbrev pub pair_rows : (up : Bool) → (P p : ℕ) → List Row
+pair_rows true P p = not_rows P p
+pair_rows false P p = same_rows P p
+
 -- the rows of "and", and those of "or", which have the opposite signs
 abbrev pub join_rows : (up : Bool) → (P p q : ℕ) → List Row
 join_rows true P p q = and_rows P p q
@@ -49,29 +54,20 @@ module _ (v i : ℕ) where
   other {x} h = ne_eqb x v (λ e. h (sym e))
 
   module _ (P p : ℕ) where
-    pub same-own : v ≡ P → (v ≡ p → ⊥) → unit_line v i true ≡ lines (same_rows P p)
+    pub pair-own : (up : Bool) → v ≡ P → (v ≡ p → ⊥) → unit_line v i true ≡ lines (pair_rows up P p)
     unfolding each_row coefficient number_unless_zero
-    same-own a b = rw (is a, other b) (sym (append-nil (unit_line v i true)))
+    pair-own true a b = rw (is a, other b) (sym (append-nil (unit_line v i true)))
+    pair-own false a b = rw (is a, other b) (sym (append-nil (unit_line v i true)))
 
-    pub same-part : (v ≡ P → ⊥) → v ≡ p → unit_line v i false ≡ lines (same_rows P p)
+    pub pair-part : (up : Bool) → (v ≡ P → ⊥) → v ≡ p → unit_line v i up ≡ lines (pair_rows up P p)
     unfolding each_row coefficient number_unless_zero
-    same-part a b = rw (other a, is b) (sym (append-nil (unit_line v i false)))
+    pair-part true a b = rw (other a, is b) (sym (append-nil (unit_line v i true)))
+    pair-part false a b = rw (other a, is b) (sym (append-nil (unit_line v i false)))
 
-    pub same_none : (v ≡ P → ⊥) → (v ≡ p → ⊥) → [] ≡ lines (same_rows P p)
+    pub pair-none : (up : Bool) → (v ≡ P → ⊥) → (v ≡ p → ⊥) → [] ≡ lines (pair_rows up P p)
     unfolding each_row coefficient number_unless_zero
-    same_none a b = rw (other a, other b) refl
-
-    pub not_own : v ≡ P → (v ≡ p → ⊥) → unit_line v i true ≡ lines (not_rows P p)
-    unfolding each_row coefficient number_unless_zero
-    not_own a b = rw (is a, other b) (sym (append-nil (unit_line v i true)))
-
-    pub not-part : (v ≡ P → ⊥) → v ≡ p → unit_line v i true ≡ lines (not_rows P p)
-    unfolding each_row coefficient number_unless_zero
-    not-part a b = rw (other a, is b) (sym (append-nil (unit_line v i true)))
-
-    pub not_none : (v ≡ P → ⊥) → (v ≡ p → ⊥) → [] ≡ lines (not_rows P p)
-    unfolding each_row coefficient number_unless_zero
-    not_none a b = rw (other a, other b) refl
+    pair-none true a b = rw (other a, other b) refl
+    pair-none false a b = rw (other a, other b) refl
 
   module _ (P p q : ℕ) where
     pub join-own : (up : Bool) → v ≡ P → (v ≡ p → ⊥) → (v ≡ q → ⊥) → three_lines (not up) (not up) up ≡ lines (join_rows up P p q)

@@ -2,38 +2,26 @@
 // part or of both, or that of what follows.
 #![tactic(auto)]
 
-ghost use Rattle.std.specs.Prelude.{◌≡◌, true, false, ◌++◌, ◌+◌, ◌≤◌, ◌<◌};
-ghost use Rattle.rules.specs.Rows.{same_rows, not_rows, implies_rows, until_rows};
+ghost use Rattle.std.specs.Prelude.{◌≡◌, true, false, [], ◌++◌, ◌+◌, ◌≤◌, ◌<◌};
+ghost use Rattle.rules.specs.Rows.{implies_rows, until_rows};
 ghost use Rattle.mps_line.specs.Bounds.{number_limit, LinesFit, plain_lines};
 ghost use Rattle.mps_line.specs.Emitted.{Lines};
 ghost use Rattle.mps_line.specs.Units.{unit_line};
-ghost use Rattle.mps_entry.specs.Roles.{double_line, three_lines, both_joined, both_until, own_until, join_rows, lines};
-ghost use Rattle.mps_entry.specs.Spots.{EntriesFit, Ordered, spot_rows};
+ghost use Rattle.mps_entry.specs.Roles.{double_line, three_lines, both_joined, both_until, own_until, pair_rows, join_rows, lines};
+ghost use Rattle.mps_entry.specs.Spots.{EntriesFit, Ordered};
+ghost use Rattle.mps_row.specs.Spots.{spot_rows};
 
 use mps_line::Name;
+use mps_row::Spot;
 use table::Kind;
-
-// A node without a window at a slot: its variable there, its parts', and, where something follows (`inner`), that one's.
-#[derive(Clone, Copy)]
-pub struct Spot {
-    pub kind: Kind,
-    pub inner: bool,
-    pub own: usize,
-    pub left: usize,
-    pub right: usize,
-    pub next: usize,
-}
 
 // 2 or −2.
 fn put_double(out: &mut [u8], at: usize, v: usize, i: usize, up: bool) -> usize
     requires { LinesFit at 1 × (v < number_limit) × (i < number_limit) }
     ensures { Lines 1 at (double_line v i up) out.old out.new result }
 {
-    if up {
-        mps_line::put_number_line(out, at, Name::Variable(v), Name::Row(i), 2)
-    } else {
-        mps_line::put_number_line(out, at, Name::Variable(v), Name::Row(i), -2)
-    }
+    let c = if up { 2 } else { -2 };
+    mps_line::put_number_line(out, at, Name::Variable(v), Name::Row(i), c)
 }
 
 // 1 or −1 in two rows.
@@ -55,30 +43,16 @@ fn put_three(out: &mut [u8], at: usize, v: usize, i: usize, a: bool, b: bool, c:
     put_two(out, next, v, second, b, second + 1, c)
 }
 
-// P − p = 0
-fn put_same(out: &mut [u8], at: usize, v: usize, i: usize, node: usize, p: usize) -> usize
+// P − p = 0, or where the part goes up, P + p = 1
+fn put_pair(out: &mut [u8], at: usize, v: usize, i: usize, up: bool, node: u16, p: u16) -> usize
     requires { EntriesFit at v i × (p < node) }
-    ensures { Lines plain_lines at (lines v i (same_rows node p)) out.old out.new result }
+    ensures { Lines plain_lines at (lines v i (pair_rows up node p)) out.old out.new result }
 {
-    if v == node {
+    if v == usize::from(node) {
         return mps_line::put_unit(out, at, v, i, true);
     }
-    if v == p {
-        return mps_line::put_unit(out, at, v, i, false);
-    }
-    at
-}
-
-// P + p = 1
-fn put_not(out: &mut [u8], at: usize, v: usize, i: usize, node: usize, p: usize) -> usize
-    requires { EntriesFit at v i × (p < node) }
-    ensures { Lines plain_lines at (lines v i (not_rows node p)) out.old out.new result }
-{
-    if v == node {
-        return mps_line::put_unit(out, at, v, i, true);
-    }
-    if v == p {
-        return mps_line::put_unit(out, at, v, i, true);
+    if v == usize::from(p) {
+        return mps_line::put_unit(out, at, v, i, up);
     }
     at
 }
@@ -94,58 +68,36 @@ fn put_both(out: &mut [u8], at: usize, v: usize, i: usize, up: bool) -> usize
     put_double(out, last, v, second + 1, !up)
 }
 
-// The variables that a node joins: its parts', or its part's and the one that follows.
-#[derive(Clone, Copy)]
-struct Joined {
-    p: usize,
-    q: usize,
-}
-
-// p − P ≥ 0; q − P ≥ 0; P − p − q ≥ −1, or all with the opposite signs and 0 for −1
-fn put_joined(
-    out: &mut [u8],
-    at: usize,
-    v: usize,
-    i: usize,
-    up: bool,
-    node: usize,
-    joined: Joined,
-) -> usize
-    requires { EntriesFit at v i × (joined.p < node) × (joined.q ≡ node → ⊥) }
-    ensures { Lines plain_lines at (lines v i (join_rows up node joined.p joined.q)) out.old out.new result }
+// p − P ≥ 0; q − P ≥ 0; P − p − q ≥ −1, or all with the opposite signs and 0 for −1; q is the other part's, or what follows
+fn put_joined(out: &mut [u8], at: usize, v: usize, i: usize, up: bool, spot: Spot, q: u16) -> usize
+    requires { EntriesFit at v i × (spot.left < spot.own) × (q ≡ spot.own → ⊥) }
+    ensures { Lines plain_lines at (lines v i (join_rows up spot.own spot.left q)) out.old out.new result }
 {
-    if v == node {
+    if v == usize::from(spot.own) {
         return put_three(out, at, v, i, !up, !up, up);
     }
-    if v == joined.p {
-        if v == joined.q {
+    if v == usize::from(spot.left) {
+        if v == usize::from(q) {
             return put_both(out, at, v, i, up);
         }
         return put_two(out, at, v, i, up, i + 1 + 1, !up);
     }
-    if v == joined.q {
+    if v == usize::from(q) {
         return put_two(out, at, v, i + 1, up, i + 1 + 1, !up);
     }
     at
 }
 
 // P + p ≥ 1; P − q ≥ 0; q − p − P ≥ −1
-fn put_implies(
-    out: &mut [u8],
-    at: usize,
-    v: usize,
-    i: usize,
-    node: usize,
-    p: usize,
-    q: usize,
-) -> usize
-    requires { EntriesFit at v i × (p < node) × (q < node) }
-    ensures { Lines plain_lines at (lines v i (implies_rows node p q)) out.old out.new result }
+fn put_implies(out: &mut [u8], at: usize, v: usize, i: usize, spot: Spot) -> usize
+    requires { EntriesFit at v i × (spot.left < spot.own) × (spot.right < spot.own) }
+    ensures { Lines plain_lines at (lines v i (implies_rows spot.own spot.left spot.right)) out.old out.new result }
 {
-    if v == node {
+    let q = usize::from(spot.right);
+    if v == usize::from(spot.own) {
         return put_three(out, at, v, i, true, true, false);
     }
-    if v == p {
+    if v == usize::from(spot.left) {
         if v == q {
             return put_two(out, at, v, i, true, i + 1, false);
         }
@@ -178,65 +130,52 @@ fn put_own_until(out: &mut [u8], at: usize, v: usize, i: usize) -> usize
 }
 
 // P − q ≥ 0; p + q − P ≥ 0; q + P' − P ≥ 0; P − p − P' ≥ −1
-fn put_until(out: &mut [u8], at: usize, v: usize, i: usize, spot: Spot) -> usize
-    requires { EntriesFit at v i × (spot.left < spot.own) × (spot.right < spot.own) × (spot.own < spot.next) }
-    ensures { Lines plain_lines at (lines v i (until_rows spot.own spot.left spot.right spot.next)) out.old out.new result }
+fn put_until(out: &mut [u8], at: usize, v: usize, i: usize, spot: Spot, next: u16) -> usize
+    requires { EntriesFit at v i × (spot.left < spot.own) × (spot.right < spot.own) × (spot.own < next) }
+    ensures { Lines plain_lines at (lines v i (until_rows spot.own spot.left spot.right next)) out.old out.new result }
 {
-    if v == spot.own {
+    let q = usize::from(spot.right);
+    if v == usize::from(spot.own) {
         return put_own_until(out, at, v, i);
     }
-    if v == spot.next {
+    if v == usize::from(next) {
         return put_two(out, at, v, i + 1 + 1, true, i + 1 + 1 + 1, false);
     }
-    if v == spot.left {
-        if v == spot.right {
+    if v == usize::from(spot.left) {
+        if v == q {
             return put_both_until(out, at, v, i);
         }
         return put_two(out, at, v, i + 1, true, i + 1 + 1 + 1, false);
     }
-    if v == spot.right {
+    if v == q {
         return put_three(out, at, v, i, false, true, true);
     }
     at
 }
 
-// The entries of variable v in the rows of a node at a slot, from row i on.
+// The entries of variable v in the rows of a node without a window at a slot, from row i on.
 pub fn put_entries(out: &mut [u8], at: usize, v: usize, i: usize, spot: Spot) -> usize
     requires { EntriesFit at v i × Ordered spot }
-    ensures { Lines plain_lines at (lines v i (spot_rows spot)) out.old out.new result }
+    ensures { Lines plain_lines at (lines v i (spot_rows spot [])) out.old out.new result }
 {
-    let kind = spot.kind;
-    let left = spot.left;
-    let right = spot.right;
-    let next = spot.next;
-    match kind {
-        Kind::Atom => put_same(out, at, v, i, spot.own, left),
-        Kind::Not => put_not(out, at, v, i, spot.own, left),
-        Kind::And => put_joined(out, at, v, i, true, spot.own, Joined { p: left, q: right }),
-        Kind::Or => put_joined(out, at, v, i, false, spot.own, Joined { p: left, q: right }),
-        Kind::Implies => put_implies(out, at, v, i, spot.own, left, right),
-        Kind::Eventually => {
-            if spot.inner {
-                put_joined(out, at, v, i, false, spot.own, Joined { p: left, q: next })
-            } else {
-                put_same(out, at, v, i, spot.own, left)
-            }
-        }
-        Kind::Always => {
-            if spot.inner {
-                put_joined(out, at, v, i, true, spot.own, Joined { p: left, q: next })
-            } else {
-                put_same(out, at, v, i, spot.own, left)
-            }
-        }
-        Kind::Until => {
-            if spot.inner {
-                put_until(out, at, v, i, spot)
-            } else {
-                put_same(out, at, v, i, spot.own, right)
-            }
-        }
-        Kind::Within => at,
-        Kind::Throughout => at,
+    match spot.kind {
+        Kind::Atom => put_pair(out, at, v, i, false, spot.own, spot.left),
+        Kind::Not => put_pair(out, at, v, i, true, spot.own, spot.left),
+        Kind::And => put_joined(out, at, v, i, true, spot, spot.right),
+        Kind::Or => put_joined(out, at, v, i, false, spot, spot.right),
+        Kind::Implies => put_implies(out, at, v, i, spot),
+        Kind::Eventually => match spot.next {
+            Some(next) => put_joined(out, at, v, i, false, spot, next),
+            None => put_pair(out, at, v, i, false, spot.own, spot.left),
+        },
+        Kind::Always => match spot.next {
+            Some(next) => put_joined(out, at, v, i, true, spot, next),
+            None => put_pair(out, at, v, i, false, spot.own, spot.left),
+        },
+        Kind::Until => match spot.next {
+            Some(next) => put_until(out, at, v, i, spot, next),
+            None => put_pair(out, at, v, i, false, spot.own, spot.right),
+        },
+        Kind::Within | Kind::Throughout => at,
     }
 }

@@ -14,7 +14,7 @@ use Rattle.table.specs.declared.Kind.TheVariants.{Atom, Not, And, Or, Implies, E
 use Rattle.row.specs.declared.Block.{Block}
 use Rattle.row.specs.Kinds.{window_at}
 use Rattle.row.specs.Apart.{Apart, apart_by, Behind, kept-behind}
-use Rattle.row.specs.NodeRows.{kept_place, kept_high, kept_of_lem, own_block, kept_block}
+use Rattle.row.specs.NodeRows.{kept_place, kept_high, kept_of_lem, Own, own-next, own_block, kept_block}
 use Rattle.mps_length.specs.Windows.{Rising, rising_window, rising_below}
 
 left-apart : (k : Kind) (T P p q : ℕ) → Apart k T P p q → p + T ≤ P
@@ -51,6 +51,9 @@ module _ (T M L : ℕ) (ns : List Node) (i : ℕ) (nd : Table.Node) (is : node_o
       let k : (M + i) * T + T ≤ (M + (length ns + cond (ltb L T) (looping ns) 0)) * T = place_end T (omega arith) in
       omega (arith, all-variables T M L ns)
 
+  pub own-has : Own T M L i (kept_place T M ns i) nd own
+  own-has = record { kind_is = refl; own_is = refl; left_is = refl; right_is = refl; from_is = refl; to_is = refl; next-is = refl }
+
   module _ (looped : ltb L T ≡ true) (k : loops_by nd.kind ≡ true) where
     pub kept-room : kept_place T M ns i + T ≤ variable_count T M L ns
     kept-room =
@@ -68,7 +71,7 @@ module _ (T M L : ℕ) (ns : List Node) (i : ℕ) (nd : Table.Node) (is : node_o
       parts =
           apart_by M i T nd.kind nd.left nd.right nd.from nd.to own.own own.left own.right refl refl refl
           (subst⁻¹ (NodeGood M i) is good);
-      next = λ e. omega (arith, kept_high T M ns i h);
+      next = λ e. omega (arith, kept_high T M ns i h, own-next own-has e);
     }
 
     pub kept-is-behind : Behind T kept

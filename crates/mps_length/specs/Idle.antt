@@ -24,10 +24,10 @@ use Rattle.table.specs.declared.Kind.{Kind}
 use Rattle.table.specs.declared.Kind.TheVariants.{Atom, Not, And, Or, Implies, Eventually, Always, Until, Within, Throughout}
 use Rattle.row.specs.declared.Block.{Block}
 use Rattle.row.specs.Kinds.{left_block}
-use Rattle.row.specs.NodeRows.{block_on, block_rows, kept_place, has_kept, part_rows, own_block, kept_block, part-blocks}
+use Rattle.row.specs.NodeRows.{own-next, block_on, block_rows, kept_place, has_kept, part_rows, own_block, kept_block, part-blocks}
 use Rattle.mps.specs.Merged.{stands}
 use Rattle.lists.specs.Sums.{sum_to, sum_same, sum-times, sum-even, sum-split, sum-parts}
-use Rattle.mps_length.specs.Blocks.{all-variables, own-is-behind, kept-is-behind}
+use Rattle.mps_length.specs.Blocks.{all-variables, own-has, own-is-behind, kept-is-behind}
 use Rattle.mps_length.specs.Stands.{stands-left, stands-right, stands-flat, stands-first, behind, block-stands}
 use Rattle.mps_length.specs.Stands.{none_rows, none-append, none-flat, block_none}
 use Rattle.mps_length.specs.Sections.{idle_at}
@@ -142,7 +142,7 @@ module _ (T M L : ℕ) (ns : List Node) (i : ℕ) (h : i < length ns) where
     no_atom x s g l f =
         ap (stands v) (part-blocks T M L ns i nd is)
         ∙ none-append v (cond (has_kept T L nd) (block_rows kept T L) []) (block_rows own T L) (go (has_kept T L nd))
-        (block_none v T L own (before i) other (before nd.right) (λ e. omega (arith, last)))
+        (block_none v T L own (before i) other (before nd.right) (λ e. omega (arith, last, own-next (own-has T M L ns i nd is h) e)))
       where
         v : ℕ
         v = x * T + s

@@ -16,12 +16,12 @@ use Rattle.window.specs.Total.{slots_at, total_to, total-none, total-more}
 use Rattle.row.specs.declared.Block.{Block}
 use Rattle.row.specs.Kinds.{kind_rows, window_at, followed, following, followed-inner, followed-last}
 use Rattle.row.specs.Apart.{Apart, apart-at, Behind}
-use Rattle.row.specs.NodeRows.{block_on, block_rows, has_kept, part_rows, own_block, kept_block, part-blocks}
+use Rattle.row.specs.NodeRows.{Own, kept_place, loops_of, next_of, own_loops, own-next, block_on, block_rows, has_kept, part_rows, own_block, kept_block, part-blocks}
 use Rattle.lists.specs.Sums.{sum_to, sum_more, sum_same, sum-even, sum-last}
 use Rattle.mps_length.specs.RowSizes.{weight, weight-append, weight-flat, same-weight, not-weight, and-weight, and-twice, or_weight, or-twice}
 use Rattle.mps_length.specs.RowSizes.{implies_weight, implies_twice, until-weight, until-twice}
 use Rattle.mps_length.specs.Windows.{Rising, back_size, within-weight, throughout-weight}
-use Rattle.mps_length.specs.Blocks.{rising_block, own_room, kept-room, next-room, own-is-behind, kept-is-behind}
+use Rattle.mps_length.specs.Blocks.{rising_block, own_room, own-has, kept-room, next-room, own-is-behind, kept-is-behind}
 
 -- at a slot; `inner` is whether something follows, `twice` whether left and right are one, and k how many slots the window has
 abbrev pub slot_weight : Kind → (inner twice : Bool) → (k : ℕ) → ℕ
@@ -168,13 +168,13 @@ module _ (T L a b : ℕ) where
     slots-weight Throughout twice = throughout_slots T
 
 module _ (n T L : ℕ) (b : Block) (behind : Behind T b) (room : b.own + T ≤ n)
-    (next-room : b.loops ≡ true → loops_by b.kind ≡ true → b.next < n) where
-  after : (s : ℕ) → s < T → loops_by b.kind ≡ true → followed T b.loops s ≡ true →
-      (b.own + s < following T b.own b.next s) × (following T b.own b.next s < n)
+    (next-room : loops_of b ≡ true → loops_by b.kind ≡ true → next_of b < n) where
+  after : (s : ℕ) → s < T → loops_by b.kind ≡ true → followed T (loops_of b) s ≡ true →
+      (b.own + s < following T b.own (next_of b) s) × (following T b.own (next_of b) s < n)
   after s h k = go (ltb (s + 1) T) refl
     where
-      go : (c : Bool) → ltb (s + 1) T ≡ c → (c || b.loops) ≡ true →
-          (b.own + s < cond c (b.own + s + 1) b.next) × (cond c (b.own + s + 1) b.next < n)
+      go : (c : Bool) → ltb (s + 1) T ≡ c → (c || loops_of b) ≡ true →
+          (b.own + s < cond c (b.own + s + 1) (next_of b)) × (cond c (b.own + s + 1) (next_of b) < n)
       go true e f = let l = ltb-true (s + 1) T e in (omega arith, omega arith)
       go false e f = let l = behind.next f in (omega arith, next-room f k)
 
@@ -182,19 +182,19 @@ module _ (n T L : ℕ) (b : Block) (behind : Behind T b) (room : b.own + T ≤ n
   looked s = length (window_slots T L (s + 1) b.from b.to)
 
   block-weight : (twice : Bool) → 1 ≤ T → Twice twice b.left b.right →
-      weight n (block_rows b T L) ≡ block_weight b.kind b.loops twice T L b.from b.to
+      weight n (block_rows b T L) ≡ block_weight b.kind (loops_of b) twice T L b.from b.to
   unfolding block_rows
   block-weight twice 0<T t =
       weight-flat n (block_on b T L) T
-      ∙ sum_same (λ s. weight n (block_on b T L s)) (λ s. slot_weight b.kind (followed T b.loops s) twice (looked s)) T at_slot_lem
-      ∙ slots-weight T L b.from b.to b.loops 0<T b.kind twice
+      ∙ sum_same (λ s. weight n (block_on b T L s)) (λ s. slot_weight b.kind (followed T (loops_of b) s) twice (looked s)) T at_slot_lem
+      ∙ slots-weight T L b.from b.to (loops_of b) 0<T b.kind twice
     where
-      at_slot_lem : (s : ℕ) → s < T → weight n (block_on b T L s) ≡ slot_weight b.kind (followed T b.loops s) twice (looked s)
+      at_slot_lem : (s : ℕ) → s < T → weight n (block_on b T L s) ≡ slot_weight b.kind (followed T (loops_of b) s) twice (looked s)
       at_slot_lem s g =
-          kind_weight n (b.own + s) (b.left + s) (b.right + s) (following T b.own b.next s) b.left (window_at T L b.left b.from b.to s)
-          (omega arith) b.kind (followed T b.loops s) twice (apart-at b.kind T b.own b.left b.right s 0<T behind.parts) (after s g)
+          kind_weight n (b.own + s) (b.left + s) (b.right + s) (following T b.own (next_of b) s) b.left (window_at T L b.left b.from b.to s)
+          (omega arith) b.kind (followed T (loops_of b) s) twice (apart-at b.kind T b.own b.left b.right s 0<T behind.parts) (after s g)
           (twice-at twice b.left b.right s t) (rising_block T L b behind s)
-          ∙ ap (slot_weight b.kind (followed T b.loops s) twice)
+          ∙ ap (slot_weight b.kind (followed T (loops_of b) s) twice)
           (length-map (window_slots T L (s + 1) b.from b.to) (λ (i : ℕ). b.left + (i - 1)))
 
 -- ---- of a node, its V's with it; x is whether L is below T
@@ -252,8 +252,15 @@ module _ (T M L : ℕ) (ns : List Node) (i : ℕ) (nd : Table.Node) (is : node_o
   part-weight 0<T h good =
       ap (weight n) (part-blocks T M L ns i nd is) ∙ weight-append n (cond (has_kept T L nd) (block_rows kept T L) []) (block_rows own T L)
       ∙ ap₂ ◌+◌ (go (ltb L T) (loops_by nd.kind) refl refl)
-      (block-weight n T L own (own-is-behind T M L ns i nd is h good) (own_room T M L ns i nd is h) (next-room T M L ns i nd is h) twice 0<T same)
+      (block-weight n T L own (own-is-behind T M L ns i nd is h good) (own_room T M L ns i nd is h) next twice 0<T same
+      ∙ ap (λ (x : Bool). block_weight nd.kind x twice T L nd.from nd.to) (own_loops has))
     where
+      has : Own T M L i (kept_place T M ns i) nd own
+      has = own-has T M L ns i nd is h
+
+      next : loops_of own ≡ true → loops_by nd.kind ≡ true → next_of own < n
+      next e k = omega (arith, own-next has e, next-room T M L ns i nd is h (sym (own_loops has) ∙ e) k)
+
       twice : Bool
       twice = eqb own.left own.right
 

@@ -16,7 +16,7 @@ use Rattle.table.specs.declared.Kind.TheVariants.{Atom, Not, And, Or, Implies, E
 use Rattle.row.specs.declared.Block.{Block}
 use Rattle.row.specs.Kinds.{kind_rows, window_at, followed, following}
 use Rattle.row.specs.Apart.{Apart, apart-at, Behind}
-use Rattle.row.specs.NodeRows.{block_on, block_rows}
+use Rattle.row.specs.NodeRows.{loops_of, next_of, block_on, block_rows}
 use Rattle.mps.specs.Merged.{coefficient, is_zero, stands}
 use Rattle.mps_row.specs.Absent.{Lacks, coefficient-none}
 use Rattle.mps_length.specs.Terms.{term}
@@ -102,12 +102,12 @@ module _ (v : ℕ) where
   rising_other low high (u ∷ vs) r f = (f u r.0 r.1, rising_other (u + 1) high vs r.2 (λ w x y. f w (omega (arith, r.0)) y))
 
   -- a variable before those of a block, its right part and what follows, and not of its left part
-  pub block_none : (T L : ℕ) (b : Block) → v < b.own → ((s : ℕ) → s < T → Other (b.left + s)) → v < b.right → (b.loops ≡ true → v < b.next) →
+  pub block_none : (T L : ℕ) (b : Block) → v < b.own → ((s : ℕ) → s < T → Other (b.left + s)) → v < b.right → (loops_of b ≡ true → v < next_of b) →
       stands v (block_rows b T L) ≡ false
   unfolding block_rows
   block_none T L b own left right next = none-flat v (block_on b T L) T (λ s h. none_rows v (block_on b T L s) (at_slot_lem s h))
     where
-      after : (s : ℕ) (c : Bool) → (c || b.loops) ≡ true → Other (cond c (b.own + s + 1) b.next)
+      after : (s : ℕ) (c : Bool) → (c || loops_of b) ≡ true → Other (cond c (b.own + s + 1) (next_of b))
       after s true e = λ f. omega arith
       after s false e = λ f. omega (arith, next e)
 
@@ -116,7 +116,7 @@ module _ (v : ℕ) where
 
       at_slot_lem : (s : ℕ) → s < T → Every (Lacks v) (block_on b T L s)
       at_slot_lem s h =
-          kind_lacks b.kind (followed T b.loops s) (b.own + s) (b.left + s) (b.right + s) (following T b.own b.next s)
+          kind_lacks b.kind (followed T (loops_of b) s) (b.own + s) (b.left + s) (b.right + s) (following T b.own (next_of b) s)
           (window_at T L b.left b.from b.to s) (λ e. omega arith) (left s h) (λ e. omega arith) (after s (ltb (s + 1) T))
           (rising_other b.left (b.left + T) (window_at T L b.left b.from b.to s) (rising_window T L b.left b.from b.to s) window)
 
@@ -175,5 +175,5 @@ pub block-stands : (T L : ℕ) (b : Block) → Behind T b → (s : ℕ) → s < 
 unfolding block_rows
 block-stands T L b h s g =
     stands-flat (b.own + s) (block_on b T L) T s g
-    (own_kind (b.own + s) b.kind (followed T b.loops s) (b.left + s) (b.right + s) (following T b.own b.next s) b.left
+    (own_kind (b.own + s) b.kind (followed T (loops_of b) s) (b.left + s) (b.right + s) (following T b.own (next_of b) s) b.left
     (window_at T L b.left b.from b.to s) (apart-at b.kind T b.own b.left b.right s (omega arith) h.parts) (rising_block T L b h s))

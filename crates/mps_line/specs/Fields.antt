@@ -1,40 +1,28 @@
 -- The fields of a line as they are put: what stands there, and the spaces up to the next field.
-use Rattle.std.specs.Prelude.{◌≡◌, refl, List, [], ◌∷◌, ◌++◌, ℕ, zero, suc, ◌+◌, ◌-◌, ◌≤◌, ℤ, pos, length, replicate}
+use Rattle.std.specs.Prelude.{◌≡◌, refl, List, [], ◌∷◌, ◌++◌, ℕ, ◌+◌, ◌-◌, ◌≤◌, ℤ, pos, length, replicate}
 use Rattle.std.proofs.Common.{sym, ap, ◌∙◌, append_assoc, arith, length-append}
-use Rattle.std.proofs.lemmas.List.{length-replicate}
+use Rattle.std.proofs.lemmas.List.{length-replicate, replicate-append-replicate}
 use Rattle.lists.specs.Splice.{splice, sets_splice}
-use Rattle.text.specs.Decimal.{decimal, signed_text}
+use Rattle.text.specs.Decimal.{signed_text}
 use Rattle.text.specs.Put.{Put}
 use Rattle.mps.specs.Page.{field, ended, variable_name, type_line, number_line, binary_line, upper_line}
 
-abbrev space : ℕ
+abbrev pub space : ℕ
 space = 32
 
 -- a text, and spaces up to k bytes
 abbrev pub padded : (k : ℕ) → List ℕ → List ℕ
 padded k text = text ++ replicate (k - length text) space
 
-replicate-add : (a b : ℕ) → replicate (a + b) space ≡ replicate a space ++ replicate b space
-replicate-add zero b = let z : 0 + b ≡ b = omega arith in ap (λ (n : ℕ). replicate n space) z
-replicate-add (suc a) b =
-    let z : suc a + b ≡ suc (a + b) = omega arith in
-    ap (λ (n : ℕ). replicate n space) z ∙ ap (λ (l : List ℕ). space ∷ l) (replicate-add a b)
-
 -- a name of at most 8 bytes and two spaces more
 pub padded-more : (name : List ℕ) → length name ≤ 8 → padded 8 name ++ (32 ∷ 32 ∷ []) ≡ padded 10 name
 padded-more name h =
     let n = length name in
     append_assoc name (replicate (8 - n) space) (32 ∷ 32 ∷ [])
-    ∙ ap (λ (l : List ℕ). name ++ l) (sym (replicate-add (8 - n) 2) ∙ ap (λ (k : ℕ). replicate k space) (let z : 8 - n + 2 ≡ 10 - n = omega arith in z))
+    ∙ ap (λ (l : List ℕ). name ++ l) (replicate-append-replicate (8 - n) 2 space ∙ ap (λ (k : ℕ). replicate k space) (let z : 8 - n + 2 ≡ 10 - n = omega arith in z))
 
 pub length-padded : (k : ℕ) (text : List ℕ) → length text ≤ k → length (padded k text) ≡ k
 length-padded k text h = simp (length-append, length-replicate) (omega arith)
-
--- a letter before a number
-pub padded-first : (letter n : ℕ) {xs : List ℕ} → xs ≡ letter ∷ padded 7 (decimal n) → xs ≡ padded 8 (letter ∷ decimal n)
-padded-first letter n e =
-    let z : 7 - length (decimal n) ≡ 8 - suc (length (decimal n)) = omega arith in
-    e ∙ ap (λ (k : ℕ). letter ∷ (decimal n ++ replicate k space)) z
 
 -- a field of ten columns behind what has come to its column
 next_field : (column : ℕ) (text name content : List ℕ) → length (text ++ name) ≡ column - 11 + length name → 11 ≤ column →
@@ -52,8 +40,12 @@ pub type_fields : (letter : ℕ) (name : List ℕ) → type_line (letter ∷ [])
 unfolding type_line field
 type_fields letter name = refl
 
+-- four spaces, and two fields
+abbrev pub fields : (name row : List ℕ) → List ℕ
+fields name row = ((32 ∷ 32 ∷ 32 ∷ 32 ∷ []) ++ padded 10 name) ++ padded 10 row
+
 pub number_fields : (name row : List ℕ) (c : ℤ) → length name ≤ 8 → length row ≤ 8 →
-    number_line name row c ≡ ((((32 ∷ 32 ∷ 32 ∷ 32 ∷ []) ++ padded 10 name) ++ padded 10 row) ++ signed_text c) ++ (10 ∷ [])
+    number_line name row c ≡ (fields name row ++ signed_text c) ++ (10 ∷ [])
 unfolding number_line field
 number_fields name row c h g =
     let blank : List ℕ = 32 ∷ 32 ∷ 32 ∷ 32 ∷ [] in

@@ -2,7 +2,6 @@ pub mod Bounds
 pub mod Emitted
 pub mod Turns
 pub mod Fields
-pub mod Signs
 pub mod DigitWords
 pub mod Names
 pub mod Units

@@ -7,7 +7,7 @@ use Rattle.mps.specs.Page.{row_name, variable_name, number_line}
 use Rattle.mps_line.specs.Bounds.{number_limit}
 use Rattle.mps_line.specs.declared.Name.TheVariants.{Row, Variable}
 use Rattle.mps_line.specs.Names.{name-length, number-length}
-use Rattle.mps_line.specs.Fields.{padded, number_fields}
+use Rattle.mps_line.specs.Fields.{fields, number_fields}
 
 -- 1 or −1
 abbrev pub one : (up : Bool) → ℤ
@@ -32,9 +32,9 @@ unit-length v i true h g = omega (arith, number-length (Variable v) (Row i) (pos
 unit-length v i false h g = omega (arith, number-length (Variable v) (Row i) (negsuc 0) h g, length-low 1 (omega arith))
 
 pub unit_fields : (v i : ℕ) (up : Bool) → v < number_limit → i < number_limit →
-    (((32 ∷ 32 ∷ 32 ∷ 32 ∷ []) ++ padded 10 (variable_name v)) ++ padded 10 (row_name i)) ++ (signed_text (one up) ++ (10 ∷ [])) ≡ unit_line v i up
+    fields (variable_name v) (row_name i) ++ (signed_text (one up) ++ (10 ∷ [])) ≡ unit_line v i up
 unit_fields v i up h g =
     let a = name-length (Variable v) h in
     let b = name-length (Row i) g in
-    sym (append_assoc (((32 ∷ 32 ∷ 32 ∷ 32 ∷ []) ++ padded 10 (variable_name v)) ++ padded 10 (row_name i)) (signed_text (one up)) (10 ∷ []))
+    sym (append_assoc (fields (variable_name v) (row_name i)) (signed_text (one up)) (10 ∷ []))
     ∙ sym (number_fields (variable_name v) (row_name i) (one up) (omega arith) (omega arith))

@@ -1,19 +1,27 @@
 // The lines of an MPS page. A line is put where there is room for it; the result is the place after it, with room or without.
 #![tactic(auto)]
 
-ghost use Rattle.std.specs.Prelude.{◌≡◌, List, [], ◌∷◌, ◌++◌, ℕ, ◌+◌, ◌*◌, ◌/◌, ◌%◌, ◌^◌, ◌≤◌, ◌<◌, nat_abs, length};
+ghost use Rattle.std.specs.Prelude.{◌≡◌, List, [], ◌∷◌, ◌++◌, ℕ, ◌+◌, ◌*◌, ◌/◌, ◌%◌, ◌≤◌, ◌<◌, nat_abs, length};
 ghost use Rattle.endian.specs.Words.{little_endian};
 ghost use Rattle.text.specs.Decimal.{decimal, signed_text};
+ghost use Rattle.text.specs.DecimalLaws.{pair_text};
 ghost use Rattle.text.specs.Put.{Put};
 ghost use Rattle.mps.specs.Page.{type_line, number_line, binary_line, upper_line};
 ghost use Rattle.mps_line.specs.Names.{name_text, NameFits};
 ghost use Rattle.mps_line.specs.Bounds.{number_limit, line_limit, coefficient_limit, LinesFit};
 ghost use Rattle.mps_line.specs.Emitted.{Lines};
-ghost use Rattle.mps_line.specs.Fields.{padded};
+ghost use Rattle.mps_line.specs.Fields.{padded, fields};
+ghost use Rattle.mps_line.specs.DigitWords.{after};
 ghost use Rattle.mps_line.specs.Units.{bit, one, unit_line};
 
+// 2 to the power 56: the words below it have at most seven bytes.
+const SEVEN_BYTES: u64 = 1 << 56;
+
+// A word of spaces.
+const SPACES: u64 = 0x2020202020202020;
+
 // What stands in a field that names something.
-#[derive(Clone, Copy)]
+#[derive(Clone, Copy, Debug, PartialEq, Eq)]
 pub enum Name {
     Cost,
     Rights,
@@ -38,22 +46,7 @@ fn digits_in(n: usize) -> usize
     requires { n < number_limit }
     ensures { (result ≡ length (decimal n)) × (result ≤ 6) }
 {
-    if n < 10 {
-        return 1;
-    }
-    if n < 100 {
-        return 2;
-    }
-    if n < 1000 {
-        return 3;
-    }
-    if n < 10000 {
-        return 4;
-    }
-    if n < 100000 {
-        return 5;
-    }
-    6
+    n.max(1).ilog10() as usize + 1
 }
 
 fn name_length(name: Name) -> usize
@@ -72,61 +65,44 @@ fn signed_length(c: i64) -> usize
     requires { nat_abs c ≤ coefficient_limit }
     ensures { (result ≡ length (signed_text c)) × (result ≤ 7) }
 {
-    let n = digits_in(text::magnitude(c));
+    let n = digits_in(c.unsigned_abs() as usize);
     if c < 0 { n + 1 } else { n }
 }
 
 // ---- a name as a word
 
+// A word with a byte before its bytes; its last one goes.
+fn with_byte(rest: u64, byte: u8) -> u64
+    ensures { little_endian 8 result ≡ after (byte ∷ []) rest }
+{
+    endian::grown(rest % SEVEN_BYTES, byte)
+}
+
 // A word with a digit before its bytes.
 fn with_digit(rest: u64, d: usize) -> u64
-    requires { (rest < 256 ^ 7) × (d < 10) }
-    ensures { result ≡ rest * 256 + (48 + d) }
+    requires { d < 10 }
+    ensures { little_endian 8 result ≡ after ((48 + d) ∷ []) rest }
 {
-    endian::grown(rest, 48 + (d as u8))
+    with_byte(rest, b'0' + d as u8)
 }
 
 // A word with the two digits of a number before its bytes.
 fn with_pair(rest: u64, n: usize) -> u64
-    requires { (rest < 256 ^ 6) × (n < 100) }
-    ensures { result ≡ (rest * 256 + (48 + n % 10)) * 256 + (48 + n / 10) }
+    requires { n < 100 }
+    ensures { little_endian 8 result ≡ after (pair_text n) rest }
 {
     with_digit(with_digit(rest, n % 10), n / 10)
 }
 
-// The digits of a number of five or six, and spaces up to 7 bytes.
-fn long_word(upper: usize, low: usize) -> u64
-    requires { (100 ≤ upper) × (upper < 10000) × (low < 100) }
-    ensures { (little_endian 7 result ≡ padded 7 (decimal (upper * 100 + low))) × (result < 256 ^ 7) }
+// A word with the digits of a number before its bytes, two at once where it has more than one.
+fn with_digits(rest: u64, n: usize) -> u64
+    ensures { little_endian 8 result ≡ after (decimal n) rest }
 {
-    let first = upper / 100;
-    let second = upper % 100;
-    if first < 10 {
-        return with_digit(with_pair(with_pair(0x2020, low), second), first);
+    match n {
+        0..=9 => with_digit(rest, n),
+        10..=99 => with_pair(rest, n),
+        _ => with_digits(with_pair(rest, n % 100), n / 100),
     }
-    with_pair(with_pair(with_pair(0x20, low), second), first)
-}
-
-// The digits of a number, and spaces up to 7 bytes.
-fn digits_word(n: usize) -> u64
-    requires { n < number_limit }
-    ensures { (little_endian 7 result ≡ padded 7 (decimal n)) × (result < 256 ^ 7) }
-{
-    let upper = n / 100;
-    let low = n % 100;
-    if n < 10 {
-        return with_digit(0x202020202020, n);
-    }
-    if n < 100 {
-        return with_pair(0x2020202020, n);
-    }
-    if n < 1000 {
-        return with_digit(with_pair(0x20202020, low), upper);
-    }
-    if n < 10000 {
-        return with_pair(with_pair(0x202020, low), upper);
-    }
-    long_word(upper, low)
 }
 
 // A letter and a number, and spaces up to 8 bytes.
@@ -134,7 +110,7 @@ fn lettered_word(letter: u8, n: usize) -> u64
     requires { n < number_limit }
     ensures { little_endian 8 result ≡ padded 8 (letter ∷ decimal n) }
 {
-    endian::grown(digits_word(n), letter)
+    with_byte(with_digits(SPACES, n), letter)
 }
 
 // A name, and spaces up to 8 bytes.
@@ -143,22 +119,14 @@ fn name_word(name: Name) -> u64
     ensures { little_endian 8 result ≡ padded 8 (name_text name) }
 {
     match name {
-        Name::Cost => 0x2020202054534F43,
-        Name::Rights => 0x2020202020534852,
+        Name::Cost => u64::from_le_bytes(*b"COST    "),
+        Name::Rights => u64::from_le_bytes(*b"RHS     "),
         Name::Row(i) => lettered_word(b'R', i),
         Name::Variable(v) => lettered_word(b'X', v),
     }
 }
 
 // ---- what a line is made of, put where there is room
-
-// Four spaces with this letter in the second one's place.
-fn put_type(out: &mut [u8], at: usize, letter: u8) -> usize
-    requires { at + 4 ≤ length out.old }
-    ensures { Put at (32 ∷ letter ∷ 32 ∷ 32 ∷ []) out.old out.new result }
-{
-    endian::put_four(out, at, 0x20200020 + 256 * (letter as u32))
-}
 
 // A field of ten columns: the 8 bytes of a name's word, and two spaces.
 fn put_field(out: &mut [u8], at: usize, w: u64) -> usize
@@ -167,7 +135,18 @@ fn put_field(out: &mut [u8], at: usize, w: u64) -> usize
         Put at (padded 10 name) out.old out.new result) × (result ≡ at + 10) }
 {
     let next = endian::put_eight(out, at, w);
-    endian::put_two(out, next, 0x2020)
+    text::put_bytes(out, next, b"  ")
+}
+
+// Four spaces, and two fields.
+fn put_fields(out: &mut [u8], at: usize, first: u64, second: u64) -> usize
+    requires { at + 24 ≤ length out.old }
+    ensures { ((name row : List ℕ) → length name ≤ 8 → length row ≤ 8 → little_endian 8 first ≡ padded 8 name →
+        little_endian 8 second ≡ padded 8 row → Put at (fields name row) out.old out.new result) × (result ≡ at + 24) }
+{
+    let name = text::put_bytes(out, at, b"    ");
+    let row = put_field(out, name, first);
+    put_field(out, row, second)
 }
 
 // A letter and a number.
@@ -195,7 +174,7 @@ fn put_signed(out: &mut [u8], at: usize, c: i64) -> usize
     requires { (at + length (signed_text c) ≤ length out.old) × (nat_abs c ≤ coefficient_limit) }
     ensures { Put at (signed_text c) out.old out.new result }
 {
-    let n = text::magnitude(c);
+    let n = c.unsigned_abs() as usize;
     if c < 0 {
         let next = text::put_byte(out, at, b'-');
         return text::put_decimal(out, next, n);
@@ -214,7 +193,7 @@ pub fn put_type_line(out: &mut [u8], at: usize, letter: u8, name: Name) -> usize
     if out.len() < past {
         return past;
     }
-    let first = put_type(out, at, letter);
+    let first = text::put_bytes(out, at, &[b' ', letter, b' ', b' ']);
     let end = put_name(out, first, name);
     text::put_byte(out, end, b'\n')
 }
@@ -228,10 +207,8 @@ pub fn put_number_line(out: &mut [u8], at: usize, name: Name, row: Name, c: i64)
     if out.len() < past {
         return past;
     }
-    let first = put_type(out, at, b' ');
-    let second = put_field(out, first, name_word(name));
-    let third = put_field(out, second, name_word(row));
-    let end = put_signed(out, third, c);
+    let number = put_fields(out, at, name_word(name), name_word(row));
+    let end = put_signed(out, number, c);
     text::put_byte(out, end, b'\n')
 }
 
@@ -248,10 +225,10 @@ fn put_one(out: &mut [u8], at: usize, up: bool) -> usize
     ensures { Put at (signed_text (one up) ++ (10 ∷ [])) out.old out.new result }
 {
     if up {
-        return endian::put_two(out, at, 0x0A31);
+        text::put_bytes(out, at, b"1\n")
+    } else {
+        text::put_bytes(out, at, b"-1\n")
     }
-    let next = text::put_byte(out, at, b'-');
-    endian::put_two(out, next, 0x0A31)
 }
 
 // A variable, a row and 1 or −1.
@@ -263,10 +240,8 @@ pub fn put_unit(out: &mut [u8], at: usize, v: usize, i: usize, up: bool) -> usiz
     if out.len() < past {
         return past;
     }
-    let first = put_type(out, at, b' ');
-    let second = put_field(out, first, lettered_word(b'X', v));
-    let third = put_field(out, second, lettered_word(b'R', i));
-    put_one(out, third, up)
+    let number = put_fields(out, at, lettered_word(b'X', v), lettered_word(b'R', i));
+    put_one(out, number, up)
 }
 
 // The bound of an atom's variable.
@@ -283,7 +258,7 @@ pub fn put_binary_line(out: &mut [u8], at: usize, v: usize) -> usize
     text::put_byte(out, end, b'\n')
 }
 
-// The bound of a slack.
+// The bound of a slack. (Its name has spaces behind it and a number; an atom's has not: one function for both would be no plainer.)
 pub fn put_upper_line(out: &mut [u8], at: usize, v: usize) -> usize
     requires { LinesFit at 1 × (v < number_limit) }
     ensures { Lines 1 at (upper_line v) out.old out.new result }

@@ -1,97 +1,69 @@
 // The lines of the rows of a node at all slots, and of all rows of a table.
 #![tactic(auto)]
 
-ghost use Rattle.std.specs.Prelude.{◌≡◌, ◌+◌, ◌≤◌, ◌<◌};
+ghost use Rattle.std.specs.Prelude.{◌≡◌, ◌+◌, ◌≤◌, ◌<◌, length};
 ghost use Rattle.rules.specs.Rows.{rows_of};
-ghost use Rattle.rules.specs.TableTest.{record_count, nodes_in};
+ghost use Rattle.rules.specs.TableTest.{nodes_in};
 ghost use Rattle.mps.specs.Page.{each_row};
-ghost use Rattle.table.specs.Checks.{Ready};
-ghost use Rattle.row.specs.Kinds.{Allowed};
 ghost use Rattle.row.specs.NodeRows.{block_rows, kept_place};
-ghost use Rattle.mps_line.specs.Bounds.{number_limit, LinesFit, block_lines, node_lines, table_lines};
+ghost use Rattle.mps_line.specs.Bounds.{number_limit, LinesFit, block_lines, node_lines, slot_lines, table_lines};
 ghost use Rattle.mps_line.specs.Emitted.{Lines};
 ghost use Rattle.mps_row.specs.Texts.{line_of, TextFits};
-ghost use Rattle.mps_node.specs.Places.{blocks_rows, Fit, BlocksAt, Looked, Spotted};
+ghost use Rattle.mps_slot.specs.Spots.{slot_rows, Windowed};
+ghost use Rattle.mps_node.specs.Places.{blocks_rows, Fit, KeptFit, BlocksAt};
+ghost use Rattle.mps_node.specs.Windows.{OverAt};
 
-use mps_row::Text;
-use mps_slot::Spot;
+use mps_row::{Spot, Text};
+use mps_window::Over;
 use row::Block;
-use table::Kind;
-use window::Looks;
+use table::{Kind, Plan};
 
-// A node's own block of slacks, and its V's; `both` says whether it has V's.
-#[derive(Clone, Copy)]
+// A node's own block of slacks, and its V's if it has one.
+#[derive(Clone, Copy, Debug, PartialEq, Eq)]
 pub struct Blocks {
     pub own: Block,
-    pub kept: Block,
-    pub both: bool,
+    pub kept: Option<Block>,
 }
 
 // Those of node n of a checked table, whose V has the first variable v.
-pub fn blocks_at(table: &[u8], n: usize, t: usize, m: usize, l: usize, v: u16) -> Blocks
-    requires { Ready t m l table.now × (n < record_count table.now) × (v ≡ kept_place t m (nodes_in table.now) n) }
-    ensures { BlocksAt t m l (nodes_in table.now) n v result }
+pub fn blocks_at(plan: Plan, n: usize, v: u16) -> Blocks
+    requires { (n < plan.nodes) × (v ≡ kept_place plan.t plan.m (nodes_in plan.table.now) n) }
+    ensures { BlocksAt plan.entry.t plan.entry.m plan.entry.l (nodes_in plan.entry.table.now) n v result }
 {
-    let node = table::node_at(table, n);
-    let kind = node.kind;
-    let own = row::own_block(node, t, m, l, n, v);
-    let kept = row::kept_block(own, v);
-    Blocks {
-        own: own,
-        kept: kept,
-        both: row::has_kept(kind, t, l),
-    }
+    let node = plan.node(n);
+    let own = row::own_block(node, plan.t, plan.m, plan.l, n, v);
+    let kept = if row::has_kept(node.kind, plan.t, plan.l) {
+        Some(row::kept_block(own, v))
+    } else {
+        None
+    };
+    Blocks { own, kept }
 }
 
-// The slots that a node of this kind looks at from slot s + 1, if it has a window.
-fn look_from(kind: Kind, t: u16, l: u16, s: u16, a: u16, b: u16) -> Looks
-    requires { (1 ≤ l) × (l ≤ t) × (t ≤ 64) × (s < t) × Allowed kind a b }
-    ensures { Looked kind t l (s + 1) a b result }
-{
-    match kind {
-        Kind::Atom => nowhere(),
-        Kind::Not => nowhere(),
-        Kind::And => nowhere(),
-        Kind::Or => nowhere(),
-        Kind::Implies => nowhere(),
-        Kind::Eventually => nowhere(),
-        Kind::Always => nowhere(),
-        Kind::Until => nowhere(),
-        Kind::Within => window::look(t, l, s, a, b),
-        Kind::Throughout => window::look(t, l, s, a, b),
-    }
-}
-
-fn nowhere() -> Looks
-    ensures { result.count ≡ 0 }
-{
-    Looks {
-        first: 0,
-        count: 0,
-        head: 0,
-        skip: 0,
-        rest: 0,
-    }
-}
-
-// A block at slot s + 1.
-fn spot_of(block: Block, t: u16, l: u16, s: u16) -> Spot
+// The window of a block at slot s + 1, if its kind has one.
+pub fn over_at(block: Block, t: u16, l: u16, s: u16) -> Option<Over>
     requires { (1 ≤ l) × (l ≤ t) × (t ≤ 64) × (s < t) × Fit t block }
-    ensures { Spotted block t l s result }
+    ensures { OverAt block t l s result }
 {
-    let kind = block.kind;
-    let own = block.own + s;
-    let more = s + 1 < t;
-    let looks = look_from(kind, t, l, s, block.from, block.to);
-    Spot {
-        kind: kind,
-        inner: scalars::either(more, block.loops),
-        own: own,
-        left: block.left + s,
-        right: block.right + s,
-        next: window::pick(more, own + 1, block.next),
-        first: block.left,
-        looks: looks,
+    if !table::has_window(block.kind) {
+        return None;
+    }
+    Some(Over {
+        within: block.kind == Kind::Within,
+        own: block.own + s,
+        left: block.left,
+        looks: window::look(t, l, s, block.from, block.to),
+    })
+}
+
+// How many rows there are at a slot.
+fn slot_count(spot: Spot, over: Option<Over>) -> usize
+    requires { Windowed spot over }
+    ensures { (result ≡ length (slot_rows spot over)) × (result ≤ slot_lines) }
+{
+    match over {
+        Some(over) => usize::from(over.looks.count) + 1,
+        None => row::slot_count(spot.kind, spot.next.is_some(), 0),
     }
 }
 
@@ -108,18 +80,13 @@ pub fn put_block(
     requires { LinesFit at block_lines × TextFits text × (first + block_lines ≤ number_limit) × (1 ≤ l) × (l ≤ t) × (t ≤ 64) × Fit t block }
     ensures { Lines block_lines at (each_row (line_of text) first (block_rows block t l)) out.old out.new result }
 {
-    let kind = block.kind;
     let mut next = at;
     let mut i = first;
-    let mut s: u16 = 0;
-    while s < t {
-        let spot = spot_of(block, t, l, s);
-        let inner = spot.inner;
-        let looks = spot.looks;
-        let count = looks.count;
-        next = mps_slot::put_slot(out, next, text, i, spot);
-        i += row::slot_count(kind, inner, count as usize);
-        s += 1;
+    for s in 0..t {
+        let spot = mps_row::spot_of(block, t, s);
+        let over = over_at(block, t, l, s);
+        next = mps_slot::put_slot(out, next, text, i, spot, over);
+        i += slot_count(spot, over);
     }
     next
 }
@@ -135,50 +102,39 @@ fn put_node(
     l: u16,
 ) -> usize
     requires { LinesFit at node_lines × TextFits text × (first + node_lines ≤ number_limit) × (1 ≤ l) × (l ≤ t) × (t ≤ 64)
-        × Fit t blocks.own × Fit t blocks.kept }
+        × Fit t blocks.own × KeptFit t blocks.kept }
     ensures { Lines node_lines at (each_row (line_of text) first (blocks_rows t l blocks)) out.old out.new result }
 {
-    let own = blocks.own;
-    let kept = blocks.kept;
-    if blocks.both {
-        let kind = kept.kind;
-        let last = put_block(out, at, text, first, kept, t, l);
-        let rows = row::block_count(kind, kept.loops, t, l, kept.from, kept.to);
-        return put_block(out, last, text, first + rows, own, t, l);
+    match blocks.kept {
+        None => put_block(out, at, text, first, blocks.own, t, l),
+        Some(kept) => {
+            let last = put_block(out, at, text, first, kept, t, l);
+            let loops = kept.next.is_some();
+            let rows = row::block_count(kept.kind, loops, t, l, kept.from, kept.to);
+            put_block(out, last, text, first + rows, blocks.own, t, l)
+        }
     }
-    put_block(out, at, text, first, own, t, l)
 }
 
 // The lines of all rows of a checked table.
-pub fn put_all(
-    out: &mut [u8],
-    at: usize,
-    text: Text,
-    table: &[u8],
-    t: usize,
-    m: usize,
-    l: usize,
-) -> usize
-    requires { LinesFit at table_lines × TextFits text × Ready t m l table.now }
-    ensures { Lines table_lines at (each_row (line_of text) 0 (rows_of t m l (nodes_in table.now))) out.old out.new result }
+pub fn put_all(out: &mut [u8], at: usize, text: Text, plan: Plan) -> usize
+    requires { LinesFit at table_lines × TextFits text }
+    ensures { Lines table_lines at (each_row (line_of text) 0 (rows_of plan.entry.t plan.entry.m plan.entry.l (nodes_in plan.entry.table.now)))
+        out.old out.new result }
 {
-    let n = table::count(table);
+    let t = plan.t as u16;
+    let l = plan.l as u16;
     let mut next = at;
     let mut first: usize = 0;
     let mut looping: usize = 0;
-    let mut i: usize = 0;
-    while i < n {
-        let v = row::first_variable(m + n + looping, t);
-        let blocks = blocks_at(table, i, t, m, l, v);
+    for n in 0..plan.nodes {
+        let v = row::first_variable(plan.m + plan.nodes + looping, plan.t);
+        let blocks = blocks_at(plan, n, v);
         let own = blocks.own;
-        let kind = own.kind;
-        let from = own.from;
-        let to = own.to;
-        next = put_node(out, next, text, first, blocks, t as u16, l as u16);
-        first += row::node_count(kind, t as u16, l as u16, from, to);
-        looping = table::one_more(looping, table::loops_at(table, i));
-        i += 1;
+        next = put_node(out, next, text, first, blocks, t, l);
+        first += row::node_count(own.kind, t, l, own.from, own.to);
+        looping = table::one_more(looping, plan.loops(n));
     }
-    let goal = row::goal(row::slack(t, m, n - 1, 1));
+    let goal = row::goal(row::slack(plan.t, plan.m, plan.nodes - 1, 1));
     mps_row::put_row(out, next, text, first, goal)
 }

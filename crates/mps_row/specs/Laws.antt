@@ -15,8 +15,8 @@ use Rattle.table.specs.Ends.{has_window}
 use Rattle.table.specs.declared.Kind.{Kind}
 use Rattle.table.specs.declared.Kind.TheVariants.{Atom, Not, And, Or, Implies, Eventually, Always, Until, Within, Throughout}
 use Rattle.row.specs.declared.Block.{Block}
-use Rattle.row.specs.Kinds.{kind_rows, slot_count, followed, followed-inner, length-on}
-use Rattle.row.specs.NodeRows.{block_on, block_rows, part_rows, rows_to}
+use Rattle.row.specs.Kinds.{slot_count, followed, followed-inner, length-on}
+use Rattle.row.specs.NodeRows.{loops_of, next_of, block_on, block_rows, part_rows, rows_to}
 use Rattle.rules.proofs.RowCount.{node-count}
 use Rattle.mps.specs.Page.{each_row}
 use Rattle.mps_line.specs.Bounds.{row_limit}
@@ -38,11 +38,6 @@ module _ (line : ℕ → Row → List ℕ) where
   each-flat f i zero = refl
   each-flat f i (suc k) =
       each_append i (flat f k) (f k) ∙ ap (λ (l : List ℕ). l ++ each_row line (i + length (flat f k)) (f k)) (each-flat f i k)
-
-  -- the rows of a kind at a slot, where kind and slot are known
-  pub of_kind : (i : ℕ) {k j : Kind} {a b : Bool} (P p q P' : ℕ) (vs : List ℕ) → k ≡ j → a ≡ b →
-      each_row line i (kind_rows j b P p q P' vs) ≡ each_row line i (kind_rows k a P p q P' vs)
-  of_kind i P p q P' vs e f = rw (e, f) refl
 
 -- ---- kinds without a window
 
@@ -77,8 +72,8 @@ module _ (T L : ℕ) (b : Block) where
   unfolding rows_before
   before-none = ap length (flat-zero (block_on b T L))
 
-  slot-length : (s : ℕ) → length (block_on b T L s) ≡ slot_count b.kind (followed T b.loops s) (length (window_slots T L (s + 1) b.from b.to))
-  slot-length = length-on b.kind T L b.loops b.next b.own b.left b.right b.from b.to
+  slot-length : (s : ℕ) → length (block_on b T L s) ≡ slot_count b.kind (followed T (loops_of b) s) (length (window_slots T L (s + 1) b.from b.to))
+  slot-length = length-on b.kind T L (loops_of b) (next_of b) b.own b.left b.right b.from b.to
 
   -- without a window, the slots before one have as many rows each
   pub before_kind : Plain b.kind → (s : ℕ) → s < T → rows_before T L b s ≡ s * slot_count b.kind true 0
@@ -86,7 +81,7 @@ module _ (T L : ℕ) (b : Block) where
   before_kind plain s h =
       length-flat-even (block_on b T L) (slot_count b.kind true 0) s
       (λ i g. slot-length i
-      ∙ ap (λ (x : Bool). slot_count b.kind x (length (window_slots T L (i + 1) b.from b.to))) (followed-inner T b.loops i (omega arith))
+      ∙ ap (λ (x : Bool). slot_count b.kind x (length (window_slots T L (i + 1) b.from b.to))) (followed-inner T (loops_of b) i (omega arith))
       ∙ plain-count b.kind plain true (length (window_slots T L (i + 1) b.from b.to)))
 
 -- ---- of a table, node by node, and then the goal row's

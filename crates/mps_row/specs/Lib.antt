@@ -1,3 +1,4 @@
+pub mod Spots
 pub mod Texts
 pub mod Coefficients
 pub mod Slots

@@ -1,32 +1,60 @@
 // The lines of rows on an MPS page: in ROWS, in RHS, or in the column of a variable.
 #![tactic(auto)]
 
-ghost use Rattle.std.specs.Prelude.{◌≡◌, cond, ◌*◌, ◌≤◌, ◌<◌, eqb, pos, nat_abs};
+ghost use Rattle.std.specs.Prelude.{◌≡◌, cond, ◌+◌, ◌*◌, ◌≤◌, ◌<◌, eqb, pos, nat_abs};
 ghost use Rattle.mps.specs.Merged.{coefficient};
 ghost use Rattle.mps.specs.Page.{number_unless_zero};
 ghost use Rattle.row.specs.Meaning.{relation_of, terms_of, row_of};
 ghost use Rattle.mps_line.specs.Bounds.{number_limit, LinesFit};
 ghost use Rattle.mps_line.specs.Names.{name_text, NameFits};
 ghost use Rattle.mps_line.specs.Emitted.{Lines};
+ghost use Rattle.row.specs.Placed.{Placed};
+ghost use Rattle.mps_row.specs.Spots.{spot_at};
 ghost use Rattle.mps_row.specs.Texts.{type_letter, line_of, TextFits};
 
 use mps_line::Name;
-use row::{Relation, Row, Term, Terms};
+use row::{Block, Relation, Row, Term, Terms};
+use table::Kind;
 
 // Which line a row gives: its type, its right side, or the entry of a variable's column.
-#[derive(Clone, Copy)]
+#[derive(Clone, Copy, Debug, PartialEq, Eq)]
 pub enum Text {
     Typed,
     Right,
     Entry(usize),
 }
 
+// A block at a slot: its variable there, its parts', and that of what follows, where something does.
+#[derive(Clone, Copy, Debug, PartialEq, Eq)]
+pub struct Spot {
+    pub kind: Kind,
+    pub own: u16,
+    pub left: u16,
+    pub right: u16,
+    pub next: Option<u16>,
+}
+
+// A block at slot s + 1 of t.
+pub fn spot_of(block: Block, t: u16, s: u16) -> Spot
+    requires { (s < t) × (t ≤ 64) × Placed block }
+    ensures { result ≡ spot_at t block s }
+{
+    let own = block.own + s;
+    Spot {
+        kind: block.kind,
+        own,
+        left: block.left + s,
+        right: block.right + s,
+        next: if s + 1 < t { Some(own + 1) } else { block.next },
+    }
+}
+
 // A term's coefficient, where it is of this variable.
 fn term_in(t: Term, v: usize) -> i64
     ensures { (result ≡ cond (eqb t.variable v) t.coefficient (pos 0)) × (nat_abs result ≤ 128) }
 {
-    if t.variable as usize == v {
-        t.coefficient as i64
+    if usize::from(t.variable) == v {
+        i64::from(t.coefficient)
     } else {
         0
     }
@@ -58,7 +86,7 @@ fn put_unless_zero(out: &mut [u8], at: usize, name: Name, i: usize, c: i64) -> u
     requires { LinesFit at 1 × NameFits name × (i < number_limit) × (nat_abs c ≤ 3 * 128) }
     ensures { Lines 1 at (number_unless_zero (name_text name) i c) out.old out.new result }
 {
-    if text::magnitude(c) == 0 {
+    if c == 0 {
         return at;
     }
     mps_line::put_number_line(out, at, name, Name::Row(i), c)
@@ -69,14 +97,11 @@ pub fn put_row(out: &mut [u8], at: usize, text: Text, i: usize, row: Row) -> usi
     requires { LinesFit at 1 × TextFits text × (i < number_limit) }
     ensures { Lines 1 at (line_of text i (row_of row)) out.old out.new result }
 {
-    let relation = row.relation;
-    let right = row.right;
-    let terms = row.terms;
     match text {
-        Text::Typed => mps_line::put_type_line(out, at, letter(relation), Name::Row(i)),
-        Text::Right => put_unless_zero(out, at, Name::Rights, i, right as i64),
+        Text::Typed => mps_line::put_type_line(out, at, letter(row.relation), Name::Row(i)),
+        Text::Right => put_unless_zero(out, at, Name::Rights, i, i64::from(row.right)),
         Text::Entry(v) => {
-            put_unless_zero(out, at, Name::Variable(v), i, coefficient_in(terms, v))
+            put_unless_zero(out, at, Name::Variable(v), i, coefficient_in(row.terms, v))
         }
     }
 }

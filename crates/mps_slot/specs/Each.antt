@@ -1,28 +1,19 @@
 -- The lines of rows, one after the other.
-use Rattle.std.specs.Prelude.{◌≡◌, refl, ℕ, ◌+◌}
-use Rattle.std.proofs.Math.Path.{sym, ap}
-use Rattle.std.proofs.Common.{◌∙◌}
-use mathlib.Core.List.{List, [], ◌∷◌, ◌++◌, append-nil}
-use native.Mathlib.Omega.{arith}
+use Rattle.std.specs.Prelude.{◌≡◌, List, [], ◌∷◌, ◌++◌, map, take, ℕ, ◌+◌, ◌<◌, length}
+use Rattle.std.proofs.Common.{sym, ap, ◌∙◌, append-nil, get_or, arith}
+use Rattle.std.proofs.lemmas.List.{take_more, map-append, length-take, length-map}
 use Rattle.rules.specs.Rows.{Row}
 use Rattle.mps.specs.Page.{each_row}
+use Rattle.mps_row.specs.Laws.{each_append}
 
-module _ (line : ℕ → Row → List ℕ) (i : ℕ) where
-  -- one row; a row before others; three rows
-  pub one_line : {a x : Row} → a ≡ x → line i a ≡ each_row line i (x ∷ [])
+module _ {A : Type 0} (line : ℕ → Row → List ℕ) (i : ℕ) (f : A → Row) (xs : List A) where
+  pub each_more : (j : ℕ) (d : A) → j < length xs →
+      each_row line i (map f (take j xs)) ++ line (i + j) (f (get_or xs j d)) ≡ each_row line i (map f (take (j + 1) xs))
   unfolding each_row
-  one_line {a} {x} e = ap (line i) e ∙ sym (append-nil (line i x))
-
-  pub first-line : {a x : Row} (rs : List Row) → a ≡ x → line i a ++ each_row line (i + 1) rs ≡ each_row line i (x ∷ rs)
-  unfolding each_row
-  first-line rs e = ap (λ (y : Row). line i y ++ each_row line (i + 1) rs) e
-
-  pub three-lines : (a b c : Row) → line i a ++ (line (i + 1) b ++ line (i + 2) c) ≡ each_row line i (a ∷ b ∷ c ∷ [])
-  unfolding each_row
-  three-lines a b c =
-      let e : i + 2 ≡ i + 1 + 1 = omega arith in
-      ap (λ (l : List ℕ). line i a ++ (line (i + 1) b ++ l)) (ap (λ (k : ℕ). line k c) e ∙ sym (append-nil (line (i + 1 + 1) c)))
-
-  -- the same rows, said in another way
-  pub three-same : {a b c x y z : Row} → a ≡ x → b ≡ y → c ≡ z → each_row line i (a ∷ b ∷ c ∷ []) ≡ each_row line i (x ∷ y ∷ z ∷ [])
-  three-same e f g = rw (e, f, g) refl
+  each_more j d h =
+      let passed : List Row = map f (take j xs) in
+      let long : length passed ≡ j = omega (arith, length-map (take j xs) f, length-take j xs) in
+      sym (
+      ap (λ (l : List A). each_row line i (map f l)) (take_more xs j d h) ∙ ap (each_row line i) (map-append f (take j xs) (get_or xs j d ∷ []))
+      ∙ each_append line i passed (f (get_or xs j d) ∷ [])
+      ∙ ap (λ (l : List ℕ). each_row line i passed ++ l) (append-nil _ ∙ ap (λ (k : ℕ). line (i + k) (f (get_or xs j d))) long))

@@ -15,51 +15,33 @@ use Rattle.rules.proofs.Solution.Looping.{at-looping}
 use Rattle.row.specs.NodeRows.{rows_to, kept_place}
 use Rattle.mps_users.specs.Users.{has_part, kept_part, uses, user_at, users}
 use Rattle.mps_users.specs.Picked.{flat-only}
-use Rattle.mps_users.specs.Found.{Layout, Found}
+use Rattle.mps_users.specs.Found.{nowhere, Layout, Found}
+use Rattle.mps_users.specs.declared.Place.{Place}
 
 -- a property of what stands at each place before i, and then, after a store at i, of what stands at each place before i + 1
-set-each : (P : ℕ → ℕ → Type 0) (l : List ℕ) (i v : ℕ) → i < length l → ((j : ℕ) → j < i → P j (get_or l j 0)) → P i v →
-    (j : ℕ) → j < i + 1 → P j (get_or (set l i v) j 0)
-set-each P l i v h before here j g = go (dec_lt j i)
+set-each : {A : Type 0} (d : A) (P : ℕ → A → Type 0) (l : List A) (i : ℕ) (v : A) → i < length l → ((j : ℕ) → j < i → P j (get_or l j d)) → P i v →
+    (j : ℕ) → j < i + 1 → P j (get_or (set l i v) j d)
+set-each d P l i v h before here j g = go (dec_lt j i)
   where
-    go : Dec (j < i) → P j (get_or (set l i v) j 0)
-    go (yes k) = subst (P j) (sym (get_or-set_other l i j v 0 (λ e. omega arith))) (before j k)
+    go : Dec (j < i) → P j (get_or (set l i v) j d)
+    go (yes k) = subst (P j) (sym (get_or-set_other l i j v d (λ e. omega arith))) (before j k)
     go (no k) =
         let e : i ≡ j = omega arith in
-        subst (λ (m : ℕ). P m (get_or (set l i v) m 0)) e (subst (P i) (sym (get_or-set_same l i v 0 h)) here)
+        subst (λ (m : ℕ). P m (get_or (set l i v) m d)) e (subst (P i) (sym (get_or-set_same l i v d h)) here)
 
 -- ---- the layout
 
-pub layout_none : (T M L : ℕ) (ns : List Node) (l : List ℕ) → length l ≡ 256 → Layout T M L ns 0 l
+pub layout_none : (T M L : ℕ) (ns : List Node) (l : List Place) → length l ≡ 128 → Layout T M L ns 0 l
 layout_none T M L ns l e = record { starts = λ i h. absurd (omega arith); kepts = λ i h. absurd (omega arith); long = e }
 
--- the number of the rows before node i was stored at place i, and the place of its V at place 128 + i
-pub layout_more : (T M L : ℕ) (ns : List Node) (i : ℕ) (l : List ℕ) {sum place : ℕ} {m o : List ℕ} → i < 128 → Layout T M L ns i l →
-    sum ≡ length (rows_to T M L ns i) → place ≡ kept_place T M ns i → m ≡ set l i sum → o ≡ set m (128 + i) place → Layout T M L ns (i + 1) o
-layout_more T M L ns i l {sum} {place} {m} {o} h d e f p q =
-    let same : length m ≡ 256 = ap length p ∙ length-set l i sum ∙ d.long in
-    rw q
-    (record {
-      starts = λ j g. get_or-set_other m (128 + i) j place 0 (λ z. omega arith) ∙ first j g;
-      kepts = later;
-      long = length-set m (128 + i) place ∙ same;
-    })
-  where
-    first : (j : ℕ) → j < i + 1 → get_or m j 0 ≡ length (rows_to T M L ns j)
-    first = subst (λ (k : List ℕ). (j : ℕ) → j < i + 1 → get_or k j 0 ≡ length (rows_to T M L ns j)) (sym p)
-        (set-each (λ j v. v ≡ length (rows_to T M L ns j)) l i sum (omega (arith, d.long)) d.starts e)
-
-    later : (j : ℕ) → j < i + 1 → get_or (set m (128 + i) place) (128 + j) 0 ≡ kept_place T M ns j
-    later j g = go (dec_lt j i)
-      where
-        go : Dec (j < i) → get_or (set m (128 + i) place) (128 + j) 0 ≡ kept_place T M ns j
-        go (yes k) =
-            get_or-set_other m (128 + i) (128 + j) place 0 (λ z. omega arith) ∙ ap (λ (r : List ℕ). get_or r (128 + j) 0) p
-            ∙ get_or-set_other l i (128 + j) sum 0 (λ z. omega arith) ∙ d.kepts j k
-        go (no k) =
-            let z : i ≡ j = omega arith in
-            let room : 128 + i < length m = omega (arith, ap length p ∙ length-set l i sum ∙ d.long) in
-            subst (λ (n : ℕ). get_or (set m (128 + i) place) (128 + n) 0 ≡ kept_place T M ns n) z (get_or-set_same m (128 + i) place 0 room ∙ f)
+-- the place of node i was stored
+pub layout_more : (T M L : ℕ) (ns : List Node) (i : ℕ) (l : List Place) (p : Place) → i < 128 → Layout T M L ns i l →
+    p.first_row ≡ length (rows_to T M L ns i) → p.kept ≡ kept_place T M ns i → Layout T M L ns (i + 1) (set l i p)
+layout_more T M L ns i l p h d e f = record {
+  starts = set-each nowhere (λ j q. q.first_row ≡ length (rows_to T M L ns j)) l i p (omega (arith, d.long)) d.starts e;
+  kepts = set-each nowhere (λ j q. q.kept ≡ kept_place T M ns j) l i p (omega (arith, d.long)) d.kepts f;
+  long = length-set l i p ∙ d.long;
+}
 
 -- ---- the users
 
@@ -98,9 +80,9 @@ module _ {M : ℕ} {ns : List Node} {x i : ℕ} {l : List ℕ} {count : ℕ} (d 
         counted = rw more (simp length-append (omega arith));
         few = omega (arith, d.few);
         are = rw more
-            (set-each (λ j v. v ≡ get_or (flat f i ++ i ∷ []) j 0) l count i h (λ j g. d.are j g ∙ sym (get_or-append (flat f i) (i ∷ []) 0 j (omega arith)))
+            (set-each 0 (λ j v. v ≡ get_or (flat f i ++ i ∷ []) j 0) l count i h (λ j g. d.are j g ∙ sym (get_or-append (flat f i) (i ∷ []) 0 j (omega arith)))
             (sym (get_or_at (flat f i) i [] 0 count same)));
-        low = set-each (λ j v. v < i + 1) l count i h (λ j g. omega (arith, d.low j g)) (omega arith);
+        low = set-each 0 (λ j v. v < i + 1) l count i h (λ j g. omega (arith, d.low j g)) (omega arith);
         room = omega (arith, length-set l count i);
       })
 

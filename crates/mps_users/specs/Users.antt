@@ -1,12 +1,10 @@
 -- The rows in which a variable stands: those of its own node and of its parents; a V's, those of its node.
-use Rattle.std.specs.Prelude.{◌≡◌, Bool, cond, ◌||◌, ◌&&◌, ℕ, ◌+◌, ◌*◌, eqb, length, take}
+use Rattle.std.specs.Prelude.{Bool, cond, ◌||◌, ◌&&◌, ℕ, ◌+◌, ◌*◌, eqb, length, take}
 use mathlib.Core.List.{List, [], ◌∷◌, ◌++◌, flat_map}
 use Rattle.lists.specs.Flat.{flat}
 use Rattle.rules.specs.Table.{Node, node_at}
 use Rattle.rules.specs.Table.Node.{atom, unary, binary, windowed}
 use Rattle.rules.specs.Rows.{loops, looping, slack_rows, goal_row}
-use Rattle.table.specs.Nodes.{node_by}
-use Rattle.table.specs.declared.Kind.{Kind}
 use Rattle.mps.specs.Page.{entry_line}
 use Rattle.mps_row.specs.Laws.{node_text}
 
@@ -16,10 +14,6 @@ has_part M x n (atom a) = eqb x (M + n) || eqb x a
 has_part M x n (unary u c) = eqb x (M + n) || eqb x (M + c)
 has_part M x n (binary o l r) = eqb x (M + n) || (eqb x (M + l) || eqb x (M + r))
 has_part M x n (windowed w a b c) = eqb x (M + n) || eqb x (M + c)
-
--- that of a node that is held as kind, left and right, whatever its window
-abbrev pub UsedBy : Kind → (left right M n x : ℕ) → Bool → Type 0
-UsedBy k l r M n x used = (a b : ℕ) → used ≡ has_part M x n (node_by k l r a b)
 
 -- the part of node n's V
 abbrev pub kept_part : (M : ℕ) → List Node → (n : ℕ) → ℕ

@@ -1,88 +1,77 @@
 // Where the rows of each node begin and where its V does, and in which nodes' rows a part of the variables stands.
 #![tactic(auto)]
 
-ghost use Rattle.std.specs.Prelude.{◌≡◌, ◌+◌, ◌≤◌, ◌<◌, length, set};
-ghost use Rattle.rules.specs.TableTest.{record_count, nodes_in};
-ghost use Rattle.table.specs.Checks.{Ready};
+ghost use Rattle.std.specs.Prelude.{◌≡◌, ◌+◌, ◌≤◌, ◌<◌, length};
+ghost use Rattle.rules.specs.TableTest.{nodes_in};
 ghost use Rattle.rules.specs.Rows.{slack_rows};
+ghost use Rattle.table.specs.Nodes.{node_of};
 ghost use Rattle.mps_line.specs.Bounds.{row_limit};
-ghost use Rattle.mps_users.specs.Users.{UsedBy};
+ghost use Rattle.mps_users.specs.Users.{has_part};
 ghost use Rattle.mps_users.specs.Found.{Layout, Found};
 
-use table::Kind;
+use table::{Kind, Node, Plan};
+
+// The number of a node's first row, and the first variable of its V.
+#[derive(Clone, Copy, Debug, PartialEq, Eq)]
+pub struct Place {
+    pub first_row: usize,
+    pub kept: u16,
+}
 
 // Whether part x of the variables is node n's own, or that of one of its parts.
-fn is_used(kind: Kind, left: usize, right: usize, m: usize, n: usize, x: usize) -> bool
-    requires { (m ≤ 16) × (n ≤ 128) × (left < 256) × (right < 256) }
-    ensures { UsedBy kind left right m n x result }
+fn is_used(node: Node, m: usize, n: usize, x: usize) -> bool
+    requires { (m ≤ 16) × (n ≤ 128) × (node.left < 256) × (node.right < 256) }
+    ensures { result ≡ has_part m x n (node_of node) }
 {
     let own = x == m + n;
-    let first = x == m + left;
-    let second = x == m + right;
-    match kind {
-        Kind::Atom => scalars::either(own, x == left),
-        Kind::Not => scalars::either(own, first),
-        Kind::And => scalars::either(own, scalars::either(first, second)),
-        Kind::Or => scalars::either(own, scalars::either(first, second)),
-        Kind::Implies => scalars::either(own, scalars::either(first, second)),
-        Kind::Eventually => scalars::either(own, first),
-        Kind::Always => scalars::either(own, first),
-        Kind::Until => scalars::either(own, scalars::either(first, second)),
-        Kind::Within => scalars::either(own, first),
-        Kind::Throughout => scalars::either(own, first),
+    let first = x == m + node.left;
+    match node.kind {
+        Kind::Atom => own || x == node.left,
+        Kind::And | Kind::Or | Kind::Implies | Kind::Until => own || first || x == m + node.right,
+        Kind::Not | Kind::Eventually | Kind::Always | Kind::Within | Kind::Throughout => own
+            || first,
     }
 }
 
-// Stores one number. An array that is lent as a slice tells its length.
-fn put_number(list: &mut [usize], at: usize, number: usize)
-    requires { at < length list.old }
-    ensures { list.new ≡ set list.old at number }
+// Writes the places of the nodes of a checked table, and returns how many rows they have.
+pub fn find_layout(plan: Plan, layout: &mut [Place; 128]) -> usize
+    ensures { Layout plan.entry.t plan.entry.m plan.entry.l (nodes_in plan.entry.table.now) plan.entry.nodes layout.new
+        × (result ≡ length (slack_rows plan.entry.t plan.entry.m plan.entry.l (nodes_in plan.entry.table.now))) × (result ≤ row_limit) }
 {
-    list[at] = number;
-}
-
-// Writes the number of the first row of each node of a checked table and, 128 places on, the first variable of its V; returns how many rows they have.
-pub fn find_layout(table: &[u8], t: usize, m: usize, l: usize, layout: &mut [usize; 256]) -> usize
-    requires { Ready t m l table.now × (length layout.old ≡ 256) }
-    ensures { Layout t m l (nodes_in table.now) (record_count table.now) layout.new
-        × (result ≡ length (slack_rows t m l (nodes_in table.now))) × (result ≤ row_limit) }
-{
-    let n = table::count(table);
-    let mut sum: usize = 0;
-    let mut looping: usize = 0;
-    let mut i: usize = 0;
-    while i < n {
-        put_number(layout, i, sum);
-        put_number(
-            layout,
-            128 + i,
-            row::first_variable(m + n + looping, t) as usize,
+    let Plan { nodes, t, m, l, .. } = plan;
+    let mut rows = 0;
+    let mut looping = 0;
+    for i in 0..nodes {
+        let node = plan.node(i);
+        layout[i] = Place {
+            first_row: rows,
+            kept: row::first_variable(m + nodes + looping, t),
+        };
+        rows += row::node_count(
+            node.kind,
+            t as u16,
+            l as u16,
+            node.from as u16,
+            node.to as u16,
         );
-        let node = table::node_at(table, i);
-        let kind = node.kind;
-        let from = node.from as u16;
-        let to = node.to as u16;
-        sum += row::node_count(kind, t as u16, l as u16, from, to);
-        looping = table::one_more(looping, table::loops_at(table, i));
-        i += 1;
+        if table::loops(node.kind) {
+            looping += 1;
+        }
     }
-    sum
+    rows
 }
 
-// Writes the numbers of the nodes in whose rows part x stands, an atom's or a node's own, and returns how many they are.
-pub fn find_users(table: &[u8], n: usize, m: usize, x: usize, users: &mut [u8; 128]) -> usize
-    requires { (m ≤ 16) × (n ≤ 128) × (n ≡ record_count table.now) × (x < m + n) }
-    ensures { Found m (nodes_in table.now) x users.new result }
+// Writes the numbers of the nodes in whose rows part x stands, an atom's or a node's own, and returns them.
+pub fn find_users<'a>(plan: Plan, x: usize, users: &'a mut [u8; 128]) -> &'a [u8]
+    requires { x < plan.m + plan.nodes }
+    ensures { Found plan.entry.m (nodes_in plan.entry.table.now) x result.now (length result.now) }
 {
-    let mut count: usize = 0;
-    let mut i: usize = 0;
-    while i < n {
-        let node = table::node_at(table, i);
-        let kind = node.kind;
-        if is_used(kind, node.left, node.right, m, i, x) {
-            count = text::put_byte(users, count, i as u8);
+    let mut count = 0;
+    for i in 0..plan.nodes {
+        if is_used(plan.node(i), plan.m, i, x) {
+            users[count] = i as u8;
+            count += 1;
         }
-        i += 1;
     }
-    count
+    &users[..count]
 }

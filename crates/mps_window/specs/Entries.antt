@@ -6,7 +6,7 @@ use Rattle.std.proofs.Math.Path.{ap, ap₂}
 use mathlib.Core.List.{List, [], ◌∷◌, ◌++◌, map, append-nil}
 use Prim.Native.Nat.{ℕ, zero, suc, ◌+◌, ◌-◌, ◌<◌}
 use Rattle.std.proofs.Math.IntN.{+ℤ_idl}
-use Rattle.std.proofs.lemmas.List.{length-map}
+use Rattle.std.proofs.lemmas.List.{length-map, map-append}
 use Rattle.lists.specs.Every.{Every, every_append}
 use Rattle.lists.specs.Flat.{flat, flat-same}
 use Rattle.lists.specs.Tabulate.{tabulate, length-tabulate, tabulate-same}
@@ -114,10 +114,6 @@ module _ (w : Window) (P v : ℕ) (a : P ≡ v → ⊥) where
       go : (w : Window) → coefficient v (pair_row w P v).terms ≡ one (downs w)
       go within = coefficient-append v (plus P ∷ []) (minus v ∷ []) (a, tt) ∙ first-term v (negsuc 0) [] tt refl
       go throughout = first-term v (pos 1) (minus P ∷ []) (a, tt) refl
-
-  map-append : {A : Type 0} (f : ℕ → A) (x y : List ℕ) → map f (x ++ y) ≡ map f x ++ map f y
-  map-append f [] y = refl
-  map-append f (u ∷ x) y = ap (λ (l : List _). f u ∷ l) (map-append f x y)
 
   module _ (before after : List ℕ) (b : Others v before) (c : Others v after) where
     part-long : coefficient v (long_row w P (before ++ (v ∷ after))).terms ≡ one (ups w)

@@ -1,23 +1,22 @@
 -- What an answer of the page writer tells of what is printed.
-use Rattle.std.specs.Prelude.{◌≡◌, List, ◌++◌, ℕ, ◌≤◌, leb, length, drop}
+use Rattle.std.specs.Prelude.{◌≡◌, refl, List, ◌++◌, ℕ, ◌≤◌, leb, length, drop, Result, Ok, Err}
 use Rattle.std.proofs.Common.{sym, ap, ◌∙◌, arith, leb-true}
-use Rattle.rules.specs.Demands
-use Rattle.rules.specs.Demands.{Written}
+use Rattle.rules.specs.Demands.{Answer, Written}
 use Rattle.rules.specs.Demands.Answer.{answered}
 use Rattle.rules.specs.Demands.Written.{wrote}
 use Rattle.rules.specs.TableTest.{good, nodes_in}
 use Rattle.rules.specs.Outcome.{returned, buffer, between, table_checked}
 use Rattle.answers.specs.declared.Refusal.{Refusal}
-use Rattle.answers.specs.declared.Answer.{Answer}
-use Rattle.answers.specs.declared.Answer.TheVariants.{Value, Refused}
 use Rattle.answers.specs.Meaning.{number_of, answer_of}
-use Rattle.text.specs.Put.{Put}
 use Rattle.mps.specs.Page.{page}
 use Rattle.mps.specs.Outcome.{page_outcome}
-use Rattle.program_rule.specs.Output.{refused_text, printed}
+use Rattle.program_input.specs.Scanning.{State}
+use Rattle.program_rule.specs.Outcome.{output}
 use Rattle.program_rule.specs.Outcomes.{answer-refused, answer-value, passed}
 use Rattle.program_rule.specs.Buffer.{page-front}
-use Rattle.mpspage_page.specs.Page.{page_text}
+use Rattle.program_rule.specs.Shown.{shown}
+use Rattle.program_rule.specs.Told.{as_text, text_work, printed_of, Told, printed-same, shown-same, output-same}
+use Rattle.mpspage_page.specs.Page.{page_text, page_work, page_printed}
 
 -- ---- the page of a table; y is the buffer z after the page writer's call
 
@@ -38,20 +37,27 @@ page-fits T M table room n bytes e =
     let i : text ≡ bytes = cc in
     (sym h ∙ ap length i, omega (arith, ap length i, leb-true (length text) room f.0))
 
-pub page-written : (T M : ℕ) (table z y : List ℕ) (r : Answer) (n : ℕ) → answer_of r ≡ returned (page_outcome T M T table (length z)) →
-    y ≡ buffer (page_outcome T M T table (length z)) z → r ≡ Value n → Put 0 (printed page_text (page_outcome T M T table (length z))) z y n × (n ≤ length z)
-page-written T M table z y r n e f v =
-    let w = answer-value (page_outcome T M T table (length z)) r n e v in
+-- a page is at the start of the buffer, and a refusal leaves the buffer as it was
+pub page-told : (T M : ℕ) (table z y : List ℕ) (r : Result ℕ Refusal) → answer_of r ≡ returned (page_outcome T M T table (length z)) →
+    y ≡ buffer (page_outcome T M T table (length z)) z → Told (as_text page_text (page_outcome T M T table (length z))) z y r
+page-told T M table z y (Ok n) e f =
+    let w = answer-value (page_outcome T M T table (length z)) n e in
     let fits = page-fits T M table (length z) n w.bytes w.is in
-    let shown : printed page_text (page_outcome T M T table (length z)) ≡ w.bytes = ap (printed page_text) w.is in
-    let is : y ≡ w.bytes ++ drop (length w.bytes) z = f ∙ ap (λ (x : Demands.Answer Written). buffer x z) w.is in
-    let same = page-front w.bytes z fits.1 in
-    (rw shown (record { content = is ∙ sym same; ends = omega (arith, fits.0) }), omega (arith, fits.0, fits.1))
+    let is : y ≡ w.bytes ++ drop (length w.bytes) z = f ∙ ap (λ (x : Answer Written). buffer x z) w.is in
+    rw w.is (record { content = is ∙ sym (page-front w.bytes z fits.1); ends = omega (arith, fits.0) }, omega (arith, fits.0, fits.1))
+page-told T M table z y (Err k) e f =
+    let g = answer-refused (page_outcome T M T table (length z)) (number_of k) e in
+    rw g (refl, f ∙ ap (λ (x : Answer Written). buffer x z) g)
 
--- a refusal leaves the buffer as it was; `refused` and the number are put then
-pub page-refused : (o : Demands.Answer Written) (z y l : List ℕ) (r : Answer) (k : Refusal) (n : ℕ) → answer_of r ≡ returned o → y ≡ buffer o z → r ≡ Refused k →
-    Put 0 (refused_text (number_of k)) y l n → Put 0 (printed page_text o) z l n
-page-refused o z y l r k n e f v p =
-    let g = answer-refused o r k e v in
-    let h : y ≡ z = f ∙ ap (λ (x : Demands.Answer Written). buffer x z) g in
-    rw (g, ← h) p
+-- ---- what is printed of the work on a table, as a text
+
+module _ (room : ℕ) where
+  page-is : (T M : ℕ) (rule : List ℕ) → printed_of (text_work page_text (page_work room)) T M rule ≡ page_printed room T M rule
+  unfolding page_printed
+  page-is T M rule = printed-same page_text (page_work room) T M rule
+
+  pub shown-page : (s : State) → shown (printed_of (text_work page_text (page_work room))) s ≡ shown (page_printed room) s
+  shown-page s = shown-same _ (page_printed room) page-is s
+
+  pub output-page : (input : List ℕ) → output (printed_of (text_work page_text (page_work room))) input ≡ output (page_printed room) input
+  output-page input = output-same _ (page_printed room) page-is input

@@ -51,19 +51,19 @@ module _ (M : ℕ) (table out : List ℕ) where
         text-is : shown 0 (rule_at (nodes_in table) (c - 1)) ≡ root_text table
         text-is = ap (λ (n : ℕ). shown 0 (rule_at (nodes_in table) (n - 1))) (counted ∙ sym (length-nodes_in M table))
 
-        module _ (rest : ℕ) (spent : rest ≡ 1025 - length (shown 0 (rule_at (nodes_in table) (c - 1)))) where
-          pub long-refused : rest ≡ 0 → Ends M table out (refused 3) out
-          unfolding print_outcome
-          long-refused e =
-              let k = lt-leb (length (root_text table)) 1024 (omega (arith, ap length text-is)) in
-              record { r_value = rw (m, g, k) refl; out_after = rw (m, g, k) refl }
+        pub long-refused : (length (shown 0 (rule_at (nodes_in table) (c - 1))) ≤ 1024 → ⊥) → Ends M table out (refused 3) out
+        unfolding print_outcome
+        long-refused e =
+            let k = lt-leb (length (root_text table)) 1024 (omega (arith, e, ap length text-is)) in
+            record { r_value = rw (m, g, k) refl; out_after = rw (m, g, k) refl }
 
-          module _ (some : rest ≡ 0 → ⊥) (n : ℕ) (long : n ≡ 1025 - rest) where
+        module _ (rest : ℕ) (spent : (length (shown 0 (rule_at (nodes_in table) (c - 1))) ≤ 1024) × (rest ≡ 1024 - length (shown 0 (rule_at (nodes_in table) (c - 1))))) where
+          module _ (n : ℕ) (long : n ≡ 1024 - rest) where
             long-is : n ≡ length (root_text table)
-            long-is = omega (arith, ap length text-is, some)
+            long-is = omega (arith, ap length text-is, spent)
 
             fits : length (root_text table) ≤ 1024
-            fits = omega (arith, ap length text-is, some)
+            fits = omega (arith, ap length text-is, spent)
 
             pub room-refused : length out < n → Ends M table out (refused 11) out
             unfolding print_outcome

@@ -10,7 +10,7 @@ use Rattle.printer_text.specs.Shown.{shown}
 use Rattle.printer_node.specs.declared.Prefix.{Prefix}
 use Rattle.printer_node.specs.declared.Pair.{Pair}
 use Rattle.printer_node.specs.declared.Shape.TheVariants.{Leaf, Prefixed, Paired}
-use Rattle.printer_node.specs.Shapes.{piece, head_text, Printable, Shaped}
+use Rattle.printer_node.specs.Shapes.{grade_of, tighter, piece, head_text, Printable, Shaped}
 
 -- what putting node n's text asks
 pub record Putting (table : List ℕ) (n k at : ℕ) (out : List ℕ) : Type 0 where
@@ -72,16 +72,16 @@ module _ (table : List ℕ) (n k at : ℕ) (l : List ℕ) (p : Putting table n k
 
   module _ {x : Pair} (h : Shaped table n (Paired x)) where
     abbrev opening : List ℕ
-    opening = piece (ltb x.grade k) 40
+    opening = piece (ltb (grade_of x.level) k) 40
 
     abbrev closing : List ℕ
-    closing = piece (ltb x.grade k) 41
+    closing = piece (ltb (grade_of x.level) k) 41
 
     abbrev left_text : List ℕ
-    left_text = text_at (x.grade + 1) x.left
+    left_text = text_at (grade_of (tighter x.level)) x.left
 
     abbrev right_text : List ℕ
-    right_text = text_at x.grade x.right
+    right_text = text_at (grade_of x.level) x.right
 
     abbrev sign_text : List ℕ
     sign_text = x.sign ∷ []
@@ -101,7 +101,7 @@ module _ (table : List ℕ) (n k at : ℕ) (l : List ℕ) (p : Putting table n k
     open_room = omega (arith, lengths)
 
     module _ {m₁ : List ℕ} {a₁ : ℕ} (x₁ : Put at opening l m₁ a₁) where
-      pub left-putting : Putting table x.left (x.grade + 1) a₁ m₁
+      pub left-putting : Putting table x.left (grade_of (tighter x.level)) a₁ m₁
       left-putting = record {
         printable = p.printable;
         inside = omega (arith, h.good.0, p.inside);
@@ -113,7 +113,7 @@ module _ (table : List ℕ) (n k at : ℕ) (l : List ℕ) (p : Putting table n k
         sign-room = omega (arith, lengths, put_length x₁, put_length x₂, x₁.ends, x₂.ends)
 
         module _ {m₃ : List ℕ} {a₃ : ℕ} (x₃ : Put a₂ sign_text m₂ m₃ a₃) where
-          pub right-putting : Putting table x.right x.grade a₃ m₃
+          pub right-putting : Putting table x.right (grade_of x.level) a₃ m₃
           right-putting = record {
             printable = p.printable;
             inside = omega (arith, h.good.1, p.inside);

@@ -1,5 +1,5 @@
 -- What a node's text is made of, piece by piece, as the code takes it.
-use Rattle.std.specs.Prelude.{◌≡◌, refl, Bool, true, false, cond, List, [], ◌∷◌, ◌++◌, ℕ, ◌+◌, ◌-◌, ◌≤◌, ◌<◌, ltb, length}
+use Rattle.std.specs.Prelude.{◌≡◌, refl, Bool, true, false, Option, Some, None, List, [], ◌∷◌, ◌++◌, ℕ, ◌+◌, ◌≤◌, ◌<◌, ltb, length}
 use Rattle.std.proofs.Common.{sym, ap, subst, ◌∙◌, append_assoc, append-nil, arith, length-append}
 use Rattle.rules.specs.Rule.{Rule}
 use Rattle.rules.specs.Table.{NodeGood, node_at, grow, rule_at}
@@ -12,31 +12,51 @@ use Rattle.table.specs.declared.Kind.TheVariants.{Atom, Not, And, Or, Implies, E
 use Rattle.table.specs.declared.Node.{Node}
 use Rattle.table.specs.Nodes.{node_by, node_of, NodeRead}
 use Rattle.printer_text.specs.Shown.{bracketed, span_text, shown}
+use Rattle.printer_node.specs.declared.Level.{Level}
+use Rattle.printer_node.specs.declared.Window.{Window}
 use Rattle.printer_node.specs.declared.Prefix.{Prefix}
-use Rattle.printer_node.specs.declared.Pair.{Pair}
 use Rattle.printer_node.specs.declared.Shape.{Shape}
 use Rattle.printer_node.specs.declared.Shape.TheVariants.{Leaf, Prefixed, Paired}
 
-abbrev head : (letter child : ℕ) → Shape
-head letter child = Prefixed (record { letter = letter; windowed = false; from = 0; to = 0; child = child })
+-- a level as a grade of `shown`
+abbrev pub grade_of : Level → ℕ
+grade_of Level.Rule = 0
+grade_of Level.Or = 1
+grade_of Level.And = 2
+grade_of Level.Until = 3
+grade_of Level.Single = 4
 
-abbrev timed : (letter from to child : ℕ) → Shape
-timed letter from to child = Prefixed (record { letter = letter; windowed = true; from = from; to = to; child = child })
+-- the text of node n where a level is wanted
+abbrev pub node_text : (table : List ℕ) (n : ℕ) → Level → List ℕ
+node_text table n k = shown (grade_of k) (rule_at (nodes_in table) n)
 
-abbrev pair : (sign grade left right : ℕ) → Shape
-pair sign grade left right = Paired (record { left = left; right = right; sign = sign; grade = grade })
+abbrev pub tighter : Level → Level
+tighter Level.Rule = Level.Or
+tighter Level.Or = Level.And
+tighter Level.And = Level.Until
+tighter Level.Until = Level.Single
+tighter Level.Single = Level.Single
+
+abbrev pub prefixed : (letter child : ℕ) → Option Window → Shape
+prefixed letter child window = Prefixed (record { letter = letter; window = window; child = child })
+
+abbrev pub paired : (sign : ℕ) → Level → (left right : ℕ) → Shape
+paired sign level left right = Paired (record { left = left; right = right; sign = sign; level = level })
+
+abbrev timed : (from to : ℕ) → Option Window
+timed from to = Some (record { from = from; to = to })
 
 abbrev pub shape_by : Kind → (left right from to : ℕ) → Shape
 shape_by Atom l r a b = Leaf l
-shape_by Not l r a b = head 33 l
-shape_by And l r a b = pair 38 2 l r
-shape_by Or l r a b = pair 124 1 l r
-shape_by Implies l r a b = pair 62 0 l r
-shape_by Eventually l r a b = head 70 l
-shape_by Always l r a b = head 71 l
-shape_by Until l r a b = pair 85 3 l r
-shape_by Within l r a b = timed 70 a b l
-shape_by Throughout l r a b = timed 71 a b l
+shape_by Not l r a b = prefixed 33 l None
+shape_by And l r a b = paired 38 Level.And l r
+shape_by Or l r a b = paired 124 Level.Or l r
+shape_by Implies l r a b = paired 62 Level.Rule l r
+shape_by Eventually l r a b = prefixed 70 l None
+shape_by Always l r a b = prefixed 71 l None
+shape_by Until l r a b = paired 85 Level.Until l r
+shape_by Within l r a b = prefixed 70 l (timed a b)
+shape_by Throughout l r a b = prefixed 71 l (timed a b)
 
 -- ---- its text
 
@@ -44,15 +64,19 @@ abbrev pub piece : Bool → ℕ → List ℕ
 piece true b = b ∷ []
 piece false b = []
 
+abbrev pub window_text : Option Window → List ℕ
+window_text None = []
+window_text (Some w) = span_text w.from w.to
+
 abbrev pub head_text : Prefix → List ℕ
-head_text x = (x.letter ∷ []) ++ cond x.windowed (span_text x.from x.to) []
+head_text x = (x.letter ∷ []) ++ window_text x.window
 
 -- from the texts of the parts, by grade and node number, where a level of grade k is wanted
 abbrev pub shape_text : (ℕ → ℕ → List ℕ) → (k : ℕ) → Shape → List ℕ
 shape_text f k (Leaf a) = 97 ∷ decimal a
 shape_text f k (Prefixed x) = head_text x ++ f 4 x.child
 shape_text f k (Paired x) =
-    piece (ltb x.grade k) 40 ++ (f (x.grade + 1) x.left ++ ((x.sign ∷ []) ++ (f x.grade x.right ++ piece (ltb x.grade k) 41)))
+    piece (ltb (grade_of x.level) k) 40 ++ (f (grade_of (tighter x.level)) x.left ++ ((x.sign ∷ []) ++ (f (grade_of x.level) x.right ++ piece (ltb (grade_of x.level) k) 41)))
 
 pieces : (b : Bool) (s t : List ℕ) (c : ℕ) → bracketed b (s ++ (c ∷ t)) ≡ piece b 40 ++ (s ++ ((c ∷ []) ++ (t ++ piece b 41)))
 pieces true s t c = ap (λ (l : List ℕ). 40 ∷ l) (append_assoc s (c ∷ t) (41 ∷ []))
@@ -83,13 +107,17 @@ pub record Printable (table : List ℕ) : Type 0 where
   pub nodes : (n : ℕ) → n < record_count table → NodeGood atoms n (node_at (nodes_in table) n)
 
 -- numbers of one digit or two
+abbrev pub WindowLow : Option Window → Type 0
+WindowLow None = Unit {0}
+WindowLow (Some w) = (w.from < 100) × (w.to < 100)
+
 abbrev pub HeadLow : Prefix → Type 0
-HeadLow x = (x.from < 100) × (x.to < 100)
+HeadLow x = WindowLow x.window
 
 abbrev pub ShapeGood : (n : ℕ) → Shape → Type 0
 ShapeGood n (Leaf a) = a < 100
 ShapeGood n (Prefixed x) = (x.child < n) × HeadLow x
-ShapeGood n (Paired x) = (x.left < n) × (x.right < n) × (x.grade < 4)
+ShapeGood n (Paired x) = (x.left < n) × (x.right < n)
 
 pub record Shaped (table : List ℕ) (n : ℕ) (s : Shape) : Type 0 where
   pub text : (k : ℕ) → shown k (rule_at (nodes_in table) n) ≡ shape_text (λ g c. shown g (rule_at (nodes_in table) c)) k s
@@ -97,13 +125,13 @@ pub record Shaped (table : List ℕ) (n : ℕ) (s : Shape) : Type 0 where
 
 shape-good : (M n : ℕ) → M ≤ 16 → (kind : Kind) (l r a b : ℕ) → NodeGood M n (node_by kind l r a b) → ShapeGood n (shape_by kind l r a b)
 shape-good M n h Atom l r a b g = omega arith
-shape-good M n h Not l r a b g = (g, (omega arith, omega arith))
-shape-good M n h And l r a b g = (g.0, g.1, omega arith)
-shape-good M n h Or l r a b g = (g.0, g.1, omega arith)
-shape-good M n h Implies l r a b g = (g.0, g.1, omega arith)
-shape-good M n h Eventually l r a b g = (g, (omega arith, omega arith))
-shape-good M n h Always l r a b g = (g, (omega arith, omega arith))
-shape-good M n h Until l r a b g = (g.0, g.1, omega arith)
+shape-good M n h Not l r a b g = (g, tt)
+shape-good M n h And l r a b g = (g.0, g.1)
+shape-good M n h Or l r a b g = (g.0, g.1)
+shape-good M n h Implies l r a b g = (g.0, g.1)
+shape-good M n h Eventually l r a b g = (g, tt)
+shape-good M n h Always l r a b g = (g, tt)
+shape-good M n h Until l r a b g = (g.0, g.1)
 shape-good M n h Within l r a b g = (g.0, (omega (arith, g.1), omega (arith, g.1)))
 shape-good M n h Throughout l r a b g = (g.0, (omega (arith, g.1), omega (arith, g.1)))
 
@@ -119,48 +147,6 @@ shaped table n nd p h r =
       text = λ k. ap (shown k) grown ∙ shape-text (rule_at ns) k nd.kind nd.left nd.right nd.from nd.to;
       good = shape-good M n p.few nd.kind nd.left nd.right nd.from nd.to (subst (NodeGood M n) (sym r.is) (p.nodes n h));
     }
-
--- ---- what is left of b bytes
-
-module _ (table : List ℕ) (n k b : ℕ) where
-  abbrev text_at : (g c : ℕ) → List ℕ
-  text_at g c = shown g (rule_at (nodes_in table) c)
-
-  pub leaf_spent : {a : ℕ} → Shaped table n (Leaf a) → (r : ℕ) → r ≡ b - (1 + length (decimal a)) → r ≡ b - length (text_at k n)
-  leaf_spent h r e = omega (arith, ap length (h.text k))
-
-  pub prefixed_spent : {x : Prefix} → Shaped table n (Prefixed x) → (s r : ℕ) → s ≡ b - length (head_text x) → r ≡ s - length (text_at 4 x.child) →
-      r ≡ b - length (text_at k n)
-  prefixed_spent {x} h s r e f = omega (arith, ap length (h.text k), length-append (head_text x) (text_at 4 x.child))
-
-  pub paired_spent : {x : Pair} → Shaped table n (Paired x) → (s₁ s₂ r : ℕ) →
-      s₁ ≡ b - (length (piece (ltb x.grade k) 40) + 1 + length (piece (ltb x.grade k) 41)) → s₂ ≡ s₁ - length (text_at (x.grade + 1) x.left) →
-      r ≡ s₂ - length (text_at x.grade x.right) → r ≡ b - length (text_at k n)
-  paired_spent {x} h s₁ s₂ r e f g =
-      let o = piece (ltb x.grade k) 40 in
-      let c = piece (ltb x.grade k) 41 in
-      let l = text_at (x.grade + 1) x.left in
-      let m = text_at x.grade x.right in
-      let s = x.sign ∷ [] in
-      omega (
-        arith,
-        ap length (h.text k),
-        length-append o (l ++ (s ++ (m ++ c))),
-        length-append l (s ++ (m ++ c)),
-        length-append m c,
-      )
-
--- ---- an operator before its part, without a window and with one
-
-module _ (x : Prefix) where
-  by-window : (b : Bool) → x.windowed ≡ b → head_text x ≡ (x.letter ∷ []) ++ cond b (span_text x.from x.to) []
-  by-window b e = ap (λ (w : Bool). (x.letter ∷ []) ++ cond w (span_text x.from x.to) []) e
-
-  pub head-alone : x.windowed ≡ false → head_text x ≡ x.letter ∷ []
-  head-alone e = by-window false e
-
-  pub head-timed : x.windowed ≡ true → head_text x ≡ (x.letter ∷ []) ++ span_text x.from x.to
-  head-timed e = by-window true e
 
 pub span-length : (a b : ℕ) → length (span_text a b) ≡ 3 + length (decimal a) + length (decimal b)
 span-length a b = omega (arith, length-append (decimal a) (44 ∷ (decimal b ++ (93 ∷ []))), length-append (decimal b) (93 ∷ []))

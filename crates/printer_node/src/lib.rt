@@ -1,113 +1,109 @@
 // The text of a node where a level is wanted: how many bytes it takes, and putting it into a lent buffer.
 #![tactic(auto)]
 
-ghost use Rattle.std.specs.Prelude.{◌≡◌, ◌∷◌, ◌+◌, ◌-◌, ◌≤◌, ◌<◌, ltb, length};
-ghost use Rattle.rules.specs.Table.{rule_at};
-ghost use Rattle.rules.specs.TableTest.{nodes_in, record_count};
+ghost use Rattle.std.specs.Prelude.{◌≡◌, ◌∷◌, ◌+◌, ◌-◌, ◌≤◌, ◌<◌, ltb, length, SomeIff};
+ghost use Rattle.rules.specs.TableTest.{record_count};
 ghost use Rattle.text.specs.Put.{Put};
 ghost use Rattle.text.specs.Decimal.{decimal};
-ghost use Rattle.printer_text.specs.Shown.{span_text, shown};
-ghost use Rattle.printer_node.specs.Shapes.{piece, head_text, shape_by, Printable, Shaped, HeadLow};
+ghost use Rattle.printer_text.specs.Shown.{span_text};
+ghost use Rattle.printer_node.specs.Shapes.{grade_of, node_text, tighter, prefixed, paired, piece, head_text, shape_by, Printable, Shaped, HeadLow};
 ghost use Rattle.printer_node.specs.Putting.{Putting};
 
-use table::Kind;
+use table::{Kind, Node};
 
-// An operator before its part: ! or F or G, with a window or without.
-#[derive(Clone, Copy)]
-pub struct Prefix {
-    pub letter: u8,
-    pub windowed: bool,
+// The levels of the grammar, from the loosest on: an operator between two parts binds as tight as its level.
+#[derive(Clone, Copy, Debug, PartialEq, Eq, PartialOrd, Ord)]
+pub enum Level {
+    Rule,
+    Or,
+    And,
+    Until,
+    Single,
+}
+
+// The two numbers of a window.
+#[derive(Clone, Copy, Debug, PartialEq, Eq)]
+pub struct Window {
     pub from: usize,
     pub to: usize,
+}
+
+// An operator before its part: ! or F or G, with a window or without.
+#[derive(Clone, Copy, Debug, PartialEq, Eq)]
+pub struct Prefix {
+    pub letter: u8,
+    pub window: Option<Window>,
     pub child: usize,
 }
 
-// An operator between two parts, and how tight it binds: 0 for >, 1 for |, 2 for &, 3 for U.
-#[derive(Clone, Copy)]
+// An operator between two parts, and its level.
+#[derive(Clone, Copy, Debug, PartialEq, Eq)]
 pub struct Pair {
     pub left: usize,
     pub right: usize,
     pub sign: u8,
-    pub grade: usize,
+    pub level: Level,
 }
 
 // What a node's text is made of.
-#[derive(Clone, Copy)]
+#[derive(Clone, Copy, Debug, PartialEq, Eq)]
 pub enum Shape {
     Leaf(usize),
     Prefixed(Prefix),
     Paired(Pair),
 }
 
-// The grade of a Rule, the loosest level, and of a Single, which is tighter than every operator between two parts.
-pub const RULE: usize = 0;
-
-pub const SINGLE: usize = 4;
-
-fn shape_of(kind: Kind, left: usize, right: usize, from: usize, to: usize) -> Shape
-    ensures { result ≡ shape_by kind left right from to }
+// The next tighter level. No level is tighter than a Single.
+fn tighter(level: Level) -> Level
+    ensures { result ≡ tighter level }
 {
-    match kind {
-        Kind::Atom => Shape::Leaf(left),
-        Kind::Not => Shape::Prefixed(Prefix {
-            letter: b'!',
-            windowed: false,
-            from: 0,
-            to: 0,
-            child: left,
-        }),
-        Kind::And => Shape::Paired(Pair {
-            left,
-            right,
-            sign: b'&',
-            grade: 2,
-        }),
-        Kind::Or => Shape::Paired(Pair {
-            left,
-            right,
-            sign: b'|',
-            grade: 1,
-        }),
-        Kind::Implies => Shape::Paired(Pair {
-            left,
-            right,
-            sign: b'>',
-            grade: 0,
-        }),
-        Kind::Eventually => Shape::Prefixed(Prefix {
-            letter: b'F',
-            windowed: false,
-            from: 0,
-            to: 0,
-            child: left,
-        }),
-        Kind::Always => Shape::Prefixed(Prefix {
-            letter: b'G',
-            windowed: false,
-            from: 0,
-            to: 0,
-            child: left,
-        }),
-        Kind::Until => Shape::Paired(Pair {
-            left,
-            right,
-            sign: b'U',
-            grade: 3,
-        }),
-        Kind::Within => Shape::Prefixed(Prefix {
-            letter: b'F',
-            windowed: true,
-            from,
-            to,
-            child: left,
-        }),
-        Kind::Throughout => Shape::Prefixed(Prefix {
-            letter: b'G',
-            windowed: true,
-            from,
-            to,
-            child: left,
-        }),
+    match level {
+        Level::Rule => Level::Or,
+        Level::Or => Level::And,
+        Level::And => Level::Until,
+        Level::Until | Level::Single => Level::Single,
+    }
+}
+
+fn prefixed(letter: u8, child: usize, window: Option<Window>) -> Shape
+    ensures { result ≡ prefixed letter child window }
+{
+    Shape::Prefixed(Prefix {
+        letter,
+        window,
+        child,
+    })
+}
+
+fn paired(sign: u8, level: Level, left: usize, right: usize) -> Shape
+    ensures { result ≡ paired sign level left right }
+{
+    Shape::Paired(Pair {
+        left,
+        right,
+        sign,
+        level,
+    })
+}
+
+fn shape_of(node: Node) -> Shape
+    ensures { result ≡ shape_by node.kind node.left node.right node.from node.to }
+{
+    let window = Some(Window {
+        from: node.from,
+        to: node.to,
+    });
+    match node.kind {
+        Kind::Atom => Shape::Leaf(node.left),
+        Kind::Not => prefixed(b'!', node.left, None),
+        Kind::And => paired(b'&', Level::And, node.left, node.right),
+        Kind::Or => paired(b'|', Level::Or, node.left, node.right),
+        Kind::Implies => paired(b'>', Level::Rule, node.left, node.right),
+        Kind::Eventually => prefixed(b'F', node.left, None),
+        Kind::Always => prefixed(b'G', node.left, None),
+        Kind::Until => paired(b'U', Level::Until, node.left, node.right),
+        Kind::Within => prefixed(b'F', node.left, window),
+        Kind::Throughout => prefixed(b'G', node.left, window),
     }
 }
 
@@ -116,16 +112,7 @@ fn shape_at(table: &[u8], n: usize) -> Shape
     requires { Printable table.now × (n < record_count table.now) }
     ensures { Shaped table.now n result }
 {
-    let node = table::node_at(table, n);
-    let kind = node.kind;
-    shape_of(kind, node.left, node.right, node.from, node.to)
-}
-
-// What is left of b, or 0.
-fn less(b: usize, n: usize) -> usize
-    ensures { result ≡ b - n }
-{
-    if n < b { b - n } else { 0 }
+    shape_of(table::node_at(table, n))
 }
 
 // How many digits a number below 100 has.
@@ -141,35 +128,41 @@ fn head_length(x: Prefix) -> usize
     requires { HeadLow x }
     ensures { result ≡ length (head_text x) }
 {
-    if x.windowed {
-        4 + digit_count(x.from) + digit_count(x.to)
-    } else {
-        1
+    match x.window {
+        Some(window) => 4 + digit_count(window.from) + digit_count(window.to),
+        None => 1,
     }
 }
 
-// How many bytes an operator between two parts has, with the brackets that a level of grade k wants around it.
-fn pair_length(grade: usize, k: usize) -> usize
-    ensures { result ≡ length (piece (ltb grade k) 40) + 1 + length (piece (ltb grade k) 41) }
+// Whether an operator of a level stands in brackets where a level k is wanted.
+fn bracketed(level: Level, k: Level) -> bool
+    ensures { result ≡ ltb (grade_of level) (grade_of k) }
 {
-    if grade < k { 3 } else { 1 }
+    level < k
 }
 
-// What is left of b bytes after node n's text, or 0. No part is looked at once none is left, however long the text is.
-pub fn spend(table: &[u8], n: usize, k: usize, b: usize) -> usize
+// How many bytes an operator between two parts has, with the brackets that a level k wants around it.
+fn pair_length(level: Level, k: Level) -> usize
+    ensures { result ≡ length (piece (ltb (grade_of level) (grade_of k)) 40) + 1 + length (piece (ltb (grade_of level) (grade_of k)) 41) }
+{
+    if bracketed(level, k) { 3 } else { 1 }
+}
+
+// What is left of `room` bytes after node n's text, where it fits. No part is looked at once none is left, however long the text is.
+pub fn spend(table: &[u8], n: usize, k: Level, room: usize) -> Option<usize>
     requires { Printable table.now × (n < record_count table.now) }
-    ensures { result ≡ b - length (shown k (rule_at (nodes_in table.now) n)) }
+    ensures { SomeIff result (length (node_text table.now n k) ≤ room) (room - length (node_text table.now n k)) }
 {
-    if b == 0 {
-        return 0;
-    }
-    let shape = shape_at(table, n);
-    match shape {
-        Shape::Leaf(a) => less(b, 1 + digit_count(a)),
-        Shape::Prefixed(x) => spend(table, x.child, SINGLE, less(b, head_length(x))),
+    match shape_at(table, n) {
+        Shape::Leaf(a) => room.checked_sub(1 + digit_count(a)),
+        Shape::Prefixed(x) => {
+            let rest = room.checked_sub(head_length(x))?;
+            spend(table, x.child, Level::Single, rest)
+        }
         Shape::Paired(x) => {
-            let rest = spend(table, x.left, x.grade + 1, less(b, pair_length(x.grade, k)));
-            spend(table, x.right, x.grade, rest)
+            let rest = room.checked_sub(pair_length(x.level, k))?;
+            let rest = spend(table, x.left, tighter(x.level), rest)?;
+            spend(table, x.right, x.level, rest)
         }
     }
 }
@@ -180,9 +173,10 @@ fn put_if(out: &mut [u8], at: usize, byte: u8, wanted: bool) -> usize
     ensures { Put at (piece wanted byte) out.old out.new result }
 {
     if wanted {
-        return text::put_byte(out, at, byte);
+        text::put_byte(out, at, byte)
+    } else {
+        at
     }
-    at
 }
 
 fn put_atom(out: &mut [u8], at: usize, a: usize) -> usize
@@ -211,30 +205,30 @@ fn put_head(out: &mut [u8], at: usize, x: Prefix) -> usize
     ensures { Put at (head_text x) out.old out.new result }
 {
     let next = text::put_byte(out, at, x.letter);
-    if x.windowed {
-        return put_span(out, next, x.from, x.to);
+    match x.window {
+        Some(window) => put_span(out, next, window.from, window.to),
+        None => next,
     }
-    next
 }
 
-// Node n's text where a level of grade k is wanted: the printer calls itself on the children, and the node number falls at each call.
-pub fn put_node(table: &[u8], n: usize, k: usize, out: &mut [u8], at: usize) -> usize
-    requires { Putting table.now n k at out.old }
-    ensures { Put at (shown k (rule_at (nodes_in table.now) n)) out.old out.new result }
+// Node n's text where a level k is wanted: the printer calls itself on the children, and the node number falls at each call.
+pub fn put_node(table: &[u8], n: usize, k: Level, out: &mut [u8], at: usize) -> usize
+    requires { Putting table.now n (grade_of k) at out.old }
+    ensures { Put at (node_text table.now n k) out.old out.new result }
 {
-    let shape = shape_at(table, n);
-    match shape {
+    match shape_at(table, n) {
         Shape::Leaf(a) => put_atom(out, at, a),
         Shape::Prefixed(x) => {
             let next = put_head(out, at, x);
-            put_node(table, x.child, SINGLE, out, next)
+            put_node(table, x.child, Level::Single, out, next)
         }
         Shape::Paired(x) => {
-            let first = put_if(out, at, b'(', x.grade < k);
-            let second = put_node(table, x.left, x.grade + 1, out, first);
+            let wanted = bracketed(x.level, k);
+            let first = put_if(out, at, b'(', wanted);
+            let second = put_node(table, x.left, tighter(x.level), out, first);
             let third = text::put_byte(out, second, x.sign);
-            let fourth = put_node(table, x.right, x.grade, out, third);
-            put_if(out, fourth, b')', x.grade < k)
+            let fourth = put_node(table, x.right, x.level, out, third);
+            put_if(out, fourth, b')', wanted)
         }
     }
 }

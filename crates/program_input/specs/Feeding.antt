@@ -23,9 +23,6 @@ pub record Feeding (s₀ : Scan) (text₀ chunk : List ℕ) (i : ℕ) (s : Scan)
 abbrev pub fed_text : State → List ℕ → List ℕ
 fed_text s text = s.rule ++ drop (length s.rule) text
 
-pub feeding_start : (s : Scan) (text chunk : List ℕ) → Feeding s text chunk 0 s text
-feeding_start s text chunk = record { leads = refl; beyond = refl; same_length = refl }
-
 pub feeding_next : {s₀ s r : Scan} {text₀ text text' chunk : List ℕ} (i : ℕ) → i < length chunk → Feeding s₀ text₀ chunk i s text →
     Stepped s text (get_or chunk i 0) r text' → Feeding s₀ text₀ chunk (i + 1) r text'
 unfolding steps

@@ -2,6 +2,7 @@ pub mod Sizes
 pub mod Output
 pub mod Outcome
 pub mod Shown
+pub mod Told
 pub mod Cut
 pub mod Whole
 pub mod Buffer

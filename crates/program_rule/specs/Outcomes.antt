@@ -9,8 +9,7 @@ use Rattle.rules.specs.Table.{table_bytes, nodes_of}
 use Rattle.rules.proofs.TableTest.{length-table}
 use Rattle.rules.proofs.TableRules.{length-nodes_from}
 use Rattle.rules.specs.Refusals.{TextRefused, ReadRefused}
-use Rattle.rules.specs.Demands
-use Rattle.rules.specs.Demands.{Written}
+use Rattle.rules.specs.Demands.{Answer, Written}
 use Rattle.rules.specs.Demands.Answer.{refused, answered}
 use Rattle.rules.specs.Demands.Written.{wrote}
 use Rattle.rules.specs.Outcome.{returned, buffer, require, between, read_outcome}
@@ -18,34 +17,27 @@ use Rattle.rules.proofs.Exactness.Tests.{at_least}
 use Rattle.rules.proofs.Exactness.Read.{read_exact}
 use Rattle.answers.specs.declared.Refusal.{Refusal}
 use Rattle.answers.specs.declared.Refusal.TheVariants.{Slots, Atoms, LongText, Grammar, AtomNumber, Nodes, Table, Run, Figures, Tolerance, Room, Window, Loop}
-use Rattle.answers.specs.declared.Answer.{Answer}
-use Rattle.answers.specs.declared.Answer.TheVariants.{Value, Refused}
-use Rattle.answers.specs.Meaning.{number_of, answer_of}
+use Rattle.answers.specs.Meaning.{number_of}
 use Rattle.program_input.specs.declared.Scan.{Scan}
 use Rattle.program_input.specs.Scanning.{state, shaped}
 use Rattle.program_rule.specs.Sizes.{table_room}
-use Rattle.program_rule.specs.Output.{refused_text, printed, bad_input}
+use Rattle.program_rule.specs.Output.{bad_input}
 use Rattle.program_rule.specs.Outcome.{rule_outcome, Work, read_then, rule_then}
 use Rattle.program_rule.specs.Shown.{shown}
 
 -- ---- from an answer to the outcome
 
-pub answer-refused : (o : Demands.Answer Written) (r : Answer) (k : Refusal) → answer_of r ≡ returned o → r ≡ Refused k → o ≡ refused (number_of k)
-answer-refused (refused j) r k e f = let g : answer_of r ≡ refused (number_of k) = ap answer_of f in ap (λ (n : ℕ). refused n) cc
-answer-refused (answered (wrote n bytes)) r k e f =
-    let g : answer_of r ≡ refused (number_of k) = ap answer_of f in
-    let z : ◌≡◌ {A = ℕ} 0 1 = cc in absurd (omega arith)
+pub answer-refused : (o : Answer Written) (k : ℕ) → refused k ≡ returned o → o ≡ refused k
+answer-refused (refused j) k e = let h : j ≡ k = cc in ap (λ (n : ℕ). refused n) h
+answer-refused (answered (wrote n bytes)) k e = let z : ◌≡◌ {A = ℕ} 0 1 = cc in absurd (omega arith)
 
-pub record Wrote (o : Demands.Answer Written) (n : ℕ) : Type 0 where
+pub record Wrote (o : Answer Written) (n : ℕ) : Type 0 where
   pub bytes : List ℕ
   pub is : o ≡ answered (wrote n bytes)
 
-pub answer-value : (o : Demands.Answer Written) (r : Answer) (n : ℕ) → answer_of r ≡ returned o → r ≡ Value n → Wrote o n
-answer-value (refused j) r n e f =
-    let g : answer_of r ≡ answered n = ap answer_of f in
-    let z : ◌≡◌ {A = ℕ} 0 1 = cc in absurd (omega arith)
-answer-value (answered (wrote m bytes)) r n e f =
-    let g : answer_of r ≡ answered n = ap answer_of f in
+pub answer-value : (o : Answer Written) (n : ℕ) → answered n ≡ returned o → Wrote o n
+answer-value (refused j) n e = let z : ◌≡◌ {A = ℕ} 0 1 = cc in absurd (omega arith)
+answer-value (answered (wrote m bytes)) n e =
     let h : m ≡ n = cc in
     record { bytes = bytes; is = ap (λ (k : ℕ). answered (wrote k bytes)) h }
 
@@ -80,7 +72,7 @@ unfolding rule_outcome
 rule-outcome T M text l h = rw (le-leb 1 T l, le-leb T 64 h) refl
 
 -- where there is an answer, the test passed, and the rest answered
-pub passed : (b : Bool) (k : ℕ) (o : Demands.Answer Written) (w : Written) → require b k o ≡ answered w → (b ≡ true) × (o ≡ answered w)
+pub passed : (b : Bool) (k : ℕ) (o : Answer Written) (w : Written) → require b k o ≡ answered w → (b ≡ true) × (o ≡ answered w)
 passed true k o w e = (refl, e)
 passed false k o w e = let z : ◌≡◌ {A = ℕ} 0 1 = cc in absurd (omega arith)
 
@@ -108,15 +100,15 @@ table-read T M text n bytes e =
 
 -- ---- the buffer that was lent, and the bytes from its start
 
-pub record Lent (o : Demands.Answer Written) (n size : ℕ) (l : List ℕ) : Type 0 where
+pub record Lent (o : Answer Written) (n size : ℕ) (l : List ℕ) : Type 0 where
   pub bytes : List ℕ
   pub is : o ≡ answered (wrote n bytes)
   pub front : take size l ≡ bytes
   pub holds : size ≤ length l
 
-lent : (o : Demands.Answer Written) (n size : ℕ) (z l : List ℕ) (w : Wrote o n) → l ≡ buffer o z → length w.bytes ≡ size → Lent o n size l
+lent : (o : Answer Written) (n size : ℕ) (z l : List ℕ) (w : Wrote o n) → l ≡ buffer o z → length w.bytes ≡ size → Lent o n size l
 lent o n size z l w e f =
-    let g : l ≡ w.bytes ++ drop (length w.bytes) z = e ∙ ap (λ (x : Demands.Answer Written). buffer x z) w.is in
+    let g : l ≡ w.bytes ++ drop (length w.bytes) z = e ∙ ap (λ (x : Answer Written). buffer x z) w.is in
     record {
       bytes = w.bytes;
       is = w.is;
@@ -129,27 +121,25 @@ pub record TableReady (T M : ℕ) (text : List ℕ) (n : ℕ) (l : List ℕ) : T
   pub table : Lent (rule_outcome T M text) n (8 * n) l
   pub read : TableRead n table.bytes
 
-pub table-ready : (T M : ℕ) (text z l : List ℕ) (r : Answer) (n : ℕ) → answer_of r ≡ returned (rule_outcome T M text) → l ≡ buffer (rule_outcome T M text) z →
-    r ≡ Value n → TableReady T M text n l
-table-ready T M text z l r n e f v =
-    let w = answer-value (rule_outcome T M text) r n e v in
+pub table-ready : (T M : ℕ) (text z l : List ℕ) (n : ℕ) → answered n ≡ returned (rule_outcome T M text) → l ≡ buffer (rule_outcome T M text) z →
+    TableReady T M text n l
+table-ready T M text z l n e f =
+    let w = answer-value (rule_outcome T M text) n e in
     let t = lent (rule_outcome T M text) n (8 * n) z l w f (table-read T M text n w.bytes w.is).size_is in
     record { table = t; read = table-read T M text n t.bytes t.is }
 
--- ---- what is printed of the rule
+-- ---- what is made of the rule
 
-module _ {A : Type 0} (work : Work A) (show : A → List ℕ) (T M : ℕ) (text : List ℕ) where
-  read-printed : (o : Demands.Answer Written) → rule_outcome T M text ≡ o → printed show (rule_then work T M text) ≡ printed show (read_then work T M o)
+module _ {A : Type 0} (work : Work A) (T M : ℕ) (text : List ℕ) where
+  rule_read : (o : Answer Written) → rule_outcome T M text ≡ o → rule_then work T M text ≡ read_then work T M o
   unfolding rule_then
-  read-printed o e = ap (λ (x : Demands.Answer Written). printed show (read_then work T M x)) e
+  rule_read o e = ap (read_then work T M) e
 
-  pub refusal_printed : (r : Answer) (k : Refusal) → answer_of r ≡ returned (rule_outcome T M text) → r ≡ Refused k →
-      printed show (rule_then work T M text) ≡ refused_text (number_of k)
-  refusal_printed r k e v = read-printed (refused (number_of k)) (answer-refused (rule_outcome T M text) r k e v)
+  pub rule_refused : (k : ℕ) → refused k ≡ returned (rule_outcome T M text) → rule_then work T M text ≡ refused k
+  rule_refused k e = rule_read (refused k) (answer-refused (rule_outcome T M text) k e)
 
-  pub work_printed : (n : ℕ) (l : List ℕ) → TableReady T M text n l → printed show (rule_then work T M text) ≡ printed show (work T M n (take (8 * n) l))
-  work_printed n l t =
-      read-printed (answered (wrote n t.table.bytes)) t.table.is ∙ ap (λ (x : List ℕ). printed show (work T M n x)) (sym t.table.front)
+  pub rule_worked : (n : ℕ) (l : List ℕ) → TableReady T M text n l → rule_then work T M text ≡ work T M n (take (8 * n) l)
+  rule_worked n l t = rule_read (answered (wrote n t.table.bytes)) t.table.is ∙ ap (work T M n) (sym t.table.front)
 
 -- ---- what is printed of a state
 

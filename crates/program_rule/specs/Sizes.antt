@@ -1,6 +1,10 @@
 -- The sizes of the programs' buffers.
 use Rattle.std.specs.Prelude.{ℕ}
 
+-- the nodes of any table
+abbrev pub node_room : ℕ
+node_room = 128
+
 -- any table: 128 records of 8 bytes
 abbrev pub table_room : ℕ
 table_room = 1024

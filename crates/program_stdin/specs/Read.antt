@@ -31,15 +31,8 @@ pub scanned-none : (room : ℕ) (s : Scan) (text : List ℕ) → (s.stage ≡ St
 unfolding steps
 scanned-none room s text e = scanned-by room s text [] (started s text e)
 
-module _ {room : ℕ} {s : Scan} {text text' : List ℕ} (d : Scanned room s text) where
-  pub scanned-more : {t : Turn} {r : Scan} → length text ≡ room → t ≡ More r → Turned s text text' t → Scanned room r text'
-  scanned-more {t} {r} l e h =
-      let c = rw e at h in
-      scanned-by room r text' (d.bytes ++ c.0)
-      (c.1 ∙ rw l (ap (λ (x : State). steps room x c.0) d.leads ∙ sym (steps-append room begin d.bytes c.0)))
-
-  pub scanned-settled : {t : Turn} → t ≡ Settled → Turned s text text' t → Scanned room s text'
-  scanned-settled e h = let f = rw e at h in rw f.0 d
-
-  pub scanned-end : {t : Turn} → t ≡ End → Turned s text text' t → Scanned room s text'
-  scanned-end e h = let f = rw e at h in rw f d
+pub scanned-more : {room : ℕ} {s r : Scan} {text text' : List ℕ} → Scanned room s text → length text ≡ room → Turned s text text' (More r) →
+    Scanned room r text'
+scanned-more {room} {s} {r} {text} {text'} d l h =
+    scanned-by room r text' (d.bytes ++ h.0)
+    (h.1 ∙ rw l (ap (λ (x : State). steps room x h.0) d.leads ∙ sym (steps-append room begin d.bytes h.0)))

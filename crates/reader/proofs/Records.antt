@@ -1,13 +1,13 @@
 -- The records that the levels write are the node table where numbers fit a byte, their highest atom number tells refusal 5, and the mark of
 -- a window that is not allowed refusal 12.
 use mathlib.Core.Path.{◌≡◌, refl, sym, ap, ◌∙◌}
-use mathlib.Core.Bool.{Bool, true, false, cond, ◌&&◌, and-false}
+use mathlib.Core.Bool.{Bool, true, false, not, ◌&&◌, ◌||◌, and-false}
 use mathlib.Core.List.{[], ◌∷◌}
 use Prim.Native.Nat.{ℕ, ◌+◌, ◌-◌, ◌%◌, min, max, ◌≤◌, ◌<◌}
 use native.Mathlib.Decide.{dec_le}
 use native.Mathlib.Omega.{arith}
-use lib.Dec.{leb, ltb, eqb}
-use borrow.Author.Tests.{leb-true, leb-false, le-leb, lt-leb, eqb-true, eqb-false, eq-eqb, ne_eqb, ltb-true, ltb-false, lt-ltb, le-ltb}
+use lib.Dec.{leb, ltb}
+use borrow.Author.Tests.{leb-true, leb-false, le-leb, lt-leb, ltb-true, ltb-false, lt-ltb, le-ltb}
 use Rattle.rules.proofs.RuleSize.{size-positive}
 use Rattle.rules.specs.Rule.{Rule, size, height, AtomsBelow, WindowsAllowed}
 use Rattle.rules.specs.Rule.Rule.{atom, unary, binary, windowed}
@@ -20,13 +20,17 @@ use Rattle.reader_levels.specs.Records.{top, window_flaw, flaw, height-less, ent
 
 -- ---- a window that is not allowed
 
-window-flaw-cases : (a b : ℕ) (x y : Bool) → leb a b ≡ x → leb b 63 ≡ y → ◌≡◌ {A = ℕ} (cond (x && y) 0 1) 0 → (a ≤ b) × (b ≤ 63)
+window-flaw-cases : (a b : ℕ) (x y : Bool) → leb a b ≡ x → leb b 63 ≡ y → not (x && y) ≡ false → (a ≤ b) × (b ≤ 63)
 window-flaw-cases a b true true e f h = (leb-true a b e, leb-true b 63 f)
-window-flaw-cases a b true false e f h = absurd (omega arith)
-window-flaw-cases a b false y e f h = absurd (omega arith)
+window-flaw-cases a b true false e f h = cc
+window-flaw-cases a b false y e f h = cc
 
-bad_none : (a b : ℕ) → window_flaw a b ≡ 0 → (a ≤ b) × (b ≤ 63)
+bad_none : (a b : ℕ) → window_flaw a b ≡ false → (a ≤ b) × (b ≤ 63)
 bad_none a b h = window-flaw-cases a b (leb a b) (leb b 63) refl refl h
+
+neither : (x y : Bool) → (x || y) ≡ false → (x ≡ false) × (y ≡ false)
+neither true y e = cc
+neither false y e = (refl, e)
 
 -- numbers up to 255 decide it
 cut-cases : (a b : ℕ) (x y : Bool) → leb a b ≡ x → leb b 63 ≡ y → (x && y) ≡ window_good (min 255 a) (min 255 b)
@@ -58,7 +62,7 @@ entry-fits k l r a b h i j f g e =
     let y : h % 256 ≡ h = omega arith in
     rw (u, v, w, x, y) refl
 
-records-from : (n : ℕ) (p : Rule) → AtomsBelow 256 p → flaw p ≡ 0 → n + size p ≤ 256 → records n p ≡ records_from n p
+records-from : (n : ℕ) (p : Rule) → AtomsBelow 256 p → flaw p ≡ false → n + size p ≤ 256 → records n p ≡ records_from n p
 unfolding records
 records-from n (atom a) low good few =
     let e : min 255 a ≡ a = omega arith in
@@ -71,8 +75,9 @@ records-from n (unary u p) low good few =
     let e = entry-fits (unary_kind u) (n + size p - 1) 0 0 0 (height p + 1) (omega arith) (omega arith) (omega arith) (omega arith) (omega arith) in
     rw (h, e) refl
 records-from n (binary o p q) low good few =
-    let h = records-from n p low.0 (omega arith) (omega arith) in
-    let k = records-from (n + size p) q low.1 (omega arith) (omega arith) in
+    let g = neither (flaw p) (flaw q) good in
+    let h = records-from n p low.0 g.0 (omega arith) in
+    let k = records-from (n + size p) q low.1 g.1 (omega arith) in
     let s = size-positive p in
     let t = size-positive q in
     let y = height-less p in
@@ -82,10 +87,11 @@ records-from n (binary o p q) low good few =
     (omega arith) (omega arith) in
     rw (h, k, e) refl
 records-from n (windowed w a b p) low good few =
-    let h = records-from n p low (omega arith) (omega arith) in
+    let f = neither (flaw p) (window_flaw (min 255 a) (min 255 b)) good in
+    let h = records-from n p low f.0 (omega arith) in
     let s = size-positive p in
     let t = height-less p in
-    let g = bad_none (min 255 a) (min 255 b) (omega arith) in
+    let g = bad_none (min 255 a) (min 255 b) f.1 in
     let i : min 255 a ≡ a = omega (arith, g) in
     let j : min 255 b ≡ b = omega (arith, g) in
     let e =
@@ -93,15 +99,16 @@ records-from n (windowed w a b p) low good few =
     (omega arith) in
     rw (h, e, i, j) refl
 
-allowed : (p : Rule) → flaw p ≡ 0 → WindowsAllowed p
+allowed : (p : Rule) → flaw p ≡ false → WindowsAllowed p
 allowed (atom a) e = tt
 allowed (unary u p) e = allowed p e
-allowed (binary o p q) e = (allowed p (omega arith), allowed q (omega arith))
+allowed (binary o p q) e = let f = neither (flaw p) (flaw q) e in (allowed p f.0, allowed q f.1)
 allowed (windowed w a b p) e =
-    let g = bad_none (min 255 a) (min 255 b) (omega arith) in
-    (omega (arith, g), allowed p (omega arith))
+    let f = neither (flaw p) (window_flaw (min 255 a) (min 255 b)) e in
+    let g = bad_none (min 255 a) (min 255 b) f.1 in
+    (omega (arith, g), allowed p f.0)
 
-pub records-table : (p : Rule) → AtomsBelow 256 p → flaw p ≡ 0 → size p ≤ 256 → records 0 p ≡ table_bytes (nodes_of p)
+pub records-table : (p : Rule) → AtomsBelow 256 p → flaw p ≡ false → size p ≤ 256 → records 0 p ≡ table_bytes (nodes_of p)
 records-table p low good few = records-from 0 p low good (omega arith) ∙ sym (rule-records 256 p low (allowed p good))
 
 -- ---- the highest atom number tells whether all are below M
@@ -123,17 +130,13 @@ below_top M (binary o p q) h = rw (below_top M p h, below_top M q h) (max_cases 
 
 -- ---- the mark tells whether all windows are allowed
 
-either-cases : (x y : ℕ) (b c : Bool) → eqb x 0 ≡ b → eqb y 0 ≡ c → (b && c) ≡ eqb (max x y) 0
-either-cases x y true true e f = let k = eqb-true x 0 e in let l = eqb-true y 0 f in sym (eq-eqb (max x y) 0 (omega arith))
-either-cases x y true false e f = let l = eqb-false y 0 f in sym (ne_eqb (max x y) 0 (λ z. l (omega arith)))
-either-cases x y false c e f = let l = eqb-false x 0 e in sym (ne_eqb (max x y) 0 (λ z. l (omega arith)))
+both_allowed : (x y : Bool) → (not x && not y) ≡ not (x || y)
+both_allowed true y = refl
+both_allowed false y = refl
 
-either : (x y : ℕ) → (eqb x 0 && eqb y 0) ≡ eqb (max x y) 0
-either x y = either-cases x y (eqb x 0) (eqb y 0) refl refl
-
-mark_is : (b : Bool) → b ≡ eqb (cond b 0 1) 0
-mark_is true = refl
-mark_is false = refl
+twice : (b : Bool) → b ≡ not (not b)
+twice true = refl
+twice false = refl
 
 turned : (b c : Bool) → (b && c) ≡ (c && b)
 turned true true = refl
@@ -141,14 +144,14 @@ turned true false = refl
 turned false true = refl
 turned false false = refl
 
-pub good-flaw : (p : Rule) → windows_good p ≡ eqb (flaw p) 0
+pub good-flaw : (p : Rule) → windows_good p ≡ not (flaw p)
 good-flaw (atom a) = refl
 good-flaw (unary u p) = good-flaw p
-good-flaw (binary o p q) = rw (good-flaw p, good-flaw q) (either (flaw p) (flaw q))
+good-flaw (binary o p q) = rw (good-flaw p, good-flaw q) (both_allowed (flaw p) (flaw q))
 good-flaw (windowed w a b p) =
     let x = window_flaw (min 255 a) (min 255 b) in
-    let e : window_good a b ≡ eqb x 0 = good-cut a b ∙ mark_is (window_good (min 255 a) (min 255 b)) in
-    rw (e, good-flaw p) (turned (eqb x 0) (eqb (flaw p) 0) ∙ either (flaw p) x)
+    let e : window_good a b ≡ not x = good-cut a b ∙ twice (window_good (min 255 a) (min 255 b)) in
+    rw (e, good-flaw p) (turned (not x) (not (flaw p)) ∙ both_allowed (flaw p) x)
 
 -- atoms whose highest is below M are below 256
 pub top_below : (M : ℕ) (p : Rule) → M ≤ 255 → top p < M → AtomsBelow 256 p

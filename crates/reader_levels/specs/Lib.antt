@@ -1,3 +1,4 @@
+pub mod Phrase
 pub mod Records
 pub mod Steps
 pub mod Parts

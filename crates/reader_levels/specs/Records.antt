@@ -1,5 +1,5 @@
 -- What the scratch of the levels holds: a record for each node, with numbers cut to a byte.
-use Rattle.std.specs.Prelude.{◌≡◌, refl, Bool, true, false, cond, List, [], ◌∷◌, ◌++◌, ℕ, ◌+◌, ◌-◌, ◌*◌, ◌%◌, min, max, ◌≤◌, ◌<◌, length}
+use Rattle.std.specs.Prelude.{◌≡◌, refl, Bool, false, not, ◌||◌, List, [], ◌∷◌, ◌++◌, ℕ, ◌+◌, ◌-◌, ◌*◌, ◌%◌, min, max, ◌<◌, length}
 use Rattle.std.proofs.Common.{arith, length-append}
 use Rattle.rules.specs.Rule.{Rule, size, height}
 use Rattle.rules.specs.Rule.Rule.{atom, unary, binary, windowed}
@@ -13,34 +13,15 @@ top (unary u p) = top p
 top (binary o p q) = max (top p) (top q)
 top (windowed w a b p) = top p
 
-pub top_le : (p : Rule) → top p ≤ 255
-top_le (atom a) = omega arith
-top_le (unary u p) = top_le p
-top_le (binary o p q) = let h = top_le p in let k = top_le q in omega arith
-top_le (windowed w a b p) = top_le p
+-- whether a window is not allowed, and whether a rule has such a window
+abbrev pub window_flaw : (a b : ℕ) → Bool
+window_flaw a b = not (window_good a b)
 
--- 1 where a window is not allowed, and else 0; 1 where a rule has such a window
-abbrev pub window_flaw : (a b : ℕ) → ℕ
-window_flaw a b = cond (window_good a b) 0 1
-
-abbrev pub flaw : Rule → ℕ
-flaw (atom a) = 0
+abbrev pub flaw : Rule → Bool
+flaw (atom a) = false
 flaw (unary u p) = flaw p
-flaw (binary o p q) = max (flaw p) (flaw q)
-flaw (windowed w a b p) = max (flaw p) (window_flaw (min 255 a) (min 255 b))
-
-window-flaw-cases : (x : Bool) → cond x 0 1 ≤ 1
-window-flaw-cases true = omega arith
-window-flaw-cases false = omega arith
-
-pub window-flaw_le : (a b : ℕ) → window_flaw a b ≤ 1
-window-flaw_le a b = window-flaw-cases (window_good a b)
-
-pub flaw_le : (p : Rule) → flaw p ≤ 1
-flaw_le (atom a) = omega arith
-flaw_le (unary u p) = flaw_le p
-flaw_le (binary o p q) = let h = flaw_le p in let k = flaw_le q in omega arith
-flaw_le (windowed w a b p) = let h = flaw_le p in let k = window-flaw_le (min 255 a) (min 255 b) in omega arith
+flaw (binary o p q) = flaw p || flaw q
+flaw (windowed w a b p) = flaw p || window_flaw (min 255 a) (min 255 b)
 
 -- a node's height is below its count of nodes
 pub height-less : (p : Rule) → height p < size p

@@ -1,116 +1,121 @@
 // A rule's phrase and its records: five levels of the grammar that call each other in a cycle.
 #![tactic(auto)]
 
-ghost use Rattle.std.specs.Prelude.{◌≡◌, ◌+◌, ◌*◌, ◌≤◌, ◌<◌, length};
+ghost use Rattle.std.specs.Prelude.{◌≡◌, ◌+◌, ◌*◌, ◌-◌, max, ◌≤◌, length};
 ghost use Rattle.rules.specs.Quantities.{text_limit};
 ghost use Rattle.rules.specs.Reading.Parser.{parsed, unary_of};
+ghost use Rattle.table.specs.Nodes.{byte_of};
 ghost use Rattle.reader_levels.specs.Records.{window_flaw, entry};
 ghost use Rattle.reader_levels.specs.Steps.{rule_level, or_level, and_level, until_level, single_level, Ready, Wrote, Yields, Room};
-ghost use Rattle.reader_levels.specs.Steps.{joined, JoinedIn, applied, AppliedIn, prefix_kind, opened, closed, Fits, step_of};
-ghost use Rattle.reader_levels.specs.declared.Step.TheVariants.{Part};
+ghost use Rattle.reader_levels.specs.Steps.{WroteOver, WroteAbove, joined, applied, prefix_kind, opened, windowed, closed};
+ghost use Rattle.reader_levels.specs.Phrase.{phrase, view, views};
 
-// No phrase, or one whose next token begins at `next`: `nodes` nodes are written so far, `top` is the phrase's highest atom
-// number, `flaw` is 1 where one of its windows is not allowed, and else 0, and `height` is its height.
-#[derive(Clone, Copy)]
-pub enum Step {
-    Fail,
-    Part {
-        next: usize,
-        nodes: usize,
-        top: usize,
-        flaw: usize,
-        height: usize,
-    },
+use reader_lexer::Token;
+use table::Kind;
+
+// What a part's nodes, height, highest atom number and flaw count in its code.
+const NODES: u64 = 65536;
+
+const HEIGHT: u64 = 4294967296;
+
+const TOP: u64 = 281474976710656;
+
+const FLAW: u64 = 72057594037927936;
+
+// A phrase whose next token begins at `next`: `nodes` nodes are written so far, `top` is the phrase's highest atom number, or 255
+// for all from there on, `flaw` is whether one of its windows is not allowed, and `height` is its height.
+// They are one number, which the levels return in a register.
+// Tried: five fields come back through memory, 9 to 19% slower than the number at 1,024 bytes; the bar is 1.25 times Rust.
+#[derive(Clone, Copy, Debug, PartialEq, Eq)]
+pub struct Part {
+    code: u64,
 }
 
-// A step as one number, which the levels return in a register: 0 for a failure, and for a part its position, nodes, highest atom
-// number, flaw and height, lowest first. Positions, nodes and heights lie below COUNTS, atom numbers below 256, and a flaw is 0 or 1.
-type Packed = usize;
-
-const FAIL: Packed = 0;
-
-const COUNTS: usize = 2048;
-
-const ATOM: usize = 4194304;
-
-const FLAW: usize = 1073741824;
-
-const HEIGHT: usize = 2147483648;
-
-fn unpack(code: Packed) -> Step
-    ensures { result ≡ step_of code }
-{
-    if code == FAIL {
-        return Step::Fail;
+impl Part {
+    fn new(next: u16, nodes: u16, top: u8, flaw: bool, height: u16) -> Part
+        ensures { view result ≡ phrase next nodes top flaw height }
+    {
+        let counts = u64::from(next) + u64::from(nodes) * NODES + u64::from(height) * HEIGHT;
+        Part {
+            code: counts + u64::from(top) * TOP + u64::from(flaw) * FLAW,
+        }
     }
-    Step::Part {
-        next: code % COUNTS,
-        nodes: code / COUNTS % COUNTS,
-        top: code / ATOM % 256,
-        flaw: code / FLAW % 2,
-        height: code / HEIGHT,
+
+    pub fn next(self) -> u16
+        ensures { result ≡ (view self).next }
+    {
+        (self.code % NODES) as u16
+    }
+
+    pub fn nodes(self) -> u16
+        ensures { result ≡ (view self).nodes }
+    {
+        (self.code / NODES % 65536) as u16
+    }
+
+    pub fn top(self) -> u8
+        ensures { result ≡ (view self).top }
+    {
+        (self.code / TOP % 256) as u8
+    }
+
+    pub fn flaw(self) -> bool
+        ensures { result ≡ (view self).flaw }
+    {
+        self.code / FLAW == 1
+    }
+
+    pub fn height(self) -> u16
+        ensures { result ≡ (view self).height }
+    {
+        (self.code / HEIGHT % 65536) as u16
     }
 }
 
-fn pack(next: usize, nodes: usize, top: usize, flaw: usize, height: usize) -> Packed
-    requires { Fits next nodes top flaw height }
-    ensures { step_of result ≡ Part next nodes top flaw height }
+// "when a is above b or b above 63"
+fn outside(from: u8, to: u8) -> bool
+    ensures { result ≡ window_flaw from to }
 {
-    next + nodes * COUNTS + top * ATOM + flaw * FLAW + height * HEIGHT
-}
-
-// 1 "when a is above b or b above 63", and else 0.
-fn outside(from: usize, to: usize) -> usize
-    ensures { (result ≡ window_flaw from to) × (result ≤ 1) }
-{
-    if to < from {
-        return 1;
-    }
-    if 63 < to {
-        return 1;
-    }
-    0
+    to < from || 63 < to
 }
 
 // What stands behind the mark of a node's record.
 #[derive(Clone, Copy)]
 struct Entry {
-    kind: u8,
-    left: usize,
-    right: usize,
-    from: usize,
-    to: usize,
-    height: usize,
+    kind: Kind,
+    left: u16,
+    right: u16,
+    from: u8,
+    to: u8,
+    height: u16,
 }
 
 // Writes node `n`'s record, where it is one of the first 128: the records of a rule with more are not wanted.
-fn put(out: &mut [u8; 1024], n: usize, e: Entry)
-    requires { n < text_limit }
-    ensures { Wrote out.old (8 * n) (entry e.kind e.left e.right e.from e.to e.height) out.new }
+fn put(out: &mut [u8; 1024], n: u16, e: Entry)
+    ensures { Wrote out.old (8 * n) (entry (byte_of e.kind) e.left e.right e.from e.to e.height) out.new }
 {
     if 128 <= n {
         return;
     }
-    let i = 8 * n;
+    let i = 8 * usize::from(n);
     let mark = table::MARK;
     out[i] = mark[0];
     out[i + 1] = mark[1];
-    out[i + 2] = e.kind;
+    out[i + 2] = u8::from(e.kind);
     out[i + 3] = (e.left % 256) as u8;
     out[i + 4] = (e.right % 256) as u8;
-    out[i + 5] = (e.from % 256) as u8;
-    out[i + 6] = (e.to % 256) as u8;
+    out[i + 5] = e.from;
+    out[i + 6] = e.to;
     out[i + 7] = (e.height % 256) as u8;
 }
 
 // Writes the record of an atom as node `n`'s.
-fn put_atom(out: &mut [u8; 1024], n: usize, number: usize)
-    requires { n < text_limit }
+fn put_atom(out: &mut [u8; 1024], n: u16, number: u8)
     ensures { Wrote out.old (8 * n) (entry 1 number 0 0 0 0) out.new }
 {
     let atom = Entry {
-        kind: table::ATOM,
-        left: number,
+        kind: Kind::Atom,
+        left: u16::from(number),
         right: 0,
         from: 0,
         to: 0,
@@ -119,276 +124,190 @@ fn put_atom(out: &mut [u8; 1024], n: usize, number: usize)
     put(out, n, atom);
 }
 
-// The node over the left part, whose last node is `nodes` - 1, and the right part.
-fn join(
-    out: &mut [u8; 1024],
-    kind: u8,
-    nodes: usize,
-    top: usize,
-    flaw: usize,
-    height: usize,
-    right: Packed,
-) -> Packed
-    requires { (1 ≤ nodes) × ((top ≤ 255) × ((flaw ≤ 1) × ((height < text_limit) × Room (step_of right)))) }
-    ensures { (step_of result ≡ joined top flaw height (step_of right)) × JoinedIn (step_of right) kind nodes height out.old out.new }
+// The node over two parts.
+fn join(out: &mut [u8; 1024], kind: Kind, left: Part, right: Part) -> Part
+    requires { Room (view left) × Room (view right) }
+    ensures part { view result ≡ joined (view left) (view right) }
+    ensures wrote { WroteOver out.old (byte_of kind) (view left) (view right) out.new }
 {
-    match unpack(right) {
-        Step::Fail => FAIL,
-        Step::Part {
-            next,
-            nodes: m,
-            top: b,
-            flaw: f,
-            height: h,
-        } => {
-            let over = scalars::larger(height, h) + 1;
-            let node = Entry {
-                kind,
-                left: nodes - 1,
-                right: m - 1,
-                from: 0,
-                to: 0,
-                height: over,
-            };
-            put(out, m, node);
-            let atom = scalars::larger(top, b);
-            let either = scalars::larger(flaw, f);
-            pack(next, m + 1, atom, either, over)
-        }
-    }
+    let height = left.height().max(right.height()) + 1;
+    let node = Entry {
+        kind,
+        left: left.nodes() - 1,
+        right: right.nodes() - 1,
+        from: 0,
+        to: 0,
+        height,
+    };
+    put(out, right.nodes(), node);
+    let top = left.top().max(right.top());
+    let flaw = left.flaw() || right.flaw();
+    Part::new(right.next(), right.nodes() + 1, top, flaw, height)
 }
 
 // The node over one part, with its window, or 0 and 0.
-fn cap(out: &mut [u8; 1024], kind: u8, from: usize, to: usize, inner: Packed) -> Packed
-    requires { Room (step_of inner) }
-    ensures { (step_of result ≡ applied from to (step_of inner)) × AppliedIn (step_of inner) kind from to out.old out.new }
+// The hint, since LLVM takes what stands behind several `?` for rare: without it the reader took a tenth longer.
+#[inline(always)]
+fn cap(out: &mut [u8; 1024], kind: Kind, from: u8, to: u8, inner: Part) -> Part
+    requires { Room (view inner) }
+    ensures part { view result ≡ applied from to (view inner) }
+    ensures wrote { WroteAbove out.old (byte_of kind) from to (view inner) out.new }
 {
-    match unpack(inner) {
-        Step::Fail => FAIL,
-        Step::Part {
-            next,
-            nodes: m,
-            top,
-            flaw,
-            height,
-        } => {
-            let over = height + 1;
-            let node = Entry {
-                kind,
-                left: m - 1,
-                right: 0,
-                from,
-                to,
-                height: over,
-            };
-            put(out, m, node);
-            let either = scalars::larger(flaw, outside(from, to));
-            pack(next, m + 1, top, either, over)
-        }
-    }
+    let height = inner.height() + 1;
+    let node = Entry {
+        kind,
+        left: inner.nodes() - 1,
+        right: 0,
+        from,
+        to,
+        height,
+    };
+    put(out, inner.nodes(), node);
+    let flaw = inner.flaw() || outside(from, to);
+    Part::new(inner.next(), inner.nodes() + 1, inner.top(), flaw, height)
 }
 
-// The kind of an operator of one side, and 0 where `byte` is none.
-fn prefix_kind(byte: u8) -> u8
+// The kind of an operator of one side.
+fn prefix_kind(byte: u8) -> Option<Kind>
     ensures { result ≡ prefix_kind (unary_of byte) }
 {
-    if byte == b'!' {
-        return table::NOT;
+    match byte {
+        b'!' => Some(Kind::Not),
+        b'F' => Some(Kind::Eventually),
+        b'G' => Some(Kind::Always),
+        _ => None,
     }
-    if byte == b'F' {
-        return table::EVENTUALLY;
-    }
-    if byte == b'G' {
-        return table::ALWAYS;
-    }
-    0
 }
 
-// The position past the opening bracket of a window behind F or G, and else 0.
-fn opening(text: &[u8], at: usize, kind: u8) -> usize
-    ensures { result ≡ opened kind text.now at }
+// The kind of the operator F or G with a window.
+fn windowed(byte: u8) -> Kind
+    ensures { result ≡ windowed byte }
 {
-    if kind == table::NOT {
-        return 0;
+    if byte == b'F' {
+        Kind::Within
+    } else {
+        Kind::Throughout
     }
-    reader_lexer::past(text, at, b'[')
+}
+
+// The position past the opening bracket of a window behind F or G. There is none behind the sign of not.
+fn opening(text: &[u8], at: usize, byte: u8) -> Option<usize>
+    ensures { result ≡ opened byte text.now at }
+{
+    if byte == b'!' {
+        None
+    } else {
+        reader_lexer::past(text, at, b'[')
+    }
 }
 
 // The part in a bracket, with the position of the token past the closing one.
-fn close(text: &[u8], inner: Packed) -> Packed
-    requires { (length text.now ≤ text_limit) × Room (step_of inner) }
-    ensures { step_of result ≡ closed text.now (step_of inner) }
+fn close(text: &[u8], inner: Part) -> Option<Part>
+    requires { length text.now ≤ text_limit }
+    ensures { views result ≡ closed text.now (view inner) }
 {
-    match unpack(inner) {
-        Step::Fail => FAIL,
-        Step::Part {
-            next,
-            nodes,
-            top,
-            flaw,
-            height,
-        } => {
-            let past = reader_lexer::sign_at(text, next, b')');
-            if past == 0 {
-                return FAIL;
-            }
-            let end = reader_lexer::skip(text, past);
-            pack(end, nodes, top, flaw, height)
-        }
-    }
+    let past = reader_lexer::sign_at(text, usize::from(inner.next()), b')')?;
+    let next = reader_lexer::skip(text, past) as u16;
+    Some(Part::new(
+        next,
+        inner.nodes(),
+        inner.top(),
+        inner.flaw(),
+        inner.height(),
+    ))
 }
 
-// Rule: Or, or Or > Rule. The levels pass the text on by a reference to the slice: each then has it in a register.
+// Rule: Or, or Or > Rule. The levels are five functions, one for each level of the grammar, as the paper asks, and pass the text on by a
+// reference to the slice: each then has it in a register.
 #[cycle(and_or_rule_single_until)]
-fn rule(text: &&[u8], at: usize, n: usize, out: &mut [u8; 1024]) -> Packed
+fn rule(text: &&[u8], at: usize, n: u16, out: &mut [u8; 1024]) -> Option<Part>
     requires { Ready text.now.now at n }
-    ensures { Yields text.now.now (parsed rule_level text.now.now at) n out.old out.new (step_of result) }
+    ensures { Yields text.now.now (parsed rule_level text.now.now at) n out.old out.new (views result) }
 {
-    let left = or(text, at, n, out);
-    match unpack(left) {
-        Step::Fail => FAIL,
-        Step::Part {
-            next,
-            nodes,
-            top,
-            flaw,
-            height,
-        } => {
-            let after = reader_lexer::sign_at(*text, next, b'>');
-            if after == 0 {
-                return left;
-            }
-            let right = rule(text, after, nodes, out);
-            join(out, table::IMPLIES, nodes, top, flaw, height, right)
-        }
-    }
+    let left = or(text, at, n, out)?;
+    let Some(after) = reader_lexer::sign_at(*text, usize::from(left.next()), b'>') else {
+        return Some(left);
+    };
+    let right = rule(text, after, left.nodes(), out)?;
+    Some(join(out, Kind::Implies, left, right))
 }
 
 // Or: And, or And | Or.
 #[cycle(and_or_rule_single_until)]
-fn or(text: &&[u8], at: usize, n: usize, out: &mut [u8; 1024]) -> Packed
+fn or(text: &&[u8], at: usize, n: u16, out: &mut [u8; 1024]) -> Option<Part>
     requires { Ready text.now.now at n }
-    ensures { Yields text.now.now (parsed or_level text.now.now at) n out.old out.new (step_of result) }
+    ensures { Yields text.now.now (parsed or_level text.now.now at) n out.old out.new (views result) }
 {
-    let left = and(text, at, n, out);
-    match unpack(left) {
-        Step::Fail => FAIL,
-        Step::Part {
-            next,
-            nodes,
-            top,
-            flaw,
-            height,
-        } => {
-            let after = reader_lexer::sign_at(*text, next, b'|');
-            if after == 0 {
-                return left;
-            }
-            let right = or(text, after, nodes, out);
-            join(out, table::OR, nodes, top, flaw, height, right)
-        }
-    }
+    let left = and(text, at, n, out)?;
+    let Some(after) = reader_lexer::sign_at(*text, usize::from(left.next()), b'|') else {
+        return Some(left);
+    };
+    let right = or(text, after, left.nodes(), out)?;
+    Some(join(out, Kind::Or, left, right))
 }
 
 // And: Until, or Until & And.
 #[cycle(and_or_rule_single_until)]
-fn and(text: &&[u8], at: usize, n: usize, out: &mut [u8; 1024]) -> Packed
+fn and(text: &&[u8], at: usize, n: u16, out: &mut [u8; 1024]) -> Option<Part>
     requires { Ready text.now.now at n }
-    ensures { Yields text.now.now (parsed and_level text.now.now at) n out.old out.new (step_of result) }
+    ensures { Yields text.now.now (parsed and_level text.now.now at) n out.old out.new (views result) }
 {
-    let left = until(text, at, n, out);
-    match unpack(left) {
-        Step::Fail => FAIL,
-        Step::Part {
-            next,
-            nodes,
-            top,
-            flaw,
-            height,
-        } => {
-            let after = reader_lexer::sign_at(*text, next, b'&');
-            if after == 0 {
-                return left;
-            }
-            let right = and(text, after, nodes, out);
-            join(out, table::AND, nodes, top, flaw, height, right)
-        }
-    }
+    let left = until(text, at, n, out)?;
+    let Some(after) = reader_lexer::sign_at(*text, usize::from(left.next()), b'&') else {
+        return Some(left);
+    };
+    let right = and(text, after, left.nodes(), out)?;
+    Some(join(out, Kind::And, left, right))
 }
 
 // Until: Single, or Single U Until.
 #[cycle(and_or_rule_single_until)]
-fn until(text: &&[u8], at: usize, n: usize, out: &mut [u8; 1024]) -> Packed
+fn until(text: &&[u8], at: usize, n: u16, out: &mut [u8; 1024]) -> Option<Part>
     requires { Ready text.now.now at n }
-    ensures { Yields text.now.now (parsed until_level text.now.now at) n out.old out.new (step_of result) }
+    ensures { Yields text.now.now (parsed until_level text.now.now at) n out.old out.new (views result) }
 {
-    let left = single(text, at, n, out);
-    match unpack(left) {
-        Step::Fail => FAIL,
-        Step::Part {
-            next,
-            nodes,
-            top,
-            flaw,
-            height,
-        } => {
-            let after = reader_lexer::sign_at(*text, next, b'U');
-            if after == 0 {
-                return left;
-            }
-            let right = until(text, after, nodes, out);
-            join(out, table::UNTIL, nodes, top, flaw, height, right)
-        }
-    }
+    let left = single(text, at, n, out)?;
+    let Some(after) = reader_lexer::sign_at(*text, usize::from(left.next()), b'U') else {
+        return Some(left);
+    };
+    let right = until(text, after, left.nodes(), out)?;
+    Some(join(out, Kind::Until, left, right))
 }
 
-// Single: ! Single, or F Single, or G Single, or an atom, or ( Rule ); or F or G with a window and a Single: its kind is then 3
-// higher.
+// Single: ! Single, or F Single, or G Single, or an atom, or ( Rule ); or F or G with a window and a Single.
 #[cycle(and_or_rule_single_until)]
-fn single(text: &&[u8], at: usize, n: usize, out: &mut [u8; 1024]) -> Packed
+fn single(text: &&[u8], at: usize, n: u16, out: &mut [u8; 1024]) -> Option<Part>
     requires { Ready text.now.now at n }
-    ensures { Yields text.now.now (parsed single_level text.now.now at) n out.old out.new (step_of result) }
+    ensures { Yields text.now.now (parsed single_level text.now.now at) n out.old out.new (views result) }
 {
-    match reader_lexer::token_at(*text, at) {
-        reader_lexer::Token::Atom { number, next } => {
+    let token = reader_lexer::token_at(*text, at)?;
+    match token {
+        Token::Atom { number, next } => {
             put_atom(out, n, number);
-            let end = reader_lexer::skip(*text, next);
-            pack(end, n + 1, number, 0, 0)
+            let end = reader_lexer::skip(*text, next) as u16;
+            Some(Part::new(end, n + 1, number, false, 0))
         }
-        reader_lexer::Token::Sign { byte, next } => {
+        Token::Sign { byte, next } => {
             if byte == b'(' {
-                let inner = rule(text, next, n, out);
+                let inner = rule(text, next, n, out)?;
                 return close(*text, inner);
             }
-            let kind = prefix_kind(byte);
-            if kind == 0 {
-                return FAIL;
-            }
-            let open = opening(*text, next, kind);
-            if open == 0 {
-                let inner = single(text, next, n, out);
-                return cap(out, kind, 0, 0, inner);
-            }
-            match reader_lexer::span_at(*text, open) {
-                reader_lexer::Span::None => FAIL,
-                reader_lexer::Span::Window {
-                    from,
-                    to,
-                    next: end,
-                } => {
-                    let inner = single(text, end, n, out);
-                    cap(out, kind + 3, from, to, inner)
-                }
-            }
+            let kind = prefix_kind(byte)?;
+            let Some(open) = opening(*text, next, byte) else {
+                let inner = single(text, next, n, out)?;
+                return Some(cap(out, kind, 0, 0, inner));
+            };
+            let window = reader_lexer::span_at(*text, open)?;
+            let inner = single(text, window.next, n, out)?;
+            Some(cap(out, windowed(byte), window.from, window.to, inner))
         }
-        reader_lexer::Token::Other => FAIL,
     }
 }
 
 // The phrase that the text begins with.
-pub fn whole(text: &[u8], out: &mut [u8; 1024]) -> Step
+pub fn whole(text: &[u8], out: &mut [u8; 1024]) -> Option<Part>
     requires { length text.now ≤ text_limit }
-    ensures { Yields text.now (parsed rule_level text.now 0) 0 out.old out.new result }
+    ensures { Yields text.now (parsed rule_level text.now 0) 0 out.old out.new (views result) }
 {
-    unpack(rule(&text, 0, 0, out))
+    rule(&text, 0, 0, out)
 }

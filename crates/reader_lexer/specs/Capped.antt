@@ -1,14 +1,21 @@
 -- The lexer's tokens hold an atom's number up to 255: more than any atom that M allows, and it fits a byte.
-use Rattle.std.specs.Prelude.{◌≡◌, refl, ℕ, min}
-use Rattle.std.proofs.Common.{ap, ◌∙◌, arith}
+use Rattle.std.specs.Prelude.{◌≡◌, refl, ℕ, min, Option, Some, None}
+use Rattle.std.proofs.Common.{ap}
 use Rattle.rules.specs.Reading.Lexer
 use Rattle.reader_lexer.specs.declared.Token.{Token}
-use Rattle.reader_lexer.specs.declared.Token.TheVariants.{Other, Sign, Atom}
+use Rattle.reader_lexer.specs.declared.Token.TheVariants.{Sign, Atom}
+use Rattle.reader_lexer.specs.declared.Number.{Number}
 
-abbrev pub capped : Lexer.Token → Token
-capped Lexer.Token.none = Other
-capped (Lexer.Token.sign b next) = Sign b next
-capped (Lexer.Token.atom a next) = Atom (min 255 a) next
+abbrev pub capped : Lexer.Token → Option Token
+capped Lexer.Token.none = None
+capped (Lexer.Token.sign b next) = Some (Sign b next)
+capped (Lexer.Token.atom a next) = Some (Atom (min 255 a) next)
+
+-- an atom's number, and the position past it
+abbrev pub number_of : Lexer.Token → Option Number
+number_of Lexer.Token.none = None
+number_of (Lexer.Token.sign b next) = None
+number_of (Lexer.Token.atom a next) = Some (record { value = min 255 a; next = next })
 
 -- ---- the token, by the lexer's
 
@@ -18,22 +25,19 @@ pub record Capped (t : Lexer.Token) (a next : ℕ) : Type 0 where
   pub is : t ≡ Lexer.Token.atom number next
   pub cut : a ≡ min 255 number
 
-pub none_of : (t : Lexer.Token) (x : Token) → x ≡ capped t → x ≡ Other → t ≡ Lexer.Token.none
-none_of Lexer.Token.none x e f = refl
-none_of (Lexer.Token.sign b next) x e f = let z : ◌≡◌ {A = ℕ} 0 1 = cc in absurd (omega arith)
-none_of (Lexer.Token.atom a next) x e f = let z : ◌≡◌ {A = ℕ} 0 1 = cc in absurd (omega arith)
+pub none_of : (t : Lexer.Token) → None ≡ capped t → t ≡ Lexer.Token.none
+none_of Lexer.Token.none e = refl
+none_of (Lexer.Token.sign b next) e = cc
+none_of (Lexer.Token.atom a next) e = cc
 
-pub sign_of : (t : Lexer.Token) (x : Token) (b next : ℕ) → x ≡ capped t → x ≡ Sign b next → t ≡ Lexer.Token.sign b next
-sign_of Lexer.Token.none x b next e f = let z : ◌≡◌ {A = ℕ} 0 1 = cc in absurd (omega arith)
-sign_of (Lexer.Token.sign c n) x b next e f =
-    let g : c ≡ b = cc in
-    let h : n ≡ next = cc in
-    ap (λ (y : ℕ). Lexer.Token.sign y n) g ∙ ap (Lexer.Token.sign b) h
-sign_of (Lexer.Token.atom a n) x b next e f = let z : ◌≡◌ {A = ℕ} 0 1 = cc in absurd (omega arith)
+pub sign_of : (t : Lexer.Token) (b next : ℕ) → Some (Sign b next) ≡ capped t → t ≡ Lexer.Token.sign b next
+sign_of Lexer.Token.none b next e = cc
+sign_of (Lexer.Token.sign c n) b next e = cc
+sign_of (Lexer.Token.atom a n) b next e = cc
 
-pub atom-of : (t : Lexer.Token) (x : Token) (a next : ℕ) → x ≡ capped t → x ≡ Atom a next → Capped t a next
-atom-of Lexer.Token.none x a next e f = let z : ◌≡◌ {A = ℕ} 0 1 = cc in absurd (omega arith)
-atom-of (Lexer.Token.sign b n) x a next e f = let z : ◌≡◌ {A = ℕ} 0 1 = cc in absurd (omega arith)
-atom-of (Lexer.Token.atom c n) x a next e f =
+pub atom-of : (t : Lexer.Token) (a next : ℕ) → Some (Atom a next) ≡ capped t → Capped t a next
+atom-of Lexer.Token.none a next e = cc
+atom-of (Lexer.Token.sign b n) a next e = cc
+atom-of (Lexer.Token.atom c n) a next e =
     let h : n ≡ next = cc in
     record { number = c; is = ap (Lexer.Token.atom c) h; cut = cc }

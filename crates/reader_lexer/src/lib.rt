@@ -1,39 +1,32 @@
 // The tokens of a rule text, and its windows.
 #![tactic(auto)]
 
-ghost use Rattle.std.specs.Prelude.{◌≡◌, ◌+◌, ◌*◌, ◌-◌, min, ◌≤◌, length, drop};
+ghost use Rattle.std.specs.Prelude.{◌≡◌, ◌+◌, min, ◌≤◌, length, drop, IfSome};
 ghost use Rattle.rules.specs.Reading.Lexer.{start, digits as digit_count, value, atom_at, token_at, number_at, sign_at};
 ghost use Rattle.rules.specs.Reading.Parser.{span_at};
-ghost use Rattle.reader_lexer.specs.Capped.{capped};
-ghost use Rattle.reader_lexer.specs.Signs.{sign_from};
-ghost use Rattle.reader_lexer.specs.Spans.{value_of, next_of, cut};
+ghost use Rattle.reader_lexer.specs.Capped.{capped, number_of};
+ghost use Rattle.reader_lexer.specs.Signs.{sign_from, position_of};
+ghost use Rattle.reader_lexer.specs.Spans.{bound_of, cut};
 
-// A sign has its byte, an atom its number, and each the position past it. `Other` stands where no token is.
-#[derive(Clone, Copy)]
+// A sign has its byte, an atom its number, or 255 for all from there on, and each the position past it.
+#[derive(Clone, Copy, Debug, PartialEq, Eq)]
 pub enum Token {
-    Other,
     Sign { byte: u8, next: usize },
-    Atom { number: usize, next: usize },
+    Atom { number: u8, next: usize },
 }
 
-// A window has its two numbers and the position past it. `None` stands where no window is.
-#[derive(Clone, Copy)]
-pub enum Span {
-    None,
-    Window { from: usize, to: usize, next: usize },
+// A window has its two numbers, or 255 for all from there on, and the position past it.
+#[derive(Clone, Copy, Debug, PartialEq, Eq)]
+pub struct Span {
+    pub from: u8,
+    pub to: u8,
+    pub next: usize,
 }
 
-// The number that digits stand for, and the position past them.
-#[derive(Clone, Copy)]
-struct Number {
-    value: usize,
-    end: usize,
-}
-
-// A number of a window, and the position past the sign behind it, or 0.
-#[derive(Clone, Copy)]
-pub struct Bound {
-    pub value: usize,
+// The number that digits stand for, or 255 for all from there on, and the position past them or past the sign behind them.
+#[derive(Clone, Copy, Debug, PartialEq, Eq)]
+pub struct Number {
+    pub value: u8,
     pub next: usize,
 }
 
@@ -41,150 +34,115 @@ pub struct Bound {
 pub fn skip(text: &[u8], at: usize) -> usize
     ensures { result ≡ start text.now at }
 {
-    let mut i = at;
-    while i < text.len() {
+    for i in at..text.len() {
         if text[i] != b' ' {
             return i;
         }
-        i += 1;
     }
-    i
+    at.max(text.len())
 }
 
-// The number v with the digit x behind it, and 255 for all from there on.
-fn more(v: usize, x: usize) -> usize
-    requires { (v ≤ 255) × ((48 ≤ x) × (x ≤ 57)) }
-    ensures { result ≡ min 255 (10 * v + (x - 48)) }
-{
-    let n = v * 10 + (x - 48);
-    if n < 255 { n } else { 255 }
-}
-
-// The digits from `from` on: where they end, and their number, or 255 for all from there on.
+// The digits from `from` on: their number and where they end.
 fn digits(text: &[u8], from: usize) -> Number
-    ensures { (result.end ≡ from + digit_count (drop from text.now)) ×
-        (result.value ≡ min 255 (value 0 (drop from text.now))) }
+    ensures next { result.next ≡ from + digit_count (drop from text.now) }
+    ensures value { result.value ≡ min 255 (value 0 (drop from text.now)) }
 {
-    let mut i = from;
-    let mut v: usize = 0;
-    while i < text.len() {
-        let x = scalars::wide_byte(text[i]);
-        if x < 48 {
-            return Number { value: v, end: i };
+    let mut value: u8 = 0;
+    for i in from..text.len() {
+        let byte = text[i];
+        if !byte.is_ascii_digit() {
+            return Number { value, next: i };
         }
-        if 57 < x {
-            return Number { value: v, end: i };
-        }
-        v = more(v, x);
-        i += 1;
+        value = (10 * u16::from(value) + u16::from(byte - b'0')).min(255) as u8;
     }
-    Number { value: v, end: i }
+    Number {
+        value,
+        next: from.max(text.len()),
+    }
 }
 
-// The digits from `d` on, as an atom's, where they are a decimal number without leading zeros.
-fn numeral(text: &[u8], d: usize) -> Token
-    ensures { result ≡ capped (atom_at text.now d) }
+// The digits from `d` on, where they are a decimal number without leading zeros.
+fn numeral(text: &[u8], d: usize) -> Option<Number>
+    ensures { result ≡ number_of (atom_at text.now d) }
 {
     let read = digits(text, d);
-    let end = read.end;
-    if end == d {
-        return Token::Other;
+    if read.next == d {
+        return None;
     }
-    if d + 1 < end {
-        if text[d] == b'0' {
-            return Token::Other;
-        }
+    if d + 1 < read.next && text[d] == b'0' {
+        return None;
     }
-    Token::Atom {
-        number: read.value,
-        next: end,
-    }
+    Some(read)
 }
 
 // The token at `at`, past the spaces there.
-pub fn token_at(text: &[u8], at: usize) -> Token
+pub fn token_at(text: &[u8], at: usize) -> Option<Token>
     ensures { result ≡ capped (token_at text.now at) }
 {
     let p = skip(text, at);
-    if p < text.len() {
-        let b = text[p];
-        if b == b'a' {
-            return numeral(text, p + 1);
-        }
-        return Token::Sign {
-            byte: b,
-            next: p + 1,
-        };
+    if text.len() <= p {
+        return None;
     }
-    Token::Other
-}
-
-// The number at `at`, past the spaces there, as an atom's.
-fn number_at(text: &[u8], at: usize) -> Token
-    ensures { result ≡ capped (number_at text.now at) }
-{
-    let p = skip(text, at);
-    numeral(text, p)
-}
-
-// The position past the sign `byte`, where that is the token that begins at `at`, and else 0.
-pub fn sign_at(text: &[u8], at: usize, byte: u8) -> usize
-    requires { byte ≡ 97 → ⊥ }
-    ensures { (result ≡ sign_from text.now at byte) × (result ≤ length text.now) }
-{
-    if at < text.len() {
-        if text[at] == byte {
-            return at + 1;
-        }
+    let byte = text[p];
+    if byte != b'a' {
+        return Some(Token::Sign { byte, next: p + 1 });
     }
-    0
+    let atom = numeral(text, p + 1)?;
+    Some(Token::Atom {
+        number: atom.value,
+        next: atom.next,
+    })
 }
 
-// The position past the sign `byte`, where that is the token at `at`, past the spaces there, and else 0.
-pub fn past(text: &[u8], at: usize, byte: u8) -> usize
-    requires { byte ≡ 97 → ⊥ }
-    ensures { result ≡ sign_at text.now at byte }
+// The number at `at`, past the spaces there.
+fn number_at(text: &[u8], at: usize) -> Option<Number>
+    ensures { result ≡ number_of (number_at text.now at) }
 {
-    let p = skip(text, at);
-    sign_at(text, p, byte)
+    numeral(text, skip(text, at))
 }
 
-// The number at `at`, with the sign `byte` behind it.
-fn bound_at(text: &[u8], at: usize, byte: u8) -> Bound
+// The position past the sign `byte`, where that is the token that begins at `at`.
+pub fn sign_at(text: &[u8], at: usize, byte: u8) -> Option<usize>
     requires { byte ≡ 97 → ⊥ }
-    ensures { (result.value ≡ value_of (number_at text.now at)) ×
-        (result.next ≡ next_of text.now byte (number_at text.now at)) }
+    ensures past { result ≡ position_of (sign_from text.now at byte) }
+    ensures inside { IfSome result (λ next. next ≤ length text.now) }
 {
-    match number_at(text, at) {
-        Token::Atom { number, next } => {
-            let next = past(text, next, byte);
-            Bound {
-                value: number,
-                next,
-            }
-        }
-        Token::Sign { byte: _, next: _ } => Bound { value: 0, next: 0 },
-        Token::Other => Bound { value: 0, next: 0 },
+    if at < text.len() && text[at] == byte {
+        Some(at + 1)
+    } else {
+        None
     }
+}
+
+// The position past the sign `byte`, where that is the token at `at`, past the spaces there.
+pub fn past(text: &[u8], at: usize, byte: u8) -> Option<usize>
+    requires { byte ≡ 97 → ⊥ }
+    ensures { result ≡ position_of (sign_at text.now at byte) }
+{
+    sign_at(text, skip(text, at), byte)
+}
+
+// The number at `at`, and the position past the sign `byte` behind it.
+fn bound_at(text: &[u8], at: usize, byte: u8) -> Option<Number>
+    requires { byte ≡ 97 → ⊥ }
+    ensures { result ≡ bound_of text.now byte (number_at text.now at) }
+{
+    let number = number_at(text, at)?;
+    let next = past(text, number.next, byte)?;
+    Some(Number { next, ..number })
 }
 
 // The window from the position past its opening bracket: two numbers, a comma behind the first and the closing bracket behind the second.
-pub fn span_at(text: &[u8], at: usize) -> Span
+// The hint, since LLVM takes what stands behind several `?` for rare: without it the reader took a tenth longer.
+#[inline(always)]
+pub fn span_at(text: &[u8], at: usize) -> Option<Span>
     ensures { result ≡ cut (span_at text.now at) }
 {
-    let first = bound_at(text, at, b',');
-    let comma = first.next;
-    if comma == 0 {
-        return Span::None;
-    }
-    let second = bound_at(text, comma, b']');
-    let next = second.next;
-    if next == 0 {
-        return Span::None;
-    }
-    Span::Window {
-        from: first.value,
-        to: second.value,
-        next,
-    }
+    let from = bound_at(text, at, b',')?;
+    let to = bound_at(text, from.next, b']')?;
+    Some(Span {
+        from: from.value,
+        to: to.value,
+        next: to.next,
+    })
 }

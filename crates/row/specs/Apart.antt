@@ -10,7 +10,7 @@ use Rattle.table.specs.declared.Kind.{Kind}
 use Rattle.table.specs.declared.Kind.TheVariants.{Atom, Not, And, Or, Implies, Eventually, Always, Until, Within, Throughout}
 use Rattle.row.specs.declared.Block.{Block}
 use Rattle.row.specs.Kinds.{left_block}
-use Rattle.row.specs.NodeRows.{Own, Kept}
+use Rattle.row.specs.NodeRows.{Own, Kept, loops_of, next_of, own-next, kept_loops}
 
 abbrev pub Apart : Kind → (T P p q : ℕ) → Type 0
 Apart Atom T P p q = p + T ≤ P
@@ -72,14 +72,14 @@ higher Throughout T P Q p q h g = omega arith
 -- a block stands behind its parts, and what follows its last slot behind it
 pub record Behind (T : ℕ) (b : Block) : Type 0 where
   pub parts : Apart b.kind T b.own b.left b.right
-  pub next : b.loops ≡ true → b.own + T ≤ b.next
+  pub next : loops_of b ≡ true → b.own + T ≤ next_of b
 
 pub own_behind : (T M L n v : ℕ) (nd : Table.Node) (b : Block) → Own T M L n v nd b → NodeGood M n (node_of nd) → (M + n) * T + T ≤ v → Behind T b
 own_behind T M L n v nd b o good h = record {
   parts =
       subst⁻¹ (λ (k : Kind). Apart k T b.own b.left b.right) o.kind_is
       (apart_by M n T nd.kind nd.left nd.right nd.from nd.to b.own b.left b.right o.own_is o.left_is o.right_is good);
-  next = λ e. omega (arith, o.own_is, o.next-is);
+  next = λ e. omega (arith, o.own_is, own-next o e);
 }
 
 pub kept-behind : (T v : ℕ) (b c : Block) → Kept v b c → b.own ≤ v → Behind T b → Behind T c
@@ -87,7 +87,7 @@ kept-behind T v b c k h g = record {
   parts =
       subst⁻¹ (λ (j : Kind). Apart j T c.own c.left c.right) k.kind_is
       (rw (k.own_is, k.left_is, k.right_is) (higher b.kind T b.own v b.left b.right h g.parts));
-  next = λ e. let z : ◌≡◌ {A = ℕ} 0 1 = never (sym k.loops_is ∙ e) in absurd (omega arith);
+  next = λ e. let z : ◌≡◌ {A = ℕ} 0 1 = never (sym (kept_loops k) ∙ e) in absurd (omega arith);
 }
   where
     never : false ≡ true → ◌≡◌ {A = ℕ} 0 1

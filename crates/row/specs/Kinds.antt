@@ -1,6 +1,6 @@
 -- The rows of a node of a kind at a slot: how many they are, and that they are document 01's, and request N4's for windows.
 use Rattle.std.proofs.Math.Path.{◌≡◌}
-use Rattle.std.specs.Prelude.{refl, Bool, cond, ◌&&◌, ◌||◌, List, [], map, ℕ, ◌+◌, ◌-◌, ◌*◌, ◌≤◌, ◌<◌, ltb, length, take}
+use Rattle.std.specs.Prelude.{refl, Bool, Option, Some, None, is_some, unwrap_or, cond, ◌&&◌, ◌||◌, List, [], map, ℕ, ◌+◌, ◌-◌, ◌*◌, ◌≤◌, ◌<◌, ltb, length, take}
 use Rattle.std.proofs.Common.{sym, ap, ap₂, ◌∙◌, lt-ltb, le-ltb, length-append}
 use Rattle.std.proofs.Math.Bool.{true, false}
 use native.Mathlib.Omega.{arith}
@@ -113,10 +113,53 @@ followed T loops s = ltb (s + 1) T || loops
 abbrev pub following : (T P next s : ℕ) → ℕ
 following T P next s = cond (ltb (s + 1) T) (P + s + 1) next
 
+-- both in one: the variable of what follows slot s + 1, where something does
+abbrev pub follower : (T P : ℕ) (next : Option ℕ) (s : ℕ) → Option ℕ
+follower T P next s = cond (ltb (s + 1) T) (Some (P + s + 1)) next
+
+pub follower-some : (T P : ℕ) (next : Option ℕ) (s : ℕ) → is_some (follower T P next s) ≡ followed T (is_some next) s
+follower-some T P next s = go (ltb (s + 1) T)
+  where
+    go : (x : Bool) → is_some (cond x (Some (P + s + 1)) next) ≡ (x || is_some next)
+    go true = refl
+    go false = refl
+
+pub follower-is : (T P : ℕ) (next : Option ℕ) (s : ℕ) → unwrap_or (follower T P next s) 0 ≡ following T P (unwrap_or next 0) s
+follower-is T P next s = go (ltb (s + 1) T)
+  where
+    go : (x : Bool) → unwrap_or (cond x (Some (P + s + 1)) next) 0 ≡ cond x (P + s + 1) (unwrap_or next 0)
+    go true = refl
+    go false = refl
+
 -- P, p and q are the variables of the node and its parts at the first slot; the node's rows at slot s + 1
 abbrev pub rows_on : Kind → (T L : ℕ) (loops : Bool) (next P p q a b s : ℕ) → List Row
 rows_on k T L loops next P p q a b s =
     kind_rows k (followed T loops s) (P + s) (p + s) (q + s) (following T P next s) (window_at T L p a b s)
+
+-- where nothing follows, it does not count what would
+last-alone : (k : Kind) (P p q x y : ℕ) (vs : List ℕ) → kind_rows k false P p q x vs ≡ kind_rows k false P p q y vs
+last-alone Atom P p q x y vs = refl
+last-alone Not P p q x y vs = refl
+last-alone And P p q x y vs = refl
+last-alone Or P p q x y vs = refl
+last-alone Implies P p q x y vs = refl
+last-alone Eventually P p q x y vs = refl
+last-alone Always P p q x y vs = refl
+last-alone Until P p q x y vs = refl
+last-alone Within P p q x y vs = refl
+last-alone Throughout P p q x y vs = refl
+
+module _ (k : Kind) (T L P p q a b s : ℕ) where
+  -- what follows the last slot as a block has it
+  pub rows-next : (x : Bool) (n : ℕ) →
+      rows_on k T L x n P p q a b s ≡ rows_on k T L (is_some (cond x (Some n) None)) (unwrap_or (cond x (Some n) None) 0) P p q a b s
+  rows-next true n = refl
+  rows-next false n = go (ltb (s + 1) T)
+    where
+      go : (c : Bool) → kind_rows k (c || false) (P + s) (p + s) (q + s) (cond c (P + s + 1) n) (window_at T L p a b s) ≡
+          kind_rows k (c || false) (P + s) (p + s) (q + s) (cond c (P + s + 1) 0) (window_at T L p a b s)
+      go true = refl
+      go false = last-alone k (P + s) (p + s) (q + s) n 0 (window_at T L p a b s)
 
 -- ---- they are those of a node, and those of its V
 
@@ -152,25 +195,13 @@ module _ (T M L : ℕ) (ns : List Node) (n : ℕ) (k : Kind) (l r a b s : ℕ) w
       go Within = window within
       go Throughout = window throughout
 
-  -- V's rows, of the kinds that have them: what would follow the last slot does not count
+  -- V's rows, of the kinds that have them
   abbrev v_rows : Kind → (inner : Bool) → ℕ → List Row
   v_rows j inner x = kind_rows j inner (loop_block + s) ((M + l) * T + s) ((M + r) * T + s) x (window_at T L ((M + l) * T) a b s)
 
-  last-alone : (j : Kind) → loops_by j ≡ true → (x y : ℕ) → v_rows j false x ≡ v_rows j false y
-  last-alone Eventually e x y = refl
-  last-alone Always e x y = refl
-  last-alone Until e x y = refl
-  last-alone Atom e x y = refl
-  last-alone Not e x y = refl
-  last-alone And e x y = refl
-  last-alone Or e x y = refl
-  last-alone Implies e x y = refl
-  last-alone Within e x y = refl
-  last-alone Throughout e x y = refl
-
-  v-rows : (j : Kind) → loops_by j ≡ true → (c : Bool) → v_rows j c (loop_block + s + 1) ≡ v_rows j (c || false) (cond c (loop_block + s + 1) 0)
-  v-rows j e true = refl
-  v-rows j e false = last-alone j e (loop_block + s + 1) 0
+  v-rows : (j : Kind) (c : Bool) → v_rows j c (loop_block + s + 1) ≡ v_rows j (c || false) (cond c (loop_block + s + 1) 0)
+  v-rows j true = refl
+  v-rows j false = last-alone j (loop_block + s) ((M + l) * T + s) ((M + r) * T + s) (loop_block + s + 1) 0 (window_at T L ((M + l) * T) a b s)
 
   pub loop-slot-rows : loops_by k ≡ true → loop_rows_at T M ns n (node_by k l r a b) (s + 1) ≡
       rows_on k T L false 0 loop_block (left_block k M l * T) ((M + r) * T) a b s
@@ -181,9 +212,9 @@ module _ (T M L : ℕ) (ns : List Node) (n : ℕ) (k : Kind) (l r a b s : ℕ) w
 
       go : (k : Kind) → loops_by k ≡ true → loop_rows_at T M ns n (node_by k l r a b) (s + 1) ≡
           rows_on k T L false 0 loop_block (left_block k M l * T) ((M + r) * T) a b s
-      go Eventually e = rw (next (M + (length ns + looping (take n ns))), here) (v-rows Eventually refl (ltb (s + 1) T))
-      go Always e = rw (next (M + (length ns + looping (take n ns))), here) (v-rows Always refl (ltb (s + 1) T))
-      go Until e = rw (next (M + (length ns + looping (take n ns))), here) (v-rows Until refl (ltb (s + 1) T))
+      go Eventually e = rw (next (M + (length ns + looping (take n ns))), here) (v-rows Eventually (ltb (s + 1) T))
+      go Always e = rw (next (M + (length ns + looping (take n ns))), here) (v-rows Always (ltb (s + 1) T))
+      go Until e = rw (next (M + (length ns + looping (take n ns))), here) (v-rows Until (ltb (s + 1) T))
       go Atom e = never e
       go Not e = never e
       go And e = never e

@@ -1,5 +1,5 @@
 -- The variables of a block lie within 16 bits, with room for the slots; a node as its record has it, in bytes.
-use Rattle.std.specs.Prelude.{ℕ, ◌≤◌, ◌<◌}
+use Rattle.std.specs.Prelude.{ℕ, ◌≤◌, ◌<◌, unwrap_or}
 use Rattle.table.specs.declared.Node as Table
 use Rattle.row.specs.declared.Block.{Block}
 
@@ -33,4 +33,4 @@ pub record Placed (b : Block) : Type 0 where
   pub own-low : b.own ≤ first_limit
   pub left-low : b.left ≤ first_limit
   pub right-low : b.right ≤ first_limit
-  pub next_low : b.next ≤ variable_limit
+  pub next_low : unwrap_or b.next 0 ≤ variable_limit

@@ -12,13 +12,13 @@ ghost use Rattle.row.specs.Meaning.{term_of, row_of};
 
 use table::{Kind, Node};
 
-#[derive(Clone, Copy)]
+#[derive(Clone, Copy, Debug, PartialEq, Eq)]
 pub enum Relation {
     AtLeast,
     Equal,
 }
 
-#[derive(Clone, Copy)]
+#[derive(Clone, Copy, Debug, PartialEq, Eq)]
 pub struct Term {
     pub coefficient: i8,
     pub variable: u16,
@@ -30,7 +30,7 @@ impl Term {
     {
         Self {
             coefficient: 1,
-            variable: variable,
+            variable,
         }
     }
 
@@ -39,19 +39,19 @@ impl Term {
     {
         Self {
             coefficient: -1,
-            variable: variable,
+            variable,
         }
     }
 }
 
-#[derive(Clone, Copy)]
+#[derive(Clone, Copy, Debug, PartialEq, Eq)]
 pub enum Terms {
     Single(Term),
     Pair(Term, Term),
     Triple(Term, Term, Term),
 }
 
-#[derive(Clone, Copy)]
+#[derive(Clone, Copy, Debug, PartialEq, Eq)]
 pub struct Row {
     pub relation: Relation,
     pub right: i8,
@@ -60,8 +60,8 @@ pub struct Row {
 
 // A block of slacks, one for each slot: a node's own, or its V's where the plan loops to a slot L below T. `own` is its
 // variable at the first slot, `left` and `right` are those of the node's parts, and `from`, `to` its window. Where the
-// block `loops`, something follows its last slot: `next` is the variable.
-#[derive(Clone, Copy)]
+// block loops, something follows its last slot: `next` is its variable.
+#[derive(Clone, Copy, Debug, PartialEq, Eq)]
 pub struct Block {
     pub kind: Kind,
     pub own: u16,
@@ -69,8 +69,7 @@ pub struct Block {
     pub right: u16,
     pub from: u16,
     pub to: u16,
-    pub loops: bool,
-    pub next: u16,
+    pub next: Option<u16>,
 }
 
 // The first variable of a block: the variables stand in blocks of t, one for each slot; the atoms' come first, then the nodes' and
@@ -97,15 +96,7 @@ pub fn left_block(kind: Kind, m: usize, left: usize) -> usize
 {
     match kind {
         Kind::Atom => left,
-        Kind::Not => m + left,
-        Kind::And => m + left,
-        Kind::Or => m + left,
-        Kind::Implies => m + left,
-        Kind::Eventually => m + left,
-        Kind::Always => m + left,
-        Kind::Until => m + left,
-        Kind::Within => m + left,
-        Kind::Throughout => m + left,
+        _ => m + left,
     }
 }
 
@@ -200,16 +191,11 @@ pub fn slot_count(kind: Kind, inner: bool, looks: usize) -> usize
     ensures { (result ≡ slot_count kind inner looks) × (result ≤ slot_row_limit) }
 {
     match kind {
-        Kind::Atom => 1,
-        Kind::Not => 1,
-        Kind::And => 3,
-        Kind::Or => 3,
-        Kind::Implies => 3,
-        Kind::Eventually => { if inner { 3 } else { 1 } }
-        Kind::Always => { if inner { 3 } else { 1 } }
-        Kind::Until => { if inner { 4 } else { 1 } }
-        Kind::Within => looks + 1,
-        Kind::Throughout => looks + 1,
+        Kind::Atom | Kind::Not => 1,
+        Kind::And | Kind::Or | Kind::Implies => 3,
+        Kind::Eventually | Kind::Always => last_count(inner, 3),
+        Kind::Until => last_count(inner, 4),
+        Kind::Within | Kind::Throughout => looks + 1,
     }
 }
 
@@ -226,17 +212,16 @@ pub fn own_block(node: Node, t: usize, m: usize, l: usize, n: usize, v: u16) -> 
     requires { (1 ≤ l) × (l ≤ t) × (t ≤ 64) × (m ≤ 16) × (n < 128) × (v ≤ first_limit) × Small node }
     ensures { Own t m l n v node result × Placed result }
 {
-    let kind = node.kind;
     let own = first_variable(m + n, t);
+    let looped = v + (l - 1) as u16;
     Block {
-        kind: kind,
-        own: own,
-        left: first_variable(left_block(kind, m, node.left), t),
+        kind: node.kind,
+        own,
+        left: first_variable(left_block(node.kind, m, node.left), t),
         right: first_variable(m + node.right, t),
         from: node.from as u16,
         to: node.to as u16,
-        loops: l < t,
-        next: v + (l - 1) as u16,
+        next: if l < t { Some(looped) } else { None },
     }
 }
 
@@ -245,16 +230,10 @@ pub fn kept_block(block: Block, v: u16) -> Block
     requires { Placed block × (v ≤ first_limit) }
     ensures { Kept v block result × Placed result }
 {
-    let kind = block.kind;
     Block {
-        kind: kind,
         own: v,
-        left: block.left,
-        right: block.right,
-        from: block.from,
-        to: block.to,
-        loops: false,
-        next: 0,
+        next: None,
+        ..block
     }
 }
 
@@ -262,7 +241,7 @@ pub fn kept_block(block: Block, v: u16) -> Block
 pub fn has_kept(kind: Kind, t: usize, l: usize) -> bool
     ensures { result ≡ (ltb l t && loops_by kind) }
 {
-    scalars::both(l < t, table::loops(kind))
+    l < t && table::loops(kind)
 }
 
 // How many rows F, G and U have at the last slot: one where nothing follows it.
@@ -274,22 +253,18 @@ fn last_count(loops: bool, inner: usize) -> usize
 }
 
 // How many rows a block of this kind and with this window has at t slots that loop to slot l.
+#[tactic(auto, unfolding(crate::specs::Kinds::block_count))]
 pub fn block_count(kind: Kind, loops: bool, t: u16, l: u16, a: u16, b: u16) -> usize
     requires { (1 ≤ l) × (l ≤ t) × (t ≤ 64) × Allowed kind a b }
     ensures { (result ≡ block_count kind loops t l a b) × (t ≤ result) × (result ≤ slot_row_limit * t) }
 {
-    let slots = t as usize;
+    let slots = usize::from(t);
     match kind {
-        Kind::Atom => slots,
-        Kind::Not => slots,
-        Kind::And => 3 * slots,
-        Kind::Or => 3 * slots,
-        Kind::Implies => 3 * slots,
-        Kind::Eventually => 3 * (slots - 1) + last_count(loops, 3),
-        Kind::Always => 3 * (slots - 1) + last_count(loops, 3),
+        Kind::Atom | Kind::Not => slots,
+        Kind::And | Kind::Or | Kind::Implies => 3 * slots,
+        Kind::Eventually | Kind::Always => 3 * (slots - 1) + last_count(loops, 3),
         Kind::Until => 4 * (slots - 1) + last_count(loops, 4),
-        Kind::Within => window::total(t, l, a, b) + slots,
-        Kind::Throughout => window::total(t, l, a, b) + slots,
+        Kind::Within | Kind::Throughout => window::total(t, l, a, b) + slots,
     }
 }
 
@@ -299,7 +274,7 @@ pub fn node_count(kind: Kind, t: u16, l: u16, a: u16, b: u16) -> usize
     ensures { (result ≡ node_count kind t l a b) × (result ≤ 2 * (slot_row_limit * t)) }
 {
     let own = block_count(kind, l < t, t, l, a, b);
-    if has_kept(kind, t as usize, l as usize) {
+    if has_kept(kind, usize::from(t), usize::from(l)) {
         return block_count(kind, false, t, l, a, b) + own;
     }
     own

@@ -7,22 +7,20 @@ use Rattle.rules.specs.Rows.{Row, row_bytes, rows_bytes, rows_of, row_in, rows_i
 use Rattle.rules.specs.RowRecords.{Recordable, row_length}
 use Rattle.rules.proofs.RowRecords.{length-row, row_back, rows_back, rows_recordable}
 use Rattle.rules.specs.Refusals.{TableRefused, RowsRefused}
-use Rattle.rules.specs.Demands
-use Rattle.rules.specs.Demands.{Written}
-use Rattle.rules.specs.Demands.Answer.{answered}
+use Rattle.rules.specs.Demands.{Answer, Written}
+use Rattle.rules.specs.Demands.Answer.{refused, answered}
 use Rattle.rules.specs.Demands.Written.{wrote}
 use Rattle.rules.specs.Outcome.{returned, buffer, rows_outcome}
 use Rattle.rules.proofs.Exactness.Tests.{at_least}
 use Rattle.rules.proofs.Exactness.Rows.{rows_exact}
-use Rattle.answers.specs.declared.Refusal.{Refusal}
-use Rattle.answers.specs.declared.Answer.{Answer}
-use Rattle.answers.specs.declared.Answer.TheVariants.{Value, Refused}
-use Rattle.answers.specs.Meaning.{number_of, answer_of}
 use Rattle.rowlist_text.specs.Sizes.{rows_room}
 use Rattle.rowlist_text.specs.RowText.{Whole, head_text, rows_text}
-use Rattle.program_rule.specs.Output.{refused_text, printed}
+use Rattle.program_input.specs.Scanning.{State}
+use Rattle.program_rule.specs.Outcome.{output}
 use Rattle.program_rule.specs.Outcomes.{answer-refused, answer-value}
-use Rattle.rowlist_page.specs.Page.{rows_then, listing_text}
+use Rattle.program_rule.specs.Shown.{shown}
+use Rattle.program_rule.specs.Told.{as_text, text_work, printed_of, printed-same, shown-same, output-same}
+use Rattle.rowlist_page.specs.Page.{rows_then, listing_text, list_work, listing, page}
 
 -- ---- rows that were written
 
@@ -86,13 +84,13 @@ pub record RowsReady (T M : ℕ) (table : List ℕ) (count : ℕ) (l : List ℕ)
   pub whole : Whole count l
   pub said : rows_in count l ≡ rows_in count bytes
 
-pub rows-ready : (T M : ℕ) (table z l : List ℕ) (r : Answer) (count : ℕ) → length z ≡ rows_room → answer_of r ≡ returned (rows_outcome T M T table (length z)) →
-    l ≡ buffer (rows_outcome T M T table (length z)) z → r ≡ Value count → RowsReady T M table count l
-rows-ready T M table z l r count s e f v =
-    let w = answer-value (rows_outcome T M T table rows_room) r count (rw s at e) v in
+pub rows-ready : (T M : ℕ) (table z l : List ℕ) (count : ℕ) → length z ≡ rows_room → answered count ≡ returned (rows_outcome T M T table (length z)) →
+    l ≡ buffer (rows_outcome T M T table (length z)) z → RowsReady T M table count l
+rows-ready T M table z l count s e f =
+    let w = answer-value (rows_outcome T M T table rows_room) count (rw s at e) in
     let k = rows_written T M table count w.bytes w.is in
     let rest = drop (length w.bytes) z in
-    let g : l ≡ w.bytes ++ rest = rw s at f ∙ ap (λ (x : Demands.Answer Written). buffer x z) w.is in
+    let g : l ≡ w.bytes ++ rest = rw s at f ∙ ap (λ (x : Answer Written). buffer x z) w.is in
     record {
       bytes = w.bytes;
       is = w.is;
@@ -106,20 +104,31 @@ rows-ready T M table z l r count s e f v =
 pub variables-few : (T M n : ℕ) → T ≤ 64 → M ≤ 16 → n ≤ 128 → (M + n) * T < 100000
 variables-few T M n t m k = let a : M + n ≤ 144 = omega arith in let h : (M + n) * T ≤ 144 * 64 = mul-le-mul a t in omega arith
 
--- ---- what is printed of an outcome
+-- ---- what is listed of an outcome
 
 length-rows_in : (n : ℕ) (b : List ℕ) → length (rows_in n b) ≡ n
 length-rows_in zero b = refl
 length-rows_in (suc n) b = ap suc (length-rows_in n (drop (5 + 3 * get_or b 3 0) b))
 
-pub printed-rows : (T M n count : ℕ) (bytes : List ℕ) (o : Demands.Answer Written) → o ≡ answered (wrote count bytes) →
-    printed listing_text (rows_then T M n o) ≡ head_text count ((M + n) * T) ++ rows_text 0 (rows_in count bytes)
-printed-rows T M n count bytes o e =
-    ap (λ (x : Demands.Answer Written). printed listing_text (rows_then T M n x)) e
-    ∙ ap (λ (k : ℕ). head_text k ((M + n) * T) ++ rows_text 0 (rows_in count bytes)) (length-rows_in count bytes)
+pub listed-rows : (T M n count : ℕ) (table bytes : List ℕ) → rows_outcome T M T table rows_room ≡ answered (wrote count bytes) →
+    text_work listing_text list_work T M n table ≡ answered (head_text count ((M + n) * T) ++ rows_text 0 (rows_in count bytes))
+listed-rows T M n count table bytes e =
+    ap (λ (x : Answer Written). as_text listing_text (rows_then T M n x)) e
+    ∙ ap (λ (k : ℕ). answered (head_text k ((M + n) * T) ++ rows_text 0 (rows_in count bytes))) (length-rows_in count bytes)
 
-pub printed-refused : (T M n : ℕ) (table z : List ℕ) (r : Answer) (k : Refusal) → length z ≡ rows_room →
-    answer_of r ≡ returned (rows_outcome T M T table (length z)) → r ≡ Refused k →
-    printed listing_text (rows_then T M n (rows_outcome T M T table rows_room)) ≡ refused_text (number_of k)
-printed-refused T M n table z r k s e v =
-    ap (λ (x : Demands.Answer Written). printed listing_text (rows_then T M n x)) (answer-refused (rows_outcome T M T table rows_room) r k (rw s at e) v)
+pub listed-refused : (T M n k : ℕ) (table z : List ℕ) → length z ≡ rows_room → refused k ≡ returned (rows_outcome T M T table (length z)) →
+    text_work listing_text list_work T M n table ≡ refused k
+listed-refused T M n k table z s e =
+    ap (λ (x : Answer Written). as_text listing_text (rows_then T M n x)) (answer-refused (rows_outcome T M T table rows_room) k (rw s at e))
+
+-- ---- what is printed of the work on a table, as a text
+
+listing-is : (T M : ℕ) (rule : List ℕ) → printed_of (text_work listing_text list_work) T M rule ≡ listing T M rule
+unfolding listing
+listing-is T M rule = printed-same listing_text list_work T M rule
+
+pub shown-listing : (s : State) → shown (printed_of (text_work listing_text list_work)) s ≡ shown listing s
+shown-listing s = shown-same _ listing listing-is s
+
+pub output-listing : (input : List ℕ) → output (printed_of (text_work listing_text list_work)) input ≡ page input
+output-listing input = output-same _ listing listing-is input

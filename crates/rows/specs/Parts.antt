@@ -1,6 +1,6 @@
 -- The bytes of a table's rows, node by node, as the writer makes them, and how many rows they are.
 use Rattle.std.specs.Prelude.{◌≡◌, Bool, true, false, cond, ◌&&◌, ℕ, ◌+◌, ◌*◌, ◌≤◌, ◌<◌, ltb}
-use Rattle.std.proofs.Math.Path.{sym, ap, ap₂, subst⁻¹}
+use Rattle.std.proofs.Math.Path.{refl, sym, ap, ap₂, subst⁻¹}
 use Rattle.std.proofs.Common.{◌∙◌}
 use mathlib.Core.List.{List, [], ◌∷◌, ◌++◌, append-nil}
 use Rattle.std.proofs.Math.ListN.{length, length-append}
@@ -16,8 +16,8 @@ use Rattle.table.specs.Looping.{loops_by, looping_to}
 use Rattle.table.specs.declared.Node as Table
 use Rattle.row.specs.declared.Block.{Block}
 use Rattle.row.specs.Kinds.{Allowed, allowed}
-use Rattle.row.specs.NodeRows.{Own, has_kept, block_rows, both-rows, part_rows, rows_to, kept_of, kept_of_lem}
-use Rattle.rows_node.specs.Blocks.{block-bytes, kept_part, kept-some, kept-none, kept-bytes, kept-nothing, node_bytes, node-parts}
+use Rattle.row.specs.NodeRows.{Own, own_loops, loops_of, has_kept, block_rows, both-rows, part_rows, rows_to, kept_of, kept_of_lem}
+use Rattle.rows_node.specs.Blocks.{block_bytes, block-bytes, node_bytes, node-parts}
 use Rattle.rows.specs.Sizes.{node_length, part_length}
 
 -- the bytes of the rows of node n, and of the first k nodes
@@ -42,17 +42,19 @@ module _ (T M L : ℕ) (table : List ℕ) (n part v : ℕ) (nd : Table.Node) (b 
       (allowed M n nd.kind nd.left nd.right nd.from nd.to (subst⁻¹ (NodeGood M n) read.is (ready.nodes n low)))
 
   -- V's bytes: x is whether L is below T, and y whether the kind has a V
-  kept : (x y : Bool) → b.loops ≡ x → loops_by b.kind ≡ y → rows_bytes (cond (x && y) (block_rows (kept_of v b) T L) []) ≡ kept_part T v b
-  kept true true e l =
-      sym (kept-some T v b (kept_of v b) (kept_of_lem v b) e ∙ kept-bytes (kept_of v b) T L ready.slots-low l ∙ block-bytes (kept_of v b) T L)
-  kept true false e l = sym (kept-some T v b (kept_of v b) (kept_of_lem v b) e ∙ kept-nothing (kept_of v b) T b.kind l)
-  kept false y e l = sym (kept-none T v b e)
+  kept : (x y : Bool) → loops_of b ≡ x → loops_by b.kind ≡ y →
+      rows_bytes (cond (x && y) (block_rows (kept_of v b) T L) []) ≡ cond (loops_of b && loops_by b.kind) (block_bytes (kept_of v b) T L) []
+  kept x y e f = rw (e, f) (go (x && y))
+    where
+      go : (z : Bool) → rows_bytes (cond z (block_rows (kept_of v b) T L) []) ≡ cond z (block_bytes (kept_of v b) T L) []
+      go true = sym (block-bytes (kept_of v b) T L)
+      go false = refl
 
   pub part-is : part_bytes T M L ns n ≡ node_bytes T L v b
   part-is =
       let first = cond (has_kept T L nd) (block_rows (kept_of v b) T L) [] in
       ap rows_bytes (sym (both-rows T M L ns n v nd b (kept_of v b) read.is place own (kept_of_lem v b))) ∙ rows_bytes-append first (block_rows b T L)
-      ∙ ap₂ ◌++◌ (kept (ltb L T) (loops_by nd.kind) own.loops_is (ap loops_by own.kind_is)) (sym (block-bytes b T L))
+      ∙ ap₂ ◌++◌ (kept (ltb L T) (loops_by nd.kind) (own_loops own) (ap loops_by own.kind_is)) (sym (block-bytes b T L))
       ∙ sym (node-parts T L v b)
 
 module _ (T M L : ℕ) (ns : List Node) where

@@ -20,7 +20,7 @@ use Rattle.table.specs.declared.Node as Table
 use Rattle.window.specs.Total.{slot_total, length-flat-slots}
 use Rattle.row.specs.declared.Block.{Block}
 use Rattle.row.specs.Kinds.{kind_rows, window_at, followed, following, length-even, length_last, block_count}
-use Rattle.row.specs.NodeRows.{block_on, block_rows, has_kept, count_by, part_rows, own_block, kept_block, part-blocks}
+use Rattle.row.specs.NodeRows.{loops_of, next_of, own_loops, own_block_lem, block_on, block_rows, has_kept, count_by, part_rows, own_block, kept_block, part-blocks}
 
 -- no node has more bytes: 14 for each row, of at most 8320
 abbrev pub node_byte_limit : ℕ
@@ -73,33 +73,33 @@ module _ (b : Block) (T L : ℕ) (0<T : 1 ≤ T) where
   at s = rows_bytes (block_on b T L s)
 
   length_at : (k : Kind) → b.kind ≡ k → (s : ℕ) →
-      length (at s) ≡ slot_length k (followed T b.loops s) (length (window_slots T L (s + 1) b.from b.to))
+      length (at s) ≡ slot_length k (followed T (loops_of b) s) (length (window_slots T L (s + 1) b.from b.to))
   length_at k e s = rw e
-      (length_kind k (followed T b.loops s) (b.own + s) (b.left + s) (b.right + s) (following T b.own b.next s)
+      (length_kind k (followed T (loops_of b) s) (b.own + s) (b.left + s) (b.right + s) (following T b.own (next_of b) s)
       (window_at T L b.left b.from b.to s)
-      ∙ ap (slot_length k (followed T b.loops s)) (length-map (window_slots T L (s + 1) b.from b.to) (λ (i : ℕ). b.left + (i - 1))))
+      ∙ ap (slot_length k (followed T (loops_of b) s)) (length-map (window_slots T L (s + 1) b.from b.to) (λ (i : ℕ). b.left + (i - 1))))
 
   even : (k : Kind) → b.kind ≡ k → (m : ℕ) → ((inner : Bool) (n : ℕ) → slot_length k inner n ≡ m) → length (flat at T) ≡ T * m
-  even k e m = length-even T L b.from b.to b.loops 0<T at (slot_length k) (length_at k e) m
+  even k e m = length-even T L b.from b.to (loops_of b) 0<T at (slot_length k) (length_at k e) m
 
-  ended : (k : Kind) → b.kind ≡ k → (m z : ℕ) → ((n : ℕ) → slot_length k true n ≡ m) → ((n : ℕ) → slot_length k b.loops n ≡ z) →
+  ended : (k : Kind) → b.kind ≡ k → (m z : ℕ) → ((n : ℕ) → slot_length k true n ≡ m) → ((n : ℕ) → slot_length k (loops_of b) n ≡ z) →
       length (flat at T) ≡ (T - 1) * m + z
-  ended k e m z = length_last T L b.from b.to b.loops 0<T at (slot_length k) (length_at k e) m z
+  ended k e m z = length_last T L b.from b.to (loops_of b) 0<T at (slot_length k) (length_at k e) m z
 
-  by_kind : (k : Kind) → b.kind ≡ k → length (flat at T) ≡ block_length k b.loops T L b.from b.to
+  by_kind : (k : Kind) → b.kind ≡ k → length (flat at T) ≡ block_length k (loops_of b) T L b.from b.to
   unfolding block_length
   by_kind Atom e = let g = even Atom e 11 (λ i n. refl) in omega arith
   by_kind Not e = let g = even Not e 11 (λ i n. refl) in omega arith
   by_kind And e = let g = even And e 36 (λ i n. refl) in omega arith
   by_kind Or e = let g = even Or e 36 (λ i n. refl) in omega arith
   by_kind Implies e = let g = even Implies e 36 (λ i n. refl) in omega arith
-  by_kind Eventually e = let g = ended Eventually e 36 (cond b.loops 36 11) (λ n. refl) (λ n. refl) in omega arith
-  by_kind Always e = let g = ended Always e 36 (cond b.loops 36 11) (λ n. refl) (λ n. refl) in omega arith
-  by_kind Until e = let g = ended Until e 53 (cond b.loops 53 11) (λ n. refl) (λ n. refl) in omega arith
+  by_kind Eventually e = let g = ended Eventually e 36 (cond (loops_of b) 36 11) (λ n. refl) (λ n. refl) in omega arith
+  by_kind Always e = let g = ended Always e 36 (cond (loops_of b) 36 11) (λ n. refl) (λ n. refl) in omega arith
+  by_kind Until e = let g = ended Until e 53 (cond (loops_of b) 53 11) (λ n. refl) (λ n. refl) in omega arith
   by_kind Within e = length-flat-slots T L b.from b.to at 14 8 (length_at Within e)
   by_kind Throughout e = length-flat-slots T L b.from b.to at 14 8 (length_at Throughout e)
 
-  pub block-length : length (rows_bytes (block_rows b T L)) ≡ block_length b.kind b.loops T L b.from b.to
+  pub block-length : length (rows_bytes (block_rows b T L)) ≡ block_length b.kind (loops_of b) T L b.from b.to
   unfolding block_rows
   block-length = ap length (rows_bytes-flat (block_on b T L) T) ∙ by_kind b.kind refl
 
@@ -118,7 +118,8 @@ part_length T M L ns n nd is h =
     let kept = kept_block T M L ns n nd is in
     let v = cond (has_kept T L nd) (block_rows kept T L) [] in
     ap (λ rs. length (rows_bytes rs)) (part-blocks T M L ns n nd is) ∙ ap length (rows_bytes-append v (block_rows own T L))
-    ∙ length-append (rows_bytes v) (rows_bytes (block_rows own T L)) ∙ ap₂ ◌+◌ (go (has_kept T L nd)) (block-length own T L h)
+    ∙ length-append (rows_bytes v) (rows_bytes (block_rows own T L)) ∙ ap₂ ◌+◌ (go (has_kept T L nd))
+    (block-length own T L h ∙ ap (λ (x : Bool). block_length nd.kind x T L nd.from nd.to) (own_loops (own_block_lem T M L ns n nd is)))
   where
     go : (x : Bool) →
         length (rows_bytes (cond x (block_rows (kept_block T M L ns n nd is) T L) [])) ≡ cond x (block_length nd.kind false T L nd.from nd.to) 0

@@ -66,6 +66,25 @@ put_more {at} {rs} {l} {m} {n} {next} {next'} d a {x} e h f g =
       is = splice_as at l (splice_then at next (rows_bytes rs) (record_of a) l m n d.is g d.to h) b;
     }
 
+-- one row, three, and four
+pub put_one : {at : ℕ} {l m : List ℕ} {next : ℕ} (a : Row) {x : Rules.Row} → row_of a ≡ x → at + length (row_bytes x) ≤ length l →
+    Wrote at (record_of a) l m next → Put at (x ∷ []) l m next
+put_one a e h w = put_more (put_none _ _) a e (omega arith) w.0 w.1
+
+module _ {at : ℕ} {l m n o : List ℕ} {i j k : ℕ} (a b c : Row) {x y z : Rules.Row} (e : row_of a ≡ x) (f : row_of b ≡ y) (g : row_of c ≡ z)
+    (u : Wrote at (record_of a) l m i) (v : Wrote i (record_of b) m n j) (w : Wrote j (record_of c) n o k) where
+  pub put_three : at + (length (row_bytes x) + length (row_bytes y) + length (row_bytes z)) ≤ length l → Put at (x ∷ y ∷ z ∷ []) l o k
+  put_three h =
+      let one = put_one a e (omega arith) u in
+      let two = put_more one b f (omega (arith, u.0, record_length a e)) v.0 v.1 in
+      put_more two c g (omega (arith, u.0, v.0, record_length a e, record_length b f)) w.0 w.1
+
+  pub put_all_four : {p : List ℕ} {q : ℕ} (d : Row) {t : Rules.Row} → row_of d ≡ t →
+      at + (length (row_bytes x) + length (row_bytes y) + length (row_bytes z) + length (row_bytes t)) ≤ length l →
+      Wrote k (record_of d) o p q → Put at (x ∷ y ∷ z ∷ t ∷ []) l p q
+  put_all_four d s h r =
+      put_more (put_three (omega arith)) d s (omega (arith, u.0, v.0, w.0, record_length a e, record_length b f, record_length c g)) r.0 r.1
+
 -- rows written in four parts, each straight after the last
 module _ (at : ℕ) (a b c d : List ℕ) (rs : List Rules.Row) (e : ((a ++ b) ++ c) ++ d ≡ rows_bytes rs) where
   pub four-total : length (rows_bytes rs) ≡ length a + length b + length c + length d

@@ -1,5 +1,5 @@
 -- The bytes of a window's rows at a slot, part by part: the rows of one slot each, and the head and the terms of the last row.
-use Rattle.std.specs.Prelude.{◌≡◌, refl, ℕ, zero, suc, ◌+◌, ◌-◌, ◌≤◌, ◌<◌, ℤ, pos, negsuc, neg_ℤ}
+use Rattle.std.specs.Prelude.{◌≡◌, refl, ℕ, zero, suc, ◌+◌, ◌-◌, ◌<◌, ℤ, pos, negsuc, neg_ℤ}
 use Rattle.std.proofs.Math.Path.{sym, ap, ap₂}
 use Rattle.std.proofs.Common.{◌∙◌, lt-ltb, le-ltb}
 use mathlib.Core.List.{List, [], ◌∷◌, ◌++◌, map, append_assoc, append-nil}
@@ -16,7 +16,7 @@ use Rattle.row.specs.declared.Relation.TheVariants.{AtLeast}
 use Rattle.rows_record.specs.Records.{head_of}
 use Rattle.rows_family.specs.Put.{four-total}
 use Rattle.window.specs.declared.Looks.{Looks}
-use Rattle.window.specs.Slots.{Few, variable_at, variables}
+use Rattle.window.specs.Slots.{variable_at, variables}
 use Rattle.window.proofs.Slots.{length-variables}
 
 pub head-length : (count : ℕ) (right : ℤ) → length (head_of AtLeast count right) ≡ 5
@@ -69,17 +69,11 @@ flat-split f m (suc n) =
 
 -- a window's slots are one range or two
 module _ (g : ℕ → List ℕ) (w : Looks) (p : ℕ) where
-  pub one-range : w.count ≤ w.head → each g w p ≡ range g (p + w.first) w.count
+  pub two-ranges : each g w p ≡ range g (p + w.first) w.head ++ range g (p + w.first + w.head + w.skip) w.rest
   unfolding each range
-  one-range h =
-      flat-same (λ i. g (variable_at w p i)) (range_at g (p + w.first)) w.count
-      (λ i l. ap g (rw (lt-ltb i w.head (omega arith)) (omega arith)))
-
-  pub two-ranges : w.head ≤ w.count → each g w p ≡ range g (p + w.first) w.head ++ range g (p + w.first + w.head + w.skip) (w.count - w.head)
-  unfolding each range
-  two-ranges h =
-      let n = w.count - w.head in
-      let e : w.count ≡ w.head + n = omega arith in
+  two-ranges =
+      let n = w.rest in
+      let e : w.count ≡ w.head + n = omega (arith, w.ranges) in
       ap (flat (λ i. g (variable_at w p i))) e ∙ flat-split (λ i. g (variable_at w p i)) w.head n
       ∙ ap₂ ◌++◌
       (flat-same (λ i. g (variable_at w p i)) (range_at g (p + w.first)) w.head
@@ -87,13 +81,19 @@ module _ (g : ℕ → List ℕ) (w : Looks) (p : ℕ) where
       (flat-same (λ i. g (variable_at w p (w.head + i))) (range_at g (p + w.first + w.head + w.skip)) n
       (λ i l. ap g (rw (le-ltb (w.head + i) w.head (omega arith)) (omega arith))))
 
+  pub one-range : w.rest ≡ 0 → each g w p ≡ range g (p + w.first) w.head
+  unfolding range flat
+  one-range h =
+      two-ranges ∙ ap (λ (n : ℕ). range g (p + w.first) w.head ++ range g (p + w.first + w.head + w.skip) n) h
+      ∙ append-nil (range g (p + w.first) w.head)
+
 -- their variables are within 16 bits
-module _ {w : Looks} (few : Few w) where
+module _ (w : Looks) where
   pub first-low : w.first < 64
-  first-low = omega (arith, few.places 0 few.some)
+  first-low = omega (arith, w.places 0 w.some)
 
   pub second-low : w.head < w.count → w.first + w.head + w.skip < 64
-  second-low h = let e = le-ltb w.head w.head (omega arith) in omega (arith, rw e at (few.places w.head h))
+  second-low h = let e = le-ltb w.head w.head (omega arith) in omega (arith, rw e at (w.places w.head h))
 
 module _ (P : ℕ) (w : Looks) (p : ℕ) where
   abbrev vs : List ℕ

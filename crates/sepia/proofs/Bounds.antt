@@ -31,6 +31,7 @@ use Rattle.printer_text.specs.Refused.{PrintRefused}
 use Rattle.printer_text.specs.Outcome.{print_outcome}
 use Rattle.printer_text.proofs.Exact.{print_exact}
 use Rattle.mps_page.specs.Answers.{Short}
+use Rattle.sepia.proofs.FirstSlot.{slot-fits}
 use Rattle.sepia_answers.specs.Boundary.{too_large, Fits, verdict_value, VerdictFits}
 
 -- an outcome's result fits, where every result that it may have does
@@ -113,3 +114,6 @@ judge_fits t m l table figures tolerance = go (judge_outcome t m l table figures
         let slots : t ≤ 64 = at_least 64 t (λ h. none 1 (JudgeRefused.table-refused (TableRefused.slots (λ s. omega arith)))) in
         let atoms : m ≤ 16 = at_least 16 m (λ h. none 2 (JudgeRefused.table-refused (TableRefused.atoms (λ s. omega arith)))) in
         judged-small slots atoms good.few (counted none ns good (ℕ_discrete (length figures) (variable_count t m l ns))) j
+
+-- for the calls
+pub ruleset fit_32_bits = (read_fits, evaluate-fits, write_rows-fits, print-fits, short-fits, judge_fits, slot-fits)

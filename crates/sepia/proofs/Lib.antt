@@ -1,1 +1,2 @@
+pub mod FirstSlot
 pub mod Bounds

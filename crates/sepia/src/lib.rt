@@ -1,5 +1,5 @@
-// The calls for C and Rust: a static library. A slice passes as a pointer and a length.
-#![tactic(auto)]
+// The calls for C and Rust: a static library. A slice passes as a pointer and a length. The parameters are the C header's.
+#![tactic(auto, using(crate::proofs::Bounds::fit_32_bits))]
 
 ghost use Rattle.std.specs.Prelude.{◌≡◌, length};
 ghost use Rattle.rules.specs.Outcome.{returned, buffer, read_outcome, evaluate_outcome, rows_outcome, judge_outcome};

@@ -1,16 +1,14 @@
-// Answers as the structs and numbers that C sees.
+// Answers as the structs and numbers that C sees. Each fits 32 bits, which a `From` cannot ask, so these are functions.
 #![tactic(auto)]
 
 ghost use Rattle.std.specs.Prelude.{◌≡◌};
 ghost use Rattle.answers.specs.Meaning.{answer_of};
 ghost use Rattle.evaluator.specs.Meaning.{first_slot_of};
-ghost use Rattle.judge.specs.Meaning.{ruling_of, verdict_of};
-ghost use Rattle.sepia_answers.specs.Boundary.{in_c, Fits, slot_in_c, SlotFits};
-ghost use Rattle.sepia_answers.specs.Boundary.{verdict_number, verdict_value, verdict_shortfall, verdict_error, verdict_in_c, VerdictFits};
+ghost use Rattle.judge.specs.Meaning.{ruling_of};
+ghost use Rattle.sepia_answers.specs.Boundary.{in_c, Fits, slot_in_c, SlotFits, verdict_in_c, VerdictFits};
 
-use answers::Answer;
-use evaluator::FirstSlot;
-use judge::{Ruling, Verdict};
+use answers::Refusal;
+use judge::Verdict;
 
 // A refusal's number, or 0 and the result.
 #[repr(C)]
@@ -20,31 +18,28 @@ pub struct SepiaAnswer {
     pub value: u32,
 }
 
-pub fn plain(answer: Answer) -> SepiaAnswer
+pub fn plain(answer: Result<usize, Refusal>) -> SepiaAnswer
     requires { Fits (answer_of answer) }
     ensures { result ≡ in_c (answer_of answer) }
 {
     match answer {
-        Answer::Value(n) => SepiaAnswer {
+        Ok(n) => SepiaAnswer {
             refusal: 0,
             value: n as u32,
         },
-        Answer::Refused(r) => SepiaAnswer {
-            refusal: answers::number(r),
+        Err(r) => SepiaAnswer {
+            refusal: u32::from(r),
             value: 0,
         },
     }
 }
 
 // A slot, and 0 for none.
-pub fn slot_number(first: FirstSlot) -> u32
+pub fn slot_number(first: Option<usize>) -> u32
     requires { SlotFits (first_slot_of first) }
     ensures { result ≡ slot_in_c (first_slot_of first) }
 {
-    match first {
-        FirstSlot::Slot(t) => t as u32,
-        FirstSlot::None => 0,
-    }
+    first.unwrap_or(0) as u32
 }
 
 // A refusal's number; or 0, the verdict's number, its value, its error figure and its shortfall.
@@ -58,68 +53,44 @@ pub struct SepiaVerdict {
     pub shortfall: i64,
 }
 
-fn verdict_number(verdict: Verdict) -> u32
-    ensures { result ≡ verdict_number (verdict_of verdict) }
-{
-    match verdict {
-        Verdict::Outside(_) => 0,
-        Verdict::NotBinary(_) => 1,
-        Verdict::Broken { .. } => 2,
-        Verdict::Passed { .. } => 3,
-    }
-}
+const ZEROS: SepiaVerdict = SepiaVerdict {
+    refusal: 0,
+    verdict: 0,
+    value: 0,
+    error: 0,
+    shortfall: 0,
+};
 
-fn verdict_value(verdict: Verdict) -> usize
-    ensures { result ≡ verdict_value (verdict_of verdict) }
-{
-    match verdict {
-        Verdict::Outside(v) => v,
-        Verdict::NotBinary(v) => v,
-        Verdict::Broken { row, .. } => row,
-        Verdict::Passed { rows, .. } => rows,
-    }
-}
-
-fn verdict_shortfall(verdict: Verdict) -> i64
-    ensures { result ≡ verdict_shortfall (verdict_of verdict) }
-{
-    match verdict {
-        Verdict::Outside(_) => 0,
-        Verdict::NotBinary(_) => 0,
-        Verdict::Broken { shortfall, .. } => shortfall,
-        Verdict::Passed { .. } => 0,
-    }
-}
-
-fn verdict_error(verdict: Verdict) -> u32
-    ensures { result ≡ verdict_error (verdict_of verdict) }
-{
-    match verdict {
-        Verdict::Outside(_) => 0,
-        Verdict::NotBinary(_) => 0,
-        Verdict::Broken { .. } => 0,
-        Verdict::Passed { error, .. } => error,
-    }
-}
-
-pub fn plain_verdict(ruling: Ruling) -> SepiaVerdict
+pub fn plain_verdict(ruling: Result<Verdict, Refusal>) -> SepiaVerdict
     requires { VerdictFits (ruling_of ruling) }
     ensures { result ≡ verdict_in_c (ruling_of ruling) }
 {
     match ruling {
-        Ruling::Refused(r) => SepiaVerdict {
-            refusal: answers::number(r),
-            verdict: 0,
-            value: 0,
-            error: 0,
-            shortfall: 0,
+        Err(r) => SepiaVerdict {
+            refusal: u32::from(r),
+            ..ZEROS
         },
-        Ruling::Judged(v) => SepiaVerdict {
-            refusal: 0,
-            verdict: verdict_number(v),
-            value: verdict_value(v) as u32,
-            error: verdict_error(v),
-            shortfall: verdict_shortfall(v),
+        Ok(Verdict::Outside(v)) => SepiaVerdict {
+            verdict: 0,
+            value: v as u32,
+            ..ZEROS
+        },
+        Ok(Verdict::NotBinary(v)) => SepiaVerdict {
+            verdict: 1,
+            value: v as u32,
+            ..ZEROS
+        },
+        Ok(Verdict::Broken { shortfall, row }) => SepiaVerdict {
+            verdict: 2,
+            value: row as u32,
+            shortfall,
+            ..ZEROS
+        },
+        Ok(Verdict::Passed { rows, error }) => SepiaVerdict {
+            verdict: 3,
+            value: rows as u32,
+            error,
+            ..ZEROS
         },
     }
 }

@@ -12,7 +12,7 @@ use Rattle.table.specs.declared.Kind.{Kind}
 use Rattle.table.specs.declared.Kind.TheVariants.{Atom, Not, And, Or, Implies, Eventually, Always, Until, Within, Throughout}
 use Rattle.row.specs.declared.Block.{Block}
 use Rattle.row.specs.Kinds.{kind_rows, window_at, followed, following}
-use Rattle.row.specs.NodeRows.{block_on, block_rows, has_kept, part_rows, rows_to, all-parts, own_block, kept_block, part-blocks}
+use Rattle.row.specs.NodeRows.{loops_of, next_of, block_on, block_rows, has_kept, part_rows, rows_to, all-parts, own_block, kept_block, part-blocks}
 use Rattle.mps_length.specs.Idle.{held, held-is}
 use Rattle.sepia_limits.specs.Limits.{max_terms}
 
@@ -57,7 +57,7 @@ module _ (T M L : ℕ) (T≤64 : T ≤ 64) (ns : List Node) where
       few-flat (block_on b T L) T
       (λ s.
       let slots = window_slots T L (s + 1) b.from b.to in
-      few_kind b.kind (followed T b.loops s) (b.own + s) (b.left + s) (b.right + s) (following T b.own b.next s)
+      few_kind b.kind (followed T (loops_of b) s) (b.own + s) (b.left + s) (b.right + s) (following T b.own (next_of b) s)
       (window_at T L b.left b.from b.to s)
       (omega (arith, length-map slots (λ (i : ℕ). b.left + (i - 1)), passing-length (in_window T L (s + 1) b.from b.to) T 1)))
 

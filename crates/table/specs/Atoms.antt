@@ -1,6 +1,7 @@
 -- An atom's record: its mark, its number, and zeros behind it.
-use Rattle.std.specs.Prelude.{◌≡◌, refl, Bool, true, false, ◌&&◌, List, ℕ, ◌+◌, ◌*◌, eqb, ltb}
-use Rattle.std.proofs.Common.{ap, ◌∙◌, arith, eqb→eq}
+use Rattle.std.specs.Prelude.{◌≡◌, refl, Bool, true, false, ◌&&◌, List, ℕ, ◌+◌, ◌*◌, ◌≤◌, ◌<◌, eqb, ltb}
+use Rattle.std.proofs.Common.{ap, ◌∙◌, arith, eqb→eq, lt-ltb, le-ltb}
+use mathlib.Core.Bool.{and-false}
 use Rattle.lists.specs.Tests.{and_left, and_right, same_tests}
 use Rattle.rules.specs.TableTest.{byte_at, marked, node_in, record_good}
 
@@ -43,3 +44,14 @@ atom_record M bytes n e =
     (all-zero (marked bytes n) (ltb (byte_at bytes n 3) M) (eqb (byte_at bytes n 4) 0) (eqb (byte_at bytes n 5) 0) (eqb (byte_at bytes n 6) 0)
     (eqb (byte_at bytes n 7) 0)
     ∙ ap (λ (b : Bool). marked bytes n && (ltb (byte_at bytes n 3) M && b)) (zeros (byte_at bytes n 4) (byte_at bytes n 5) (byte_at bytes n 6) (byte_at bytes n 7)))
+
+-- the same, test by test
+pub atom-tested : (M : ℕ) (bytes : List ℕ) (n : ℕ) → byte_at bytes n 2 ≡ 1 → marked bytes n ≡ true → byte_at bytes n 3 < M →
+    eqb (last_four bytes n) 0 ≡ record_good M bytes n
+atom-tested M bytes n e marks h = rw (atom_record M bytes n e, marks, lt-ltb (byte_at bytes n 3) M h)
+
+pub atom-beyond : (M : ℕ) (bytes : List ℕ) (n : ℕ) → byte_at bytes n 2 ≡ 1 → M ≤ byte_at bytes n 3 → false ≡ record_good M bytes n
+atom-beyond M bytes n e h = rw (atom_record M bytes n e, le-ltb (byte_at bytes n 3) M h, and-false)
+
+pub atom-unmarked : (M : ℕ) (bytes : List ℕ) (n : ℕ) → byte_at bytes n 2 ≡ 1 → marked bytes n ≡ false → false ≡ record_good M bytes n
+atom-unmarked M bytes n e none = rw (atom_record M bytes n e, none)

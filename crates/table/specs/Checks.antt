@@ -1,5 +1,5 @@
 -- The checks of all calls but read, and what is known once they are passed.
-use Rattle.std.specs.Prelude.{◌≡◌, refl, Bool, true, false, ◌&&◌, List, ℕ, ◌*◌, ◌≤◌, ◌<◌, leb, eqb, length}
+use Rattle.std.specs.Prelude.{◌≡◌, refl, Bool, true, false, ◌&&◌, List, ℕ, ◌*◌, ◌≤◌, ◌<◌, leb, eqb, length, Result, Ok, Err}
 use Rattle.std.proofs.Common.{sym, arith, eqb→eq}
 use Rattle.lists.specs.Tests.{and_left}
 use Rattle.lists.specs.All.{all}
@@ -7,14 +7,21 @@ use Rattle.rules.specs.Demands.{Answer}
 use Rattle.rules.specs.Demands.Answer.{refused}
 use Rattle.rules.specs.Outcome.{between, require, table_checked}
 use Rattle.rules.proofs.Exactness.Tests.{between-true}
-use Rattle.rules.specs.Table.{NodeGood, node_at}
+use Rattle.rules.specs.Table.{NodeGood, node_at, Node}
+use Rattle.rules.specs.Table.Node.{atom, unary, binary, windowed}
 use Rattle.rules.specs.TableTest.{good, record_good, record_count, nodes_in}
 use Rattle.rules.proofs.TableTest.{good-sound, length-nodes_in}
 use Rattle.answers.specs.Meaning.{number_of}
 use Rattle.answers.specs.declared.Refusal.{Refusal}
 use Rattle.answers.specs.declared.Refusal.TheVariants.{Slots, Atoms, Loop, Table}
-use Rattle.table.specs.declared.Checked.{Checked}
-use Rattle.table.specs.declared.Checked.TheVariants.{Passed, Refused}
+use denote.Struct.Props.{props}
+
+-- a check of a call: passed, or the refusal that applies
+abbrev pub Checked : Type 0
+Checked = Result (Unit {0}) Refusal
+
+abbrev pub passed : Checked
+passed = Ok tt
 
 -- the refusal, unless the test passes
 abbrev pub unless : Bool → Checked → Checked → Checked
@@ -24,13 +31,13 @@ unless false r rest = r
 -- refusals 1, 2, 13 and 7: the first that applies
 unfoldable pub check_of : (T M L : ℕ) → List ℕ → Checked
 check_of T M L table =
-    unless (between 1 64 T) (Refused Slots)
-    (unless (between 1 16 M) (Refused Atoms) (unless (between 1 T L) (Refused Loop) (unless (good M table) (Refused Table) Passed)))
+    unless (between 1 64 T) (Err Slots)
+    (unless (between 1 16 M) (Err Atoms) (unless (between 1 T L) (Err Loop) (unless (good M table) (Err Table) passed)))
 
 -- what is answered after a check
 abbrev pub after_check : {A : Type 0} → Checked → Answer A → Answer A
-after_check Passed rest = rest
-after_check (Refused r) rest = refused (number_of r)
+after_check (Ok _) rest = rest
+after_check (Err r) rest = refused (number_of r)
 
 -- a test that must pass, as a check
 pub require-is : {A : Type 0} (b : Bool) (k : ℕ) (r other : Checked) (rest more : Answer A) → after_check r rest ≡ refused k → more ≡ after_check other rest →
@@ -40,26 +47,26 @@ require-is false k r other rest more e f = sym e
 
 -- the checks `more` after those that were passed
 abbrev pub and_then : Checked → Checked → Checked
-and_then Passed more = more
-and_then (Refused r) more = Refused r
+and_then (Ok _) more = more
+and_then (Err r) more = Err r
 
 pub after_then : {A : Type 0} (c more : Checked) (rest : Answer A) → after_check c (after_check more rest) ≡ after_check (and_then c more) rest
-after_then Passed more rest = refl
-after_then (Refused r) more rest = refl
+after_then (Ok _) more rest = refl
+after_then (Err r) more rest = refl
 
-pub then-passed : (c more : Checked) → and_then c more ≡ Passed → (c ≡ Passed) × (more ≡ Passed)
-then-passed Passed more e = (refl, e)
-then-passed (Refused r) more e = let z : ◌≡◌ {A = ℕ} 0 1 = cc in absurd (omega arith)
+pub then-passed : (c more : Checked) → and_then c more ≡ passed → (c ≡ passed) × (more ≡ passed)
+then-passed (Ok _) more e = (refl, e)
+then-passed (Err r) more e = let z : ◌≡◌ {A = ℕ} 0 1 = cc in absurd (omega arith)
 
 pub checked : {A : Type 0} (T M L : ℕ) (table : List ℕ) (rest : Answer A) → table_checked T M L table rest ≡ after_check (check_of T M L table) rest
 unfolding table_checked check_of
 checked T M L table rest =
-    require-is (between 1 64 T) 1 (Refused Slots) _ rest _ refl
-    (require-is (between 1 16 M) 2 (Refused Atoms) _ rest _ refl
-    (require-is (between 1 T L) 13 (Refused Loop) _ rest _ refl
-    (require-is (good M table) 7 (Refused Table) Passed rest rest refl refl)))
+    require-is (between 1 64 T) 1 (Err Slots) _ rest _ refl
+    (require-is (between 1 16 M) 2 (Err Atoms) _ rest _ refl
+    (require-is (between 1 T L) 13 (Err Loop) _ rest _ refl
+    (require-is (good M table) 7 (Err Table) passed rest rest refl refl)))
 
--- what a call may count on
+-- ---- what a call may count on
 pub record Ready (T M L : ℕ) (table : List ℕ) : Type 0 where
   pub slots-low : 1 ≤ T
   pub slots-high : T ≤ 64
@@ -73,7 +80,17 @@ pub record Ready (T M L : ℕ) (table : List ℕ) : Type 0 where
   pub whole : length table ≡ 8 * record_count table
   pub nodes : (n : ℕ) → n < record_count table → NodeGood M n (node_at (nodes_in table) n)
 
-pub unless-passed : (b : Bool) (r : Refusal) (other : Checked) → unless b (Refused r) other ≡ Passed → (b ≡ true) × (other ≡ Passed)
+NodeGood-prop : (M n : ℕ) (nd : Node) → IsProp (NodeGood M n nd)
+NodeGood-prop M n (atom a) = hlevel props
+NodeGood-prop M n (unary u c) = hlevel props
+NodeGood-prop M n (binary o l r) = hlevel props
+NodeGood-prop M n (windowed w a b c) = hlevel props
+
+-- it is known in one way at most, as a plan's ghost field asks
+pub Ready-prop : (T M L : ℕ) (table : List ℕ) → IsProp (Ready T M L table)
+Ready-prop T M L table = hlevel (props, NodeGood-prop)
+
+pub unless-passed : (b : Bool) (r : Refusal) (other : Checked) → unless b (Err r) other ≡ passed → (b ≡ true) × (other ≡ passed)
 unless-passed true r other e = (refl, e)
 unless-passed false r other e = let z : ◌≡◌ {A = ℕ} 0 1 = cc in absurd (omega arith)
 
@@ -87,7 +104,7 @@ good-whole M table e =
     let t = and_left (eqb (8 * N) (length table) && (leb 1 N && leb N 128)) (all (record_good M table) N) (rw e tt) in
     sym (eqb→eq (8 * N) (length table) (and_left (eqb (8 * N) (length table)) (leb 1 N && leb N 128) t))
 
-pub ready : (T M L : ℕ) (table : List ℕ) → check_of T M L table ≡ Passed → Ready T M L table
+pub ready : (T M L : ℕ) (table : List ℕ) → check_of T M L table ≡ passed → Ready T M L table
 unfolding check_of
 ready T M L table e =
     let a = unless-passed (between 1 64 T) Slots _ e in

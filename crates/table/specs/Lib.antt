@@ -4,3 +4,4 @@ pub mod Checks
 pub mod Heights
 pub mod Ends
 pub mod Atoms
+pub mod Plans

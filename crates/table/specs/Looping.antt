@@ -1,5 +1,5 @@
 -- Request N8: the kinds that have a second set of slacks V where L is below T.
-use Rattle.std.specs.Prelude.{◌≡◌, refl, Bool, true, false, cond, List, [], ◌∷◌, ℕ, zero, suc, ◌+◌, ◌≤◌, ◌<◌, length, take}
+use Rattle.std.specs.Prelude.{◌≡◌, refl, Bool, true, false, cond, List, [], ◌∷◌, ℕ, zero, suc, ◌+◌, ◌≤◌, ◌<◌, length, take, Ok, Err}
 use Rattle.std.proofs.Common.{sym, ap, ◌∙◌, add-one, arith}
 use Rattle.rules.specs.Table as Table
 use Rattle.rules.specs.Table.{node_at}
@@ -8,7 +8,7 @@ use Rattle.rules.specs.Rows.{loops, looping}
 use Rattle.rules.proofs.Solution.Looping.{looping-next}
 use Rattle.table.specs.declared.Kind.{Kind}
 use Rattle.table.specs.declared.Kind.TheVariants.{Atom, Not, And, Or, Implies, Eventually, Always, Until, Within, Throughout}
-use Rattle.table.specs.declared.KindRead.TheVariants.{Known, Unknown}
+use Rattle.table.specs.declared.UnknownKind.{UnknownKind}
 use Rattle.table.specs.Nodes.{kind_in, node_by, known_is, unknown_is}
 
 abbrev pub loops_by : Kind → Bool
@@ -36,13 +36,14 @@ loops-by Within l r a b = refl
 loops-by Throughout l r a b = refl
 
 -- of a record, by its kind byte
-pub known_loops : (table : List ℕ) (n : ℕ) (k : Kind) → n < record_count table → kind_in (byte_at table n 2) ≡ Known k →
+pub known_loops : (table : List ℕ) (n : ℕ) (k : Kind) → n < record_count table → kind_in (byte_at table n 2) ≡ Ok k →
     loops_by k ≡ loops (node_at (nodes_in table) n)
 known_loops table n k h e =
     loops-by k (byte_at table n 3) (byte_at table n 4) (byte_at table n 5) (byte_at table n 6) ∙ ap loops (known_is table n k h e)
 
-pub unknown_loops : (table : List ℕ) (n : ℕ) → n < record_count table → kind_in (byte_at table n 2) ≡ Unknown → false ≡ loops (node_at (nodes_in table) n)
-unknown_loops table n h e = ap loops (unknown_is table n h e)
+pub unknown_loops : (table : List ℕ) (n : ℕ) (u : UnknownKind) → n < record_count table → kind_in (byte_at table n 2) ≡ Err u →
+    false ≡ loops (node_at (nodes_in table) n)
+unknown_loops table n u h e = ap loops (unknown_is table n u h e)
 
 -- ---- counted, one node after the other
 

@@ -12,14 +12,8 @@ use std::io::Read;
 const CASES: usize = 1572864;
 
 fn run_lines(rt: &impl Print, text: &[u8]) -> io::Result<()> {
-    let mut at: usize = 0;
-    while at < text.len() {
-        let end = test_cases::place_of(text, at, b'\n');
-        calls::run_line(rt, &text[at..end])?;
-        if end == text.len() {
-            return Ok(());
-        }
-        at = end + 1;
+    for line in text.split_inclusive(|byte| *byte == b'\n') {
+        calls::run_line(rt, line.strip_suffix(b"\n").unwrap_or(line))?;
     }
     Ok(())
 }
@@ -31,9 +25,8 @@ fn read_full<R: Read>(input: &mut R, space: &mut [u8]) -> usize
     let mut done: usize = 0;
     while done < space.len() {
         match input.read(&mut space[done..]) {
-            Ok(0) => return done,
+            Ok(0) | Err(_) => return done,
             Ok(n) => done += n,
-            Err(_) => return done,
         }
     }
     done
@@ -41,9 +34,10 @@ fn read_full<R: Read>(input: &mut R, space: &mut [u8]) -> usize
 
 fn read_lines(rt: &HostRuntime, space: &mut [u8]) -> io::Result<()> {
     let n = read_full(&mut rt.stdin(), space);
-    run_lines(rt, &space[0..n])
+    run_lines(rt, &space[..n])
 }
 
+// (A function of its own, so that no other goal has the long buffer in it.)
 fn main(rt: HostRuntime) -> io::Result<()> {
     let mut space = [0u8; CASES];
     read_lines(&rt, &mut space)

@@ -1,6 +1,6 @@
 -- Bytes written into a list from a place on.
-use Rattle.std.specs.Prelude.{◌≡◌, refl, List, [], ◌∷◌, ◌++◌, ℕ, suc, ◌+◌, ◌<◌, length, take, get_or, set}
-use Rattle.std.proofs.Common.{ap, ◌∙◌, arith, add-one, length-append, take-suc}
+use Rattle.std.specs.Prelude.{◌≡◌, refl, List, [], ◌∷◌, ◌++◌, ℕ, suc, ◌+◌, length, set}
+use Rattle.std.proofs.Common.{ap, ◌∙◌, arith, length-append}
 use Rattle.std.proofs.lemmas.List.Edits.{sets}
 
 -- xs is written from `at` on, and `next` is the place past it
@@ -27,13 +27,3 @@ also {at} {k} {r} {xs} {ys} {l} {m} {n} p q = record {
       ∙ rw sets_append refl;
   ends = omega (arith, p.ends, q.ends, length-append xs ys);
 }
-
--- a turn of a loop that copies s byte by byte
-pub byte_more : (l m s : List ℕ) (at i : ℕ) → i < length s → Put at (take i s) l m (at + i) →
-    Put at (take (i + 1) s) l (set m (at + i) (get_or s i 0)) (at + (i + 1))
-byte_more l m s at i h p =
-    rw (add-one, take-suc s i 0 h)
-    (record {
-      content = (also p (one m (at + i) (get_or s i 0))).content;
-      ends = omega (arith, (also p (one m (at + i) (get_or s i 0))).ends);
-    })

@@ -20,23 +20,24 @@ fn put_pair(out: &mut [u8], at: usize, n: usize) -> usize
     requires { (n < 100) × (at + 2 ≤ length out.old) }
     ensures { Put at (pair_text n) out.old out.new result }
 {
-    let next = put_byte(out, at, 48 + ((n / 10) as u8));
-    put_byte(out, next, 48 + ((n % 10) as u8))
+    let next = put_byte(out, at, b'0' + (n / 10) as u8);
+    put_byte(out, next, b'0' + (n % 10) as u8)
 }
 
 // The digits of `n`, two at once where it has more than one.
+// Not by `write!`: what std ensures of it at a `&mut [u8]` does not say which bytes it writes.
 pub fn put_decimal(out: &mut [u8], at: usize, n: usize) -> usize
     requires { at + length (decimal n) ≤ length out.old }
     ensures { Put at (decimal n) out.old out.new result }
 {
-    if n < 10 {
-        return put_byte(out, at, 48 + (n as u8));
+    match n {
+        0..10 => put_byte(out, at, b'0' + n as u8),
+        10..100 => put_pair(out, at, n),
+        _ => {
+            let next = put_decimal(out, at, n / 100);
+            put_pair(out, next, n % 100)
+        }
     }
-    if n < 100 {
-        return put_pair(out, at, n);
-    }
-    let next = put_decimal(out, at, n / 100);
-    put_pair(out, next, n % 100)
 }
 
 // A number without its sign.
@@ -44,7 +45,7 @@ pub fn magnitude(c: i64) -> usize
     requires { nat_abs c ≤ inside }
     ensures { result ≡ nat_abs c }
 {
-    if c < 0 { (0 - c) as usize } else { c as usize }
+    c.unsigned_abs() as usize
 }
 
 // Copies `src` into `out` from `at` on.
@@ -52,10 +53,7 @@ pub fn put_bytes(out: &mut [u8], at: usize, src: &[u8]) -> usize
     requires { at + length src.now ≤ length out.old }
     ensures { Put at src.now out.old out.new result }
 {
-    let mut i: usize = 0;
-    while i < src.len() {
-        out[at + i] = src[i];
-        i += 1;
-    }
-    at + i
+    let end = at + src.len();
+    out[at..end].copy_from_slice(src);
+    end
 }

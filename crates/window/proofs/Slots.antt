@@ -39,28 +39,24 @@ unfolding variables
 length-variables w p = length-tabulate w.count (variable_at w p)
 
 -- a place is at most as far on as all slots and those between
-pub place-high : (w : Looks) (i : ℕ) → place_of w i ≤ w.first + i + w.skip
-place-high w i = go (dec_lt i w.head)
+pub ranges-high : (first head skip i : ℕ) → in_ranges first head skip i ≤ first + i + skip
+ranges-high first head skip i = go (dec_lt i head)
   where
-    go : Dec (i < w.head) → place_of w i ≤ w.first + i + w.skip
-    go (yes h) = rw (lt-ltb i w.head h) (omega arith)
-    go (no h) = rw (le-ltb i w.head (omega arith)) (omega arith)
+    go : Dec (i < head) → in_ranges first head skip i ≤ first + i + skip
+    go (yes h) = rw (lt-ltb i head h) (omega arith)
+    go (no h) = rw (le-ltb i head (omega arith)) (omega arith)
 
-pub looking : (T L t a b : ℕ) (w : Looks) → (1 ≤ w.head) × (w.head + w.rest ≡ w.count) → T ≤ 64 → w.first + w.count + w.skip ≤ T →
+pub place-high : (w : Looks) (i : ℕ) → place_of w i ≤ w.first + i + w.skip
+place-high w i = ranges-high w.first w.head w.skip i
+
+pub looking : (T L t a b : ℕ) (w : Looks) → w.first + w.count + w.skip ≤ T →
     window_slots T L t a b ≡ tabulate w.count (in_ranges (w.first + 1) w.head w.skip) → Looking T L t a b w
 unfolding variables
-looking T L t a b w head T≤64 small slots = record {
+looking T L t a b w small slots = record {
   is = λ p. sym (
       ap (map (λ s. p + (s - 1))) slots
       ∙ map-tabulate (λ s. p + (s - 1)) w.count (in_ranges (w.first + 1) w.head w.skip)
       ∙ tabulate-same w.count (λ i. p + (in_ranges (w.first + 1) w.head w.skip i - 1)) (variable_at w p) (λ i g. omega arith));
-  are-few = record {
-    some = omega (arith, head);
-    few = omega arith;
-    places = λ i g. omega (arith, place-high w i);
-    head-some = head.0;
-    ranges = head.1;
-  };
   inside = λ i g. omega (arith, place-high w i);
   small = small;
 }
@@ -115,7 +111,7 @@ module _ (T L s a b : ℕ) (loop : LoopAllowed T L) (T≤64 : T ≤ 64) (ends : 
 
     pub looking-plain : x + (b - a) + 1 ≤ T → w.first ≡ x → w.count ≡ b - a + 1 → w.head ≡ b - a + 1 → w.skip ≡ 0 → w.rest ≡ 0 → Looking T L (s + 1) a b w
     looking-plain h e f g k r =
-        looking T L (s + 1) a b w (omega (arith, begin), omega (arith, begin)) T≤64 (omega (arith, begin))
+        looking T L (s + 1) a b w (omega (arith, begin))
         (window-plain T L (s + 1) a b loop ends (omega (arith, begin)) (omega (arith, begin)) ∙ same (E - S + 1 + 0) (E - S + 1) 0 S (omega (arith, begin))
         (omega (arith, begin)) (omega (arith, begin)) (omega (arith, begin)))
 
@@ -133,14 +129,14 @@ module _ (T L s a b : ℕ) (loop : LoopAllowed T L) (T≤64 : T ≤ 64) (ends : 
         w.skip ≡ 0 → w.rest ≡ 0 → Looking T L (s + 1) a b w
     looking-joined h l e f g k r =
         let some = joined-some e in
-        looking T L (s + 1) a b w (omega (arith, some), omega (arith, some)) T≤64 (omega (arith, some))
+        looking T L (s + 1) a b w (omega (arith, some))
         (window-joined T L (s + 1) a b loop ends (omega (arith, begin)) (omega (arith, begin)) (omega (arith, begin)) ∙ joined-slots (min L S) (joined-first e)
         f g k)
 
     pub looking_parted : T < x + (b - a) + 1 → L + (x + (b - a) + 1 - T) < x + 1 → w.first + 1 ≡ L → w.count ≡ b - a + 1 → w.head ≡ x + (b - a) + 1 - T →
         w.skip ≡ x + 1 - (L + (x + (b - a) + 1 - T)) → w.rest ≡ T - x → Looking T L (s + 1) a b w
     looking_parted h l e f g k r =
-        looking T L (s + 1) a b w (omega (arith, begin), omega (arith, begin)) T≤64 (omega (arith, begin))
+        looking T L (s + 1) a b w (omega (arith, begin))
         (window_parted T L (s + 1) a b loop ends (omega (arith, begin)) (omega (arith, begin)) (omega (arith, begin))
         ∙ same (E - T + (T + 1 - S)) (E - T) (S - (L + (E - T))) L (omega (arith, begin)) (omega (arith, begin)) (omega (arith, begin)) (omega (arith, begin)))
 

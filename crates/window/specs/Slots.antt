@@ -24,7 +24,7 @@ variable_at w p i = p + place_of w i
 unfoldable pub variables : Looks → (p : ℕ) → List ℕ
 variables w p = tabulate w.count (variable_at w p)
 
--- the places are those of slots
+-- the places are those of slots, as the type says
 pub record Few (w : Looks) : Type 0 where
   pub some : 1 ≤ w.count
   pub few : w.count ≤ 64
@@ -32,10 +32,12 @@ pub record Few (w : Looks) : Type 0 where
   pub head-some : 1 ≤ w.head
   pub ranges : w.head + w.rest ≡ w.count
 
+pub few_of : (w : Looks) → Few w
+few_of w = record { some = w.some; few = w.few; places = w.places; head-some = w.head_some; ranges = w.ranges }
+
 -- what a call hands out for the window a, b from slot t
 pub record Looking (T L t a b : ℕ) (w : Looks) : Type 0 where
   pub is : (p : ℕ) → variables w p ≡ map (λ s. p + (s - 1)) (window_slots T L t a b)
-  pub are-few : Few w
   pub inside : (i : ℕ) → i < w.count → place_of w i < T
   -- its places are numbers of 16 bits, also where they are worked out
   pub small : w.first + w.count + w.skip ≤ T

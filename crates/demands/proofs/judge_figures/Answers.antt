@@ -2,7 +2,6 @@
 use mathlib.Core.Path.{ap, ◌∙◌}
 use mir.Facts.{to_z-of_z}
 use Rattle.rules.specs.Outcome.{judge_outcome}
-use Rattle.judge.specs.Meaning.{ruling_of}
 use Rattle.headlines.proofs.Refusing.{judge-refuses}
 use Rattle.headlines.proofs.Answering.{judge-answers}
 use Rattle.headlines.proofs.Passing.{passed-means, passed-at-zero, passed-near}
@@ -15,14 +14,13 @@ returns c =
     let a = c.args in
     let k = c.judge in
     let told = k.ensures ∙ ap (judge_outcome a.t a.m a.l a.table.now a.figures.now) (to_z-of_z c.ranges.e) in
-    let r = ruling_of k.result in record {
-      judge_refuses = judge-refuses a.t a.m a.l a.table.now a.figures.now a.e r told;
-      judge_answers = judge-answers a.t a.m a.l a.table.now a.figures.now a.e r told;
-      passed_means = passed-means a.t a.m a.l a.table.now a.figures.now a.e r told;
-      passed_at_zero = passed-at-zero a.t a.m a.l a.table.now a.figures.now a.e r told;
-      passed_near = passed-near a.t a.m a.l a.table.now a.figures.now a.e r told;
-      same_verdict = same-verdict a.t a.m a.l a.table.now a.figures.now a.e r told;
-      carries_shortfall = carries-shortfall a.t a.m a.l a.table.now a.figures.now
-          a.e r told;
-      summed_verdict = summed-verdict a.t a.m a.l a.table.now a.figures.now a.e r told;
+    record {
+      judge_refuses = judge-refuses _ _ _ _ _ _ _ told;
+      judge_answers = judge-answers _ _ _ _ _ _ _ told;
+      passed_means = passed-means _ _ _ _ _ _ _ told;
+      passed_at_zero = passed-at-zero _ _ _ _ _ _ _ told;
+      passed_near = passed-near _ _ _ _ _ _ _ told;
+      same_verdict = same-verdict _ _ _ _ _ _ _ told;
+      carries_shortfall = carries-shortfall _ _ _ _ _ _ _ told;
+      summed_verdict = summed-verdict _ _ _ _ _ _ _ told;
     }

@@ -6,14 +6,10 @@ use Rattle.evaluator_words.proofs.until_kept.Goals as goal
 
 pub returns : goal.returns
 returns c =
-    let s = c in
-    let p = on s.args.p in
-    let q = on s.args.q in
+    let p = on c.args.p in
+    let q = on c.args.q in
     let d =
-    c.double-g.ensures p q
-    (c.double-f.ensures p q
-    (c.double-e.ensures p q
-    (c.double-d.ensures p q
-    (c.double-c.ensures p q
-    (c.double-b.ensures p q (doubled_one s.args.p s.args.q)))))) in
-    λ T h small. word-until T s.args.p s.args.q c.double-g.result.met c.double-g.result.held h small d
+    c.doubled-6.ensures p q
+    (c.doubled-5.ensures p q
+    (c.doubled-4.ensures p q (c.doubled-3.ensures p q (c.doubled-2.ensures p q (c.doubled.ensures p q (doubled_one c.args.p c.args.q)))))) in
+    λ T h small. word-until T c.args.p c.args.q c.doubled-6.result.met c.doubled-6.result.held h small d

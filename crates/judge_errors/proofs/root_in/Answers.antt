@@ -1,8 +1,5 @@
--- `judge_errors::root_in` meets its contract. Assumes nothing.
-use mathlib.Core.Path.{◌≡◌, ap, ◌∙◌}
-use Prim.Native.Nat.{ℕ, ◌-◌, ◌<◌}
-use native.Mathlib.Omega.{arith}
-use lib.ListN.{length, get_or}
+-- The last node is the root.
+use Rattle.std.proofs.Common.{◌≡◌, ℕ, ◌-◌, ◌<◌, length, get_or, ap, ◌∙◌, arith}
 use Rattle.lists.specs.Place.{place_end}
 use Rattle.rules.specs.TableTest.{nodes_in}
 use Rattle.rules.proofs.TableTest.{length-nodes_in}
@@ -11,20 +8,16 @@ use Rattle.judge_errors.proofs.root_in.Goals as goal
 
 pub bounds-figures-place : goal.bounds-figures-place
 bounds-figures-place c =
-    let w = c in
-    let a = c in
-    let last : a.args.n - 1 < a.args.n = omega (arith, a.requires.0.some-nodes, a.requires.1) in
-    omega (arith, c.place.ensures.0, w.work.ensures.long, a.requires.2, place_end a.args.t last, a.requires.0.slots-low)
+    let x = c.args.plan in
+    let last : x.nodes - 1 < x.nodes = omega (arith, x.ready.some-nodes) in
+    omega (arith, c.place.ensures.0, c.work.ensures.long, c.requires.0, place_end x.t last, x.ready.slots-low)
 
 pub returns : goal.returns
 returns c =
-    let w = c in
-    let a = c in
-    let ns = nodes_in a.args.table.now in
+    let x = c.args.plan in
+    let ns = nodes_in x.table.now in
     let m = c.work.new.figures in
-    let count = length-nodes_in 16 a.args.table.now in
-    let all : a.args.n ≡ length ns = omega (arith, a.requires.1, count) in
+    let count = length-nodes_in 16 x.table.now in
+    let all : x.nodes ≡ length ns = omega (arith, count) in
     ap (λ (i : ℕ). get_or m i 0) c.place.ensures.0
-    ∙ root_known a.args.t a.args.l a.args.e ns _ m a.requires.0.slots-low (omega (arith, a.requires.0.some-nodes, count))
-    (rw all at w.work.ensures)
-    (a.args.n - 1) (omega (arith, all))
+    ∙ root_known x.t x.l c.args.e ns _ m x.ready.slots-low (omega (arith, x.ready.some-nodes, count)) (rw all at c.work.ensures) (x.nodes - 1) (omega (arith, all))

@@ -1,11 +1,8 @@
-use Prim.Native.Nat.{◌-◌, ◌≤◌}
-use lib.ListN.{length}
+-- The error figures of the first n nodes are known.
+use Rattle.std.proofs.Common.{length}
 use Rattle.rules.specs.TableTest.{nodes_in}
 use Rattle.judge_errors.specs.Known.{Known}
 use Rattle.judge_errors.proofs.work.Given as goal
 
-abbrev pub invariant-loop-i : goal.invariant-loop-i
-invariant-loop-i l = (l.i ≤ l.n) × Known l.t l.l l.e (nodes_in l.table) (length l.initial.figures) l.i l.figures
-
-abbrev pub decreases-loop-i : goal.decreases-loop-i
-decreases-loop-i l = l.n - l.i
+abbrev pub invariant-loop-n : goal.invariant-loop-n
+invariant-loop-n l = Known l.plan.t l.plan.l l.e (nodes_in l.plan.table.now) (length l.initial.figures) l.n l.figures

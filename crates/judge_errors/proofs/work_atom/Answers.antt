@@ -1,38 +1,14 @@
 -- `judge_errors::work_atom` meets its contract. The loop's invariant: the node has been worked from slot s on. Assumes nothing.
-use mathlib.Core.Path.{◌≡◌, refl}
+use mathlib.Core.Path.{◌≡◌}
 use Prim.Native.Nat.{◌+◌, ◌-◌, ◌*◌}
 use native.Mathlib.Omega.{arith}
 use Rattle.judge_errors.specs.Worked.{worked_none, step}
+use Rattle.std.proofs.Common.{ap₂, ℕ, ◌+◌, min}
+use Rattle.rules.specs.Quantities.{one}
 use Rattle.judge_errors.proofs.work_atom.Goals as goal
 
-pub place-here-requires : goal.place-here-requires
-place-here-requires c = omega arith
-
-pub overflow_add-e : goal.overflow_add-e
-overflow_add-e c = omega arith
-
-pub stopped-figure-requires : goal.stopped-figure-requires
-stopped-figure-requires c = tt
-
 pub loop-s-init : goal.loop-s-init
-loop-s-init c = (omega arith, worked_none _ _ _ _, c.requires.1)
-
-pub overflow_sub-s : goal.overflow_sub-s
-overflow_sub-s c = omega arith
-
-pub overflow_add-figures : goal.overflow_add-figures
-overflow_add-figures c = omega arith
-
-pub offset_bounds-figures-here : goal.offset_bounds-figures-here
-offset_bounds-figures-here c = omega arith
-
-pub bounds-figures-here : goal.bounds-figures-here
-bounds-figures-here c =
-    let h = c in
-    omega (arith, h.place-here.ensures.0, h.requires.0.inside, c.loop-s.invariant.1.same)
-
-pub loop-s-smaller : goal.loop-s-smaller
-loop-s-smaller c = omega arith
+loop-s-init c = (worked_none _ _ _ _, c.requires.1)
 
 pub loop-s-preserved : goal.loop-s-preserved
 loop-s-preserved c =
@@ -41,13 +17,10 @@ loop-s-preserved c =
     let h = c in
     let a = c in
     let i : h.place-here.result + (l.s - 1) ≡ a.args.n * a.args.t + (l.s - 1) = omega (arith, h.place-here.ensures.0) in
-    let w = step l.invariant.1 l.invariant.2 a.requires.0 (omega arith) l.invariant.0 _ _ _ i k.stopped-figure.ensures refl in
-    (omega arith, w.0, w.1)
-
-pub shape_of-figures : goal.shape_of-figures
-shape_of-figures c = c.loop-s.invariant.1.same
+    let w = step l.invariant.0 l.invariant.1 a.requires.0 (omega arith) l.auto.s _ _ _ i k.stopped-figure.ensures (ap₂ (λ (x y : ℕ). min one (x + y)) c.from.ensures c.from-2.ensures) in
+    (w.0, w.1)
 
 pub returns : goal.returns
 returns c =
     let z : c.loop-s.s ≡ 0 = omega arith in
-    (rw z at c.loop-s.invariant.1, c.loop-s.invariant.2)
+    (rw z at c.loop-s.invariant.0, c.loop-s.invariant.1)

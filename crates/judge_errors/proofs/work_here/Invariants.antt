@@ -1,10 +1,6 @@
-use Prim.Native.Nat.{◌≤◌}
 use Rattle.judge_errors.specs.Worked.{Worked, Small}
 use Rattle.judge_errors.specs.Count.{figure_here}
 use Rattle.judge_errors.proofs.work_here.Given as goal
 
 abbrev pub invariant-loop-s : goal.invariant-loop-s
-invariant-loop-s l = (l.s ≤ l.t) × Worked l.t l.n (figure_here l.t l.e l.initial.figures l.parts) l.initial.figures l.s l.figures × Small l.figures
-
-abbrev pub decreases-loop-s : goal.decreases-loop-s
-decreases-loop-s l = l.s
+invariant-loop-s l = Worked l.t l.n (figure_here l.t l.e l.initial.figures l.parts) l.initial.figures l.s l.figures × Small l.figures

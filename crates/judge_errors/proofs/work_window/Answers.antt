@@ -1,5 +1,5 @@
 -- `judge_errors::work_window` meets its contract. The loop's invariant: the node has been worked from slot s on. Assumes nothing.
-use mathlib.Core.Path.{◌≡◌, refl, ap, subst, ◌∙◌}
+use mathlib.Core.Path.{◌≡◌, refl, subst, ◌∙◌}
 use Prim.Native.Nat.{ℕ, ◌+◌, ◌-◌, ◌*◌, min}
 use native.Mathlib.Omega.{arith}
 use lib.ListN.{length}
@@ -8,6 +8,8 @@ use Rattle.rules.specs.Quantities.{one}
 use Rattle.judge_errors.specs.Worked.{worked_none, step}
 use Rattle.judge_errors.specs.Window.{Running, running_rises, window-rise, sum-all}
 use borrow.Author.Rules.{rules}
+use Rattle.std.proofs.Common.{ap₂}
+use Rattle.window.specs.Slots.{few_of}
 use Rattle.judge_errors.proofs.work_window.Goals as goal
 
 pub place-here-requires : goal.place-here-requires
@@ -35,15 +37,11 @@ loop-s-init c =
     let sums = c.sum_up.new.sums in
     let long : 65 ≡ length sums = search rules in
     let part = c.place.ensures.0 in (
-      omega arith,
       worked_none _ _ _ _,
       a.requires.1,
       subst (λ (p : ℕ). Running a.args.figures.now p a.args.t sums) part c.sum_up.ensures,
       omega (arith, long, a.requires.0.slots),
     )
-
-pub overflow_sub-s : goal.overflow_sub-s
-overflow_sub-s c = omega arith
 
 pub overflow_cast-t : goal.overflow_cast-t
 overflow_cast-t c = omega arith
@@ -58,7 +56,7 @@ pub look-looks-requires : goal.look-looks-requires
 look-looks-requires c =
     let a = c in
     let l = c.loop-s in
-    (a.requires.4.0, a.requires.4.1, a.requires.0.slots, omega (arith, c.loop-s-test, l.invariant.0), a.requires.3.0, a.requires.3.1)
+    (a.requires.4.0, a.requires.4.1, a.requires.0.slots, omega (arith, c.loop-s-test, l.auto.s), a.requires.3.0, a.requires.3.1)
 
 pub window_sum-requires : goal.window_sum-requires
 window_sum-requires c =
@@ -66,28 +64,7 @@ window_sum-requires c =
     let l = c.loop-s in
     let a = c in
     let first = a.args.x.part * a.args.t in
-    (k.are-few, running_rises a.args.figures.now first a.args.t _ l.invariant.3 a.requires.1 a.requires.0.slots l.invariant.4 _ k.small)
-
-pub overflow_add-e : goal.overflow_add-e
-overflow_add-e c = omega arith
-
-pub stopped-requires : goal.stopped-requires
-stopped-requires c = tt
-
-pub overflow_add-figures : goal.overflow_add-figures
-overflow_add-figures c = omega arith
-
-pub offset_bounds-figures-here : goal.offset_bounds-figures-here
-offset_bounds-figures-here c = omega arith
-
-pub bounds-figures-here : goal.bounds-figures-here
-bounds-figures-here c =
-    let l = c in
-    let h = c in
-    omega (arith, h.place-here.ensures.0, h.requires.0.inside, l.loop-s.invariant.1.same)
-
-pub loop-s-smaller : goal.loop-s-smaller
-loop-s-smaller c = omega arith
+    running_rises a.args.figures.now first a.args.t _ l.invariant.2 a.requires.1 a.requires.0.slots l.invariant.3 _ k.small
 
 pub loop-s-preserved : goal.loop-s-preserved
 loop-s-preserved c =
@@ -100,16 +77,13 @@ loop-s-preserved c =
     let look = c.look-looks in
     let sums =
     c.window_sum.ensures.0
-    ∙ window-rise a.args.figures.now first a.args.t stand l.loop-s.invariant.3 look.result look.ensures.are-few look.ensures.small
+    ∙ window-rise a.args.figures.now first a.args.t stand l.loop-s.invariant.2 look.result (few_of look.result) look.ensures.small
     ∙ sum-all a.args.figures.now look.result first look.ensures in
-    let counts = ap (λ (x : ℕ). min one (a.args.e + x)) sums in
-    let w = step l.loop-s.invariant.1 l.loop-s.invariant.2 a.requires.0 (omega arith) l.loop-s.invariant.0 _ _ _ i c.stopped.ensures counts in
-    (omega arith, w.0, w.1, l.loop-s.invariant.3, l.loop-s.invariant.4)
-
-pub shape_of-figures : goal.shape_of-figures
-shape_of-figures c = c.loop-s.invariant.1.same
+    let counts = ap₂ (λ (y x : ℕ). min one (y + x)) c.from.ensures sums in
+    let w = step l.loop-s.invariant.0 l.loop-s.invariant.1 a.requires.0 (omega arith) l.loop-s.auto.s _ _ _ i c.stopped.ensures counts in
+    (w.0, w.1, l.loop-s.invariant.2, l.loop-s.invariant.3)
 
 pub returns : goal.returns
 returns c =
     let z : c.loop-s.s ≡ 0 = omega arith in
-    (rw z at c.loop-s.invariant.1, c.loop-s.invariant.2)
+    (rw z at c.loop-s.invariant.0, c.loop-s.invariant.1)

@@ -1,11 +1,8 @@
-use mathlib.Core.Path.{◌≡◌}
-use Prim.Native.Nat.{◌-◌, ◌≤◌}
-use Rattle.lists.specs.First.{first}
-use Rattle.judge_limits.specs.Tests.{outside_at}
+-- None of the figures before the block is outside.
+use Rattle.std.proofs.Common.{◌*◌, min}
+use Rattle.lists.specs.Scan.{Skipped}
+use Rattle.judge_limits.specs.Tests.{outside_at, at_once}
 use Rattle.judge_limits.proofs.first_outside.Given as goal
 
-abbrev pub invariant-loop-v : goal.invariant-loop-v
-invariant-loop-v l = (l.v ≤ l.n) × (first (outside_at l.e l.figures) (l.n - l.v) l.v ≡ first (outside_at l.e l.figures) l.n 0)
-
-abbrev pub decreases-loop-v : goal.decreases-loop-v
-decreases-loop-v l = l.n - l.v
+abbrev pub invariant-loop-block : goal.invariant-loop-block
+invariant-loop-block l = Skipped (outside_at l.e l.figures) 0 (min l.n (l.block * at_once))

@@ -1,79 +1,53 @@
--- `mps_columns::put_kept_parts` meets its contract. The loop's invariant: the V's of the nodes passed are counted, and their lines are put. Assumes nothing.
-use mathlib.Core.Path.{◌≡◌, refl, sym, ap, ap₂, ◌∙◌}
-use mathlib.Core.Bool.{Bool, cond}
-use Prim.Native.Nat.{ℕ, ◌+◌, ◌<◌}
-use native.Mathlib.Omega.{arith}
-use lib.ListN.{length}
-use Rattle.rules.specs.TableTest.{nodes_in, record_count}
+-- `mps_columns::put_kept_parts` meets its contract. The loop's invariant: the V's of the nodes passed are counted, and their lines are put.
+-- Assumes nothing.
+use Rattle.std.proofs.Common.{◌≡◌, refl, sym, ap, ◌∙◌, ◌+◌, ◌<◌, length, arith}
+use Rattle.rules.specs.TableTest.{nodes_in}
 use Rattle.rules.proofs.TableTest.{length-nodes_in}
-use Rattle.table.specs.Looping.{looping_to, looping-more, looping-few, looping-all}
+use Rattle.table.specs.Looping.{looping_to, looping-more, looping-all}
 use Rattle.mps_line.specs.Turns.{turns_none, turns_all}
-use Rattle.mps_columns.specs.Parts.{kept_turn}
+use Rattle.mps_columns.specs.Parts.{kept_turn, kept-none, kept-some}
 use Rattle.mps_columns.specs.Plans.{planned_part}
 use Rattle.mps_columns.proofs.put_kept_parts.Goals as goal
+use Rattle.mps_columns.proofs.put_kept_parts.Goals.{then-loops, else-loops}
 
 pub loop-n-init : goal.loop-n-init
-loop-n-init c = (omega arith, refl, omega arith, turns_none _ _ _)
+loop-n-init c = record { before = refl; few = omega arith; put = turns_none _ _ _; end = omega arith }
 
-pub overflow_add-m : goal.overflow_add-m
-overflow_add-m c =
-    record { fits = omega (arith, c.count-count.ensures, c.requires.1.ready.few-nodes, c.requires.1.ready.atoms-high) }
-
-pub overflow_add-m-in-loop-n : goal.overflow_add-m-in-loop-n
-overflow_add-m-in-loop-n c =
-    record {
-      fits = omega (
-        arith,
-        c.count-count.ensures,
-        looping-few (nodes_in c.args.table.now) c.loop-n.n,
-        c.loop-n.invariant.1,
-        c.requires.1.ready.few-nodes,
-        c.requires.1.ready.atoms-high,
-      );
-    }
-
-pub put_kept-next-requires : goal.put_kept-next-requires
-put_kept-next-requires c =
-    let n = length-nodes_in c.args.plan.m c.args.table.now in (
-      omega (arith, c.count-count.ensures, c.requires.0, c.requires.1.ready.few-nodes),
-      omega (arith, c.count-count.ensures, c.loop-n-test.true),
-      omega (arith, n, c.count-count.ensures, c.loop-n.invariant.1),
-      c.requires.1,
-    )
-
-pub loops_at-requires : goal.loops_at-requires
-loops_at-requires c = omega (arith, c.count-count.ensures, c.loop-n-test.true)
-
-pub one_more-found-requires : goal.one_more-found-requires
-one_more-found-requires c =
-    omega (arith, c.count-count.ensures, looping-few (nodes_in c.args.table.now) c.loop-n.n, c.loop-n.invariant.1, c.requires.1.ready.few-nodes)
-
-pub overflow_add-n : goal.overflow_add-n
-overflow_add-n c =
-    record { fits = omega (arith, c.count-count.ensures, c.requires.1.ready.few-nodes) }
+pub put_kept-next-requires-clause-kept : goal.put_kept-next-requires-clause-kept
+put_kept-next-requires-clause-kept c =
+    let p = c.args.columns.now.plan in
+    (omega (arith, length-nodes_in p.m p.table.now), sym c.loops.ensures ∙ c.if-loops.true)
 
 pub loop-n-preserved : goal.loop-n-preserved
 loop-n-preserved c =
-    let ns = nodes_in c.args.table.now in
-    let low : c.loop-n.n < length ns = omega (arith, c.loop-n-test.true, c.count-count.ensures, length-nodes_in c.args.plan.m c.args.table.now) in
-    let more : c.one_more-found.result ≡ looping_to ns (c.loop-n.n + 1) =
-    c.one_more-found.ensures ∙ ap₂ (λ (b : Bool) (k : ℕ). cond b (k + 1) k) c.loops_at.ensures c.loop-n.invariant.1
-    ∙ sym (looping-more ns c.loop-n.n low) in (
-      omega arith,
-      more,
-      omega (arith, c.put_kept-next.ensures.1),
-      kept_turn (planned_part c.args.plan c.args.table.now) (c.args.plan.m + record_count c.args.table.now) ns
-          c.loop-n.n low
-          c.loop-n.invariant.1 more (omega (arith, c.count-count.ensures)) c.loop-n.invariant.3 c.put_kept-next.ensures.0,
-    )
-
-pub shape_of-out : goal.shape_of-out
-shape_of-out c = c.loop-n.invariant.3.same
+    let p = c.args.columns.now.plan in
+    let n = c.loop-n.n in
+    let ns = nodes_in p.table.now in
+    let v = c.loop-n.invariant in
+    let low : n < length ns = omega (arith, length-nodes_in p.m p.table.now) in
+    let more = looping-more ns n low in
+    let counted : c.if-loops.found ≡ looping_to ns (n + 1) =
+    elim c.if-loops.branch [
+      | then-loops w ↦ omega (arith, rw (sym c.loops.ensures ∙ w.if-loops.true) at more)
+      | else-loops w ↦ omega (arith, rw (sym c.loops.ensures ∙ w.if-loops.false) at more)
+    ] in
+    record {
+      before = counted;
+      few = elim c.if-loops.branch [ then-loops w ↦ omega arith | else-loops w ↦ omega arith ];
+      put = elim c.if-loops.branch [
+        | then-loops w ↦ rw (w.out-is, w.next-is)
+            (kept_turn (planned_part p) (p.m + p.nodes) ns n low v.before counted refl v.put
+            (kept-some (sym c.loops.ensures ∙ w.if-loops.true) w.put_kept-next.ensures.0))
+        | else-loops w ↦ rw (w.out-is, w.next-is)
+            (kept_turn (planned_part p) (p.m + p.nodes) ns n low v.before counted refl v.put
+            (kept-none _ (sym c.loops.ensures ∙ w.if-loops.false)))
+      ];
+      end = elim c.if-loops.branch [ then-loops w ↦ omega (arith, w.put_kept-next.ensures.1) | else-loops w ↦ omega arith ];
+    }
 
 pub returns : goal.returns
 returns c =
-    let ns = nodes_in c.args.table.now in
-    let all : c.loop-n.n ≡ length ns = omega (arith, c.count-count.ensures, length-nodes_in c.args.plan.m c.args.table.now) in (
-      turns_all _ _ _ (c.loop-n.invariant.1 ∙ ap (looping_to ns) all ∙ looping-all ns) c.loop-n.invariant.3,
-      omega (arith, c.count-count.ensures, c.requires.1.ready.few-nodes),
-    )
+    let p = c.args.columns.now.plan in
+    let ns = nodes_in p.table.now in
+    let all : c.loop-n.n ≡ length ns = omega (arith, length-nodes_in p.m p.table.now) in
+    (turns_all _ _ _ (c.loop-n.invariant.before ∙ ap (looping_to ns) all ∙ looping-all ns) c.loop-n.invariant.put, omega (arith, p.ready.few-nodes))

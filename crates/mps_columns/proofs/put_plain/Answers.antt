@@ -1,31 +1,37 @@
 -- `mps_columns::put_plain` meets its contract. What follows the last slot, the block's own variable, and another. Assumes nothing.
-use mathlib.Core.Path.{◌∙◌}
-use Prim.Native.Nat.{◌+◌}
-use native.Mathlib.Omega.{arith}
+use Rattle.std.proofs.Common.{◌≡◌, ℕ, true, sym, ◌∙◌, ◌+◌, arith}
+use Rattle.table.specs.Looping.{loops_by}
 use Rattle.mps_line.specs.Emitted.{emitted_as}
-use Rattle.mps_columns.specs.Walk.{lines-last, lines_around, alone-text, not-both}
+use Rattle.mps_columns.specs.Walk.{lines-last, lines_around, alone-text}
 use Rattle.mps_columns.proofs.put_plain.Goals as goal
+use Rattle.mps_columns.proofs.put_plain.Goals.{else-loops-via-then-loops+else-v-from, else-loops-via-else-loops}
 
-pub returns-then-both : goal.returns-then-both
-returns-then-both c = (
-  emitted_as (lines-last c.args.v c.args.block c.args.t c.args.start c.args.s c.both.ensures c.if-both.true)
-      c.put_at.ensures.0,
-  omega (arith, c.put_at.ensures.1),
-)
+pub returns-then-follows : goal.returns-then-follows
+returns-then-follows c =
+    let a = c.args in (
+      emitted_as (lines-last a.variable.v a.block a.t a.start a.variable.s c.follows.ensures c.if-follows.true) c.put_at.ensures.0,
+      omega (arith, c.put_at.ensures.1),
+    )
 
-pub returns-then-both-2 : goal.returns-then-both-2
-returns-then-both-2 c = (
-  emitted_as (lines_around c.args.v c.args.block c.args.t c.args.start c.args.s c.both.ensures c.if-both.false)
-      c.put_around.ensures.0,
-  c.put_around.ensures.1,
-)
+pub returns-then-v-from : goal.returns-then-v-from
+returns-then-v-from c =
+    let a = c.args in (
+      emitted_as (lines_around a.variable.v a.block a.t a.start a.variable.s c.follows.ensures c.if-follows.false) c.put_around.ensures.0,
+      c.put_around.ensures.1,
+    )
 
-pub returns : goal.returns
-returns c =
-    let at = c.requires.whole.1 in (
-      emitted_as (alone-text c.args.t 1 c.args.block c.requires.lines_fit.6 (omega arith) c.args.v c.args.start c.requires.whole.0 at.0 c.args.s c.requires.lines_fit.3 at.1
-          (not-both c.args.v (c.args.block.own + c.args.s) c.both-2.ensures c.loops.ensures c.if-both-2.false)
-          ∙ lines_around c.args.v c.args.block c.args.t c.args.start c.args.s c.both.ensures c.if-both.false)
-          c.put_at-2.ensures.0,
-      omega (arith, c.put_at-2.ensures.1),
+pub returns-else-loops : goal.returns-else-loops
+returns-else-loops c =
+    let a = c.args in
+    let fit = c.requires.lines_fit in
+    let at = fit.1.2 in
+    let other : loops_by a.block.kind ≡ true → a.block.own + a.variable.s ≡ a.variable.v → ⊥ =
+    elim c.else-loops.branch [
+      | else-loops-via-then-loops+else-v-from w ↦ λ e f. w.if-v-from.false (sym (w.from.ensures ∙ f))
+      | else-loops-via-else-loops w ↦ λ e f. let z : ◌≡◌ {A = ℕ} 0 1 = cc (c.loops.ensures, e, w.if-loops.false) in omega arith
+    ] in (
+      emitted_as
+          (alone-text a.t 1 a.block fit.5 (omega (arith, fit.1.1)) a.variable.v a.start c.requires.whole at.0 a.variable.s fit.1.1 at.1 other
+          ∙ lines_around a.variable.v a.block a.t a.start a.variable.s c.follows.ensures c.if-follows.false) c.put_at-else-loops.ensures.0,
+      omega (arith, c.put_at-else-loops.ensures.1),
     )

@@ -1,6 +1,5 @@
--- `mps_columns::put_seen` meets its contract. A variable in none of the rows, and another. Assumes nothing.
-use mathlib.Core.Path.{subst}
-use native.Mathlib.Omega.{arith}
+-- `mps_columns::put_seen` meets its contract, where the variable is in none of the rows. Assumes nothing.
+use Rattle.std.proofs.Common.{subst, arith}
 use Rattle.window.specs.Slots.{variable_at, variables}
 use Rattle.mps_line.specs.Emitted.{emitted-none, emitted_as}
 use Rattle.mps_window.specs.Entries.{no_lines}

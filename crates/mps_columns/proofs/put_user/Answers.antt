@@ -1,19 +1,14 @@
 -- `mps_columns::put_user` meets its contract. Assumes nothing.
-use mathlib.Core.Path.{◌≡◌, ap₂}
-use mathlib.Core.List.{List, []}
-use Prim.Native.Nat.{ℕ, ◌≤◌}
-use native.Mathlib.Omega.{arith}
-use lib.ListN.{length}
+use Rattle.std.proofs.Common.{◌≡◌, ap₂, List, [], ℕ, ◌≤◌, length, arith}
 use Rattle.rules.specs.Table.{Node}
 use Rattle.rules.specs.Rows.{Row}
 use Rattle.rules.specs.TableTest.{nodes_in}
-use Rattle.rules.proofs.TableTest.{length-nodes_in}
 use Rattle.mps.specs.Page.{entry_line, each_row}
 use Rattle.row.specs.NodeRows.{rows_to}
 use Rattle.mps_line.specs.Emitted.{emitted_as}
 use Rattle.mps_row.specs.Laws.{node_text, start_small}
 use Rattle.mps_node.specs.declared.Blocks.{Blocks}
-use Rattle.mps_node.specs.Places.{blocks_rows, BlocksAt, kept_low}
+use Rattle.mps_node.specs.Places.{blocks_rows, BlocksAt}
 use Rattle.mps_node.specs.Turns.{blocks-rows}
 use Rattle.mps_users.specs.Users.{kept_part}
 use Rattle.mps_columns.specs.Walk.{own-whole, kept_whole}
@@ -26,43 +21,26 @@ user-lines : (T M L : ℕ) (ns : List Node) (n : ℕ) (line : ℕ → Row → Li
 unfolding node_text
 user-lines T M L ns n line e b h = ap₂ (λ (i : ℕ) (rs : List Row). each_row line i rs) e (blocks-rows T M L ns line 0 [] b h)
 
-pub overflow_cast-kept : goal.overflow_cast-kept
-overflow_cast-kept c =
-    let r = c.requires.2.ready in
-    let ns = nodes_in c.args.table.now in
-    let long = length-nodes_in c.args.plan.m c.args.table.now in
-    let low = kept_low c.args.plan.t c.args.plan.m ns c.args.n r.slots-high r.atoms-high (omega (arith, r.few-nodes))
-    (omega (arith, c.requires.3)) in
-    record { fits = omega (arith, low, c.requires.2.laid.kepts c.args.n c.requires.3) }
-
-pub blocks_at-blocks-requires : goal.blocks_at-blocks-requires
-blocks_at-blocks-requires c =
-    (c.requires.2.ready, c.requires.3, c.requires.2.laid.kepts c.args.n c.requires.3)
-
 pub put_node-requires : goal.put_node-requires
 put_node-requires c =
-    let r = c.requires.2.ready in
-    let p = c.args.plan in
+    let o = c.args.columns.now in
+    let p = o.plan in
+    let n = c.args.n in
+    let r = c.requires in
     let b = c.blocks_at-blocks.ensures in
-    let few = start_small p.t p.m p.l (nodes_in c.args.table.now) c.args.n r.slots-high (omega (arith, c.requires.3, r.few-nodes)) in
-    let own = own-whole p.t p.m p.l c.args.n _ b.node _ b.own_is in
+    let few = start_small p.t p.m p.l (nodes_in p.table.now) n p.ready.slots-high (omega arith) in
+    let own = own-whole p.t p.m p.l n _ b.node _ b.own_is in
     record {
-      lines_fit = (c.requires.0, c.requires.1, omega (arith, few, c.requires.2.laid.starts c.args.n c.requires.3), r.loop-low, r.loop-high, r.slots-high);
-      fit = (
-        b.own-fit,
-        own,
-        b.kept-fit,
-        kept_whole p.t (kept_part p.m (nodes_in c.args.table.now) c.args.n) _ _ _ b.place
-            b.kept-is own,
-      );
+      lines_fit = (r.0, r.1, omega (arith, few, o.laid.starts n r.2), p.ready.loop-low, p.ready.loop-high, p.ready.slots-high);
+      fit = (b.own-fit, own, b.kept-fit, kept_whole p.t (kept_part p.m (nodes_in p.table.now) n) _ _ _ _ b.place b.kept-is own);
     }
 
 pub returns : goal.returns
 returns c =
-    let r = c.requires.2.ready in
-    let p = c.args.plan in
-    let ns = nodes_in c.args.table.now in
-    let b = c.blocks_at-blocks.ensures in
-    let line = entry_line c.args.variable.v in
+    let o = c.args.columns.now in
+    let p = o.plan in
+    let n = c.args.n in
     let q = c.put_node.ensures in
-    (emitted_as (user-lines p.t p.m p.l ns c.args.n line (c.requires.2.laid.starts c.args.n c.requires.3) b r.slots-low) q.0, q.1)
+    let lines = user-lines p.t p.m p.l (nodes_in p.table.now) n (entry_line c.args.variable.v) (o.laid.starts n c.requires.2) c.blocks_at-blocks.ensures
+    p.ready.slots-low in
+    (emitted_as lines q.0, q.1)

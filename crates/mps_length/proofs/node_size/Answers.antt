@@ -7,6 +7,7 @@ use lib.Dec.{ltb}
 use Rattle.row.specs.Kinds.{block_count}
 use Rattle.mps_length.specs.Nodes.{window_count, within_weight, throughout_weight, block_weight, looped_sum, sized_as, sized-plain, sized-looped}
 use Rattle.mps_length.proofs.node_size.Goals as goal
+use Rattle.mps_length.proofs.node_size.Goals.{then-twice, else-twice, then-twice-2, else-twice-2, then-twice-3, else-twice-3, then-twice-4, else-twice-4}
 
 pub within-requires : goal.within-requires
 within-requires c =
@@ -30,24 +31,30 @@ returns-in-Not c =
     let e : 1 * c.args.t ≡ c.args.t = omega arith in
     rw c.in-Not.is (sized-plain (ltb c.args.l c.args.t) c.args.t (78 * c.args.t) (sized_as e refl c.even-in-Not.ensures.0))
 
-pub returns-in-And : goal.returns-in-And
+pub returns-after-twice : goal.returns-after-twice
 unfolding block_count block_weight
-returns-in-And c =
-    let w = ap (λ (k : ℕ). k * c.args.t) c.choose.ensures.0 in
+returns-after-twice c =
+    let bytes : c.if-twice.even ≡ cond c.args.twice 186 213 =
+    elim c.if-twice.branch [ then-twice w ↦ rw w.if-twice.true w.even-is | else-twice w ↦ rw w.if-twice.false w.even-is ] in
+    let w = ap (λ (k : ℕ). k * c.args.t) bytes in
     rw c.in-And.is
     (sized-plain (ltb c.args.l c.args.t) (3 * c.args.t) (cond c.args.twice 186 213 * c.args.t) (sized_as refl w c.even-in-And.ensures.0))
 
-pub returns-in-Or : goal.returns-in-Or
+pub returns-after-twice-2 : goal.returns-after-twice-2
 unfolding block_count block_weight
-returns-in-Or c =
-    let w = ap (λ (k : ℕ). k * c.args.t) c.choose-in-Or.ensures.0 in
+returns-after-twice-2 c =
+    let bytes : c.if-twice-2.even ≡ cond c.args.twice 159 185 =
+    elim c.if-twice-2.branch [ then-twice-2 w ↦ rw w.if-twice-2.true w.even-is | else-twice-2 w ↦ rw w.if-twice-2.false w.even-is ] in
+    let w = ap (λ (k : ℕ). k * c.args.t) bytes in
     rw c.in-Or.is
     (sized-plain (ltb c.args.l c.args.t) (3 * c.args.t) (cond c.args.twice 159 185 * c.args.t) (sized_as refl w c.even-in-Or.ensures.0))
 
-pub returns-in-Implies : goal.returns-in-Implies
+pub returns-after-twice-3 : goal.returns-after-twice-3
 unfolding block_count block_weight
-returns-in-Implies c =
-    let w = ap (λ (k : ℕ). k * c.args.t) c.choose-in-Implies.ensures.0 in
+returns-after-twice-3 c =
+    let bytes : c.if-twice-3.even ≡ cond c.args.twice 185 238 =
+    elim c.if-twice-3.branch [ then-twice-3 w ↦ rw w.if-twice-3.true w.even-is | else-twice-3 w ↦ rw w.if-twice-3.false w.even-is ] in
+    let w = ap (λ (k : ℕ). k * c.args.t) bytes in
     rw c.in-Implies.is
     (sized-plain (ltb c.args.l c.args.t) (3 * c.args.t) (cond c.args.twice 185 238 * c.args.t) (sized_as refl w c.even-in-Implies.ensures.0))
 
@@ -63,11 +70,13 @@ returns-in-Always c =
     let h : 1 ≤ c.args.t = omega arith in
     rw c.in-Always.is (sized-looped (ltb c.args.l c.args.t) 3 213 c.args.t h c.looped-in-Always.ensures)
 
-pub returns-in-Until : goal.returns-in-Until
+pub returns-after-twice-4 : goal.returns-after-twice-4
 unfolding block_count block_weight
-returns-in-Until c =
+returns-after-twice-4 c =
     let h : 1 ≤ c.args.t = omega arith in
-    let w = ap (λ (k : ℕ). looped_sum k 53 c.args.t c.args.l) c.choose-in-Until.ensures.0 in
+    let bytes : c.if-twice-4.looped ≡ cond c.args.twice 292 318 =
+    elim c.if-twice-4.branch [ then-twice-4 w ↦ rw w.if-twice-4.true w.looped-is | else-twice-4 w ↦ rw w.if-twice-4.false w.looped-is ] in
+    let w = ap (λ (k : ℕ). looped_sum k 53 c.args.t c.args.l) bytes in
     rw c.in-Until.is
     (sized-looped (ltb c.args.l c.args.t) 4 (cond c.args.twice 292 318) c.args.t h (sized_as refl w c.looped-in-Until.ensures))
 

@@ -6,7 +6,8 @@ use Rattle.mps_length.proofs.page_length.Goals as goal
 
 pub returns : goal.returns
 returns c =
-    let idle = c.first_variable-idle.ensures.0 ∙ ap (λ (k : ℕ). k * c.args.t) c.idle_atoms.ensures.0 in
-    let slacks = c.first_variable-slacks.ensures.0 ∙ ap (λ (k : ℕ). (c.count-n.result + k) * c.args.t) c.kept_count.ensures.0 in
+    let idle = c.from-idle.ensures ∙ c.first_variable.ensures.0 ∙ ap (λ (k : ℕ). k * c.args.plan.t) c.idle_atoms.ensures.0 in
+    let atoms = c.from-atoms.ensures ∙ c.first_variable-2.ensures.0 in
+    let slacks = c.from-slacks.ensures ∙ c.first_variable-3.ensures.0 ∙ ap (λ (k : ℕ). (c.args.plan.nodes + k) * c.args.plan.t) c.kept_count.ensures.0 in
     c.sum_up.ensures
-    ∙ page-found _ _ _ _ c.requires _ c.count-n.ensures c.measure-size.ensures idle c.first_variable-atoms.ensures.0 slacks
+    ∙ rw (c.plus-size.ensures.0, c.plus-size.ensures.1) (page-found _ _ _ _ c.args.plan.ready _ c.args.plan.counted c.measure.ensures idle atoms slacks)

@@ -1,9 +1,7 @@
--- `mps_line::lettered_word` meets its contract. The letter before the digits. Assumes nothing.
-use native.Mathlib.Omega.{arith}
-use Rattle.endian.specs.Words.{next-bytes}
-use Rattle.mps_line.specs.Fields.{padded-first}
+-- `mps_line::lettered_word` meets its contract. A letter, digits and spaces. Assumes nothing.
+use Rattle.std.proofs.Common.{◌∙◌}
+use Rattle.mps_line.specs.DigitWords.{letter-after}
 use Rattle.mps_line.proofs.lettered_word.Goals as goal
 
 pub returns : goal.returns
-returns c =
-    padded-first c.args.letter c.args.n (next-bytes 7 _ c.grown.ensures (omega arith) c.digits_word.ensures.0)
+returns c = c.with_byte.ensures ∙ letter-after c.args.letter c.args.n _ c.requires c.with_digits.ensures

@@ -29,8 +29,10 @@ pub returns : goal.returns
 returns c =
     let m = name-length c.args.name c.requires.1 in
     let n = name-length c.args.row c.requires.2 in
-    let first = c.put_field-second.ensures.0 (name_text c.args.name) (omega arith) c.name_word.ensures in
-    let second = c.put_field-third.ensures.0 (name_text c.args.row) (omega arith) c.name_word-2.ensures in
-    let p = also (also (also (also c.put_type-first.ensures first) second) (rw (to_z-of_z c.ranges.c) at c.put_signed-end.ensures)) c.put_byte.ensures in
-    let q = emitted_as (sym (number_fields (name_text c.args.name) (name_text c.args.row) c.args.c (omega arith) (omega arith))) (emitted_put p (search rules)) in
-    (q, omega (arith, q.ends, number-length c.args.name c.args.row c.args.c c.requires.1 c.requires.2, (long (to_z-of_z c.ranges.c) c.signed_length.ensures.0), c.signed_length.ensures.1))
+    let name = name_text c.args.name in
+    let row = name_text c.args.row in
+    let both = c.put_fields-number.ensures.0 name row (omega arith) (omega arith) c.name_word.ensures c.name_word-2.ensures in
+    let p = also (also both (rw (to_z-of_z c.ranges.c) at c.put_signed-end.ensures)) c.put_byte.ensures in
+    let q = emitted_as (sym (number_fields name row c.args.c (omega arith) (omega arith))) (emitted_put p (search rules)) in
+    let whole = number-length c.args.name c.args.row c.args.c c.requires.1 c.requires.2 in
+    (q, omega (arith, q.ends, whole, long (to_z-of_z c.ranges.c) c.signed_length.ensures.0, c.signed_length.ensures.1))

@@ -14,7 +14,7 @@ returns-then-out-past c =
 
 pub returns : goal.returns
 returns c =
-    let p = also (also c.put_type-first.ensures c.put_name-end.ensures) c.put_byte.ensures in (
+    let p = also (also c.put_bytes-first.ensures c.put_name-end.ensures) c.put_byte.ensures in (
       emitted_as (sym (type_fields c.args.letter (name_text c.args.name))) (emitted_put p (search rules)),
       omega (arith, type_length c.args.letter c.args.name, c.name_length.ensures, p.ends),
     )

@@ -18,8 +18,9 @@ pub returns : goal.returns
 returns c =
     let m = name-length (Variable c.args.v) c.requires.1 in
     let n = name-length (Row c.args.i) c.requires.2 in
-    let v = c.put_field-second.ensures.0 (variable_name c.args.v) (omega arith) c.lettered_word.ensures in
-    let i = c.put_field-third.ensures.0 (row_name c.args.i) (omega arith) c.lettered_word-2.ensures in
-    let p = also (also (also c.put_type-first.ensures v) i) c.put_one.ensures in
+    let v = variable_name c.args.v in
+    let i = row_name c.args.i in
+    let both = c.put_fields-number.ensures.0 v i (omega arith) (omega arith) c.lettered_word.ensures c.lettered_word-2.ensures in
+    let p = also both c.put_one.ensures in
     let q = emitted_as (unit_fields c.args.v c.args.i c.args.up c.requires.1 c.requires.2) (emitted_put p (search rules)) in
     (q, omega (arith, q.ends, unit-length c.args.v c.args.i c.args.up c.requires.1 c.requires.2, c.unit_length.ensures))

@@ -1,5 +1,4 @@
-use mathlib.Core.Path.{◌≡◌}
-use Prim.Native.Nat.{◌+◌, ◌-◌, ◌*◌, ◌≤◌}
+use Rattle.std.proofs.Common.{◌≡◌, ◌+◌, ◌*◌, ◌≤◌}
 use Rattle.rules.specs.TableTest.{nodes_in}
 use Rattle.table.specs.Looping.{looping_to}
 use Rattle.row.specs.NodeRows.{rows_to}
@@ -8,10 +7,6 @@ use Rattle.mps_row.specs.Texts.{line_of}
 use Rattle.mps_node.specs.Turns.{Listed}
 use Rattle.mps_node.proofs.put_all.Given as goal
 
-abbrev pub invariant-loop-i : goal.invariant-loop-i
-invariant-loop-i l = (l.i ≤ l.n) × (l.next ≤ l.at + l.i * node_lines * line_limit)
-    × (l.looping ≡ looping_to (nodes_in l.table) l.i) ×
-    Listed (line_of l.text) 0 (rows_to l.t l.m l.l (nodes_in l.table) l.i) l.first l.at l.initial.out l.out l.next
-
-abbrev pub decreases-loop-i : goal.decreases-loop-i
-decreases-loop-i l = l.n - l.i
+abbrev pub invariant-loop-n : goal.invariant-loop-n
+invariant-loop-n l = (l.next ≤ l.at + l.n * node_lines * line_limit) × (l.looping ≡ looping_to (nodes_in l.plan.table.now) l.n) ×
+    Listed (line_of l.text) 0 (rows_to l.plan.t l.plan.m l.plan.l (nodes_in l.plan.table.now) l.n) l.first l.at l.initial.out l.out l.next

@@ -1,4 +1,4 @@
-use Prim.Native.Nat.{◌+◌, ◌-◌, ◌*◌, ◌≤◌}
+use Rattle.std.proofs.Common.{◌+◌, ◌*◌, ◌≤◌}
 use Rattle.lists.specs.Flat.{flat}
 use Rattle.row.specs.NodeRows.{block_on}
 use Rattle.mps_line.specs.Bounds.{line_limit, slot_lines}
@@ -7,8 +7,5 @@ use Rattle.mps_node.specs.Turns.{Listed}
 use Rattle.mps_node.proofs.put_block.Given as goal
 
 abbrev pub invariant-loop-s : goal.invariant-loop-s
-invariant-loop-s l = (l.s ≤ l.t) × (l.next ≤ l.at + l.s * slot_lines * line_limit) × (l.i ≤ l.first + l.s * slot_lines) ×
+invariant-loop-s l = (l.next ≤ l.at + l.s * slot_lines * line_limit) × (l.i ≤ l.first + l.s * slot_lines) ×
     Listed (line_of l.text) l.first (flat (block_on l.block l.t l.l) l.s) l.i l.at l.initial.out l.out l.next
-
-abbrev pub decreases-loop-s : goal.decreases-loop-s
-decreases-loop-s l = l.t - l.s

@@ -1,9 +1,5 @@
 -- `mps_page::put_page` meets its contract. The four sections, one after the other. Assumes nothing.
-use mathlib.Core.Path.{◌≡◌, sym, ap, ap₂, ◌∙◌}
-use mathlib.Core.List.{List, ◌++◌}
-use Prim.Native.Nat.{ℕ, ◌+◌, ◌*◌}
-use native.Mathlib.Omega.{arith}
-use lib.ListN.{length}
+use Rattle.std.proofs.Common.{◌≡◌, sym, ap, ap₂, ◌∙◌, List, ◌++◌, ℕ, ◌+◌, ◌*◌, length, arith}
 use Rattle.rules.specs.Rows.{variable_count, rows_of}
 use Rattle.rules.specs.TableTest.{nodes_in}
 use Rattle.rules.proofs.TableTest.{length-nodes_in}
@@ -14,14 +10,14 @@ use Rattle.mps_page.proofs.put_page.Goals as goal
 pub returns : goal.returns
 unfolding page page_of
 returns c =
-    let ns = nodes_in c.args.table.now in
-    let rs = rows_of c.args.t c.args.m c.args.l ns in
-    let n : c.count.result ≡ length ns = c.count.ensures ∙ sym (length-nodes_in c.args.m c.args.table.now) in
-    let count : (c.args.m + c.count.result + c.kept_count-kept.result) * c.args.t ≡ variable_count c.args.t c.args.m c.args.l ns =
-    rw (n, c.kept_count-kept.ensures.0) (omega arith) in
-    let whole = emitted_as
-    (ap (λ (z : List ℕ). row_section rs ++ (column_section (variable_count c.args.t c.args.m c.args.l ns) rs ++ (right_section rs ++ z)))
-    (ap₂ bound_section c.first_variable-atoms.ensures.0 (c.first_variable-variables.ensures.0 ∙ count)))
+    let p = c.args.plan in
+    let ns = nodes_in p.table.now in
+    let rs = rows_of p.t p.m p.l ns in
+    let n : p.nodes ≡ length ns = p.counted ∙ sym (length-nodes_in p.m p.table.now) in
+    let count : (p.m + p.nodes + c.kept_count.result) * p.t ≡ variable_count p.t p.m p.l ns =
+    rw (n, c.kept_count.ensures.0) (omega arith) in
+    emitted_as
+    (ap (λ (z : List ℕ). row_section rs ++ (column_section (variable_count p.t p.m p.l ns) rs ++ (right_section rs ++ z)))
+    (ap₂ bound_section (c.from-atoms.ensures ∙ c.first_variable.ensures.0) (c.from-variables.ensures ∙ c.first_variable-2.ensures.0 ∙ count)))
     (emitted-also c.put_rows-columns.ensures.0
-    (emitted-also c.put_columns-rights.ensures.0 (emitted-also c.put_rights-bounds.ensures.0 c.put_bounds.ensures.0))) in
-    whole
+    (emitted-also c.put_columns-rights.ensures.0 (emitted-also c.put_rights-bounds.ensures.0 c.put_bounds.ensures.0)))

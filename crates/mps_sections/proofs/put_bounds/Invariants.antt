@@ -1,4 +1,4 @@
-use Prim.Native.Nat.{◌+◌, ◌-◌, ◌*◌, ◌≤◌}
+use Rattle.std.proofs.Common.{◌+◌, ◌*◌, ◌≤◌}
 use Rattle.lists.specs.Flat.{flat}
 use Rattle.mps.specs.Page.{bound_line}
 use Rattle.mps_line.specs.Bounds.{line_limit}
@@ -6,8 +6,7 @@ use Rattle.mps_line.specs.Emitted.{Emitted}
 use Rattle.mps_sections.proofs.put_bounds.Given as goal
 
 abbrev pub invariant-loop-v : goal.invariant-loop-v
-invariant-loop-v l =
-    Emitted l.initial.next (flat (bound_line l.atoms) l.v) l.initial.out l.out l.next × (l.v ≤ l.variables) × (l.next ≤ l.at + (1 + l.v) * line_limit)
-
-abbrev pub decreases-loop-v : goal.decreases-loop-v
-decreases-loop-v l = l.variables - l.v
+invariant-loop-v l = record {
+  put : Emitted l.initial.next (flat (bound_line l.atoms) l.v) l.initial.out l.out l.next;
+  end : l.next ≤ l.at + (1 + l.v) * line_limit;
+}

@@ -1,6 +1,4 @@
-use mathlib.Core.Path.{◌≡◌}
-use Prim.Native.Nat.{◌-◌, ◌≤◌}
-use lib.ListN.{length}
+use Rattle.std.proofs.Common.{◌≡◌, ◌≤◌, length}
 use Rattle.rules.specs.TableTest.{nodes_in}
 use Rattle.table.specs.Looping.{looping_to}
 use Rattle.row.specs.NodeRows.{rows_to}
@@ -8,8 +6,9 @@ use Rattle.mps_users.specs.Found.{Layout}
 use Rattle.mps_users.proofs.find_layout.Given as goal
 
 abbrev pub invariant-loop-i : goal.invariant-loop-i
-invariant-loop-i l = (l.i ≤ l.n) × (l.sum ≡ length (rows_to l.t l.m l.l (nodes_in l.table) l.i))
-    × (l.looping ≡ looping_to (nodes_in l.table) l.i) × Layout l.t l.m l.l (nodes_in l.table) l.i l.layout
-
-abbrev pub decreases-loop-i : goal.decreases-loop-i
-decreases-loop-i l = l.n - l.i
+invariant-loop-i l = record {
+  counted : l.rows ≡ length (rows_to l.plan.t l.plan.m l.plan.l (nodes_in l.plan.table.now) l.i);
+  before : l.looping ≡ looping_to (nodes_in l.plan.table.now) l.i;
+  few : l.looping ≤ l.i;
+  laid : Layout l.plan.t l.plan.m l.plan.l (nodes_in l.plan.table.now) l.i l.layout;
+}

@@ -1,23 +1,7 @@
--- `mps_window::put_units` meets its contract. The loop's invariant: the lines of the rows passed are put. Assumes nothing.
-use mathlib.Core.Path.{◌≡◌}
-use Prim.Native.Nat.{◌+◌}
-use native.Mathlib.Omega.{arith}
+-- `mps_window::put_units` meets its contract. Assumes nothing.
+use Rattle.std.proofs.Common.{◌+◌, rules}
 use Rattle.mps_line.specs.Units.{unit_line}
-use Rattle.mps_line.specs.Turns.{turns_none, turns_more, turns_all}
 use Rattle.mps_window.proofs.put_units.Goals as goal
 
-pub loop-j-init : goal.loop-j-init
-loop-j-init c = (turns_none (λ j. unit_line c.args.v (c.args.i + j) c.args.up) c.args.at c.args.out.now, omega arith, omega arith)
-
-pub loop-j-preserved : goal.loop-j-preserved
-loop-j-preserved c =
-    let p = c.put_unit-next.ensures in
-    (turns_more (λ j. unit_line c.args.v (c.args.i + j) c.args.up) c.args.at c.args.out.now c.loop-j.invariant.0 p.0, omega arith, omega (arith, p.1))
-
-pub shape_of-out : goal.shape_of-out
-shape_of-out c = c.loop-j.invariant.0.same
-
 pub returns : goal.returns
-returns c =
-    let e : c.loop-j.j ≡ c.args.count = omega arith in
-    (turns_all (λ j. unit_line c.args.v (c.args.i + j) c.args.up) c.args.at c.args.out.now e c.loop-j.invariant.0, omega arith)
+returns c = c.put_each.ensures (λ j. unit_line c.args.v (c.args.i + j) c.args.up) (λ o p j r after low put. search rules)

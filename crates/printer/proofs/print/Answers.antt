@@ -19,36 +19,35 @@ overflow_sub-root c =
     let g = (sym c.good.ensures ∙ c.if-not-good.false) in
     omega (arith, c.count-root.ensures, some-nodes c.args.m c.args.table.now c.args.out.now m g)
 
-pub spend-rest-requires : goal.spend-rest-requires
-spend-rest-requires c =
+pub spend-requires : goal.spend-requires
+spend-requires c =
     let m = (sym c.within.ensures ∙ c.if-not-within.false) in
     let g = (sym c.good.ensures ∙ c.if-not-good.false) in
     (printable c.args.m c.args.table.now c.args.out.now m g, omega (arith, c.count-root.ensures, some-nodes c.args.m c.args.table.now c.args.out.now m g))
 
-pub returns-then-rest-eq0 : goal.returns-then-rest-eq0
-returns-then-rest-eq0 c =
+pub returns-in_default : goal.returns-in_default
+returns-in_default c =
     let m = (sym c.within.ensures ∙ c.if-not-within.false) in
     let g = (sym c.good.ensures ∙ c.if-not-good.false) in
-    long-refused c.args.m c.args.table.now c.args.out.now m g c.count-root.result c.count-root.ensures
-    c.spend-rest.result c.spend-rest.ensures c.if-rest-eq0.true
+    long-refused c.args.m c.args.table.now c.args.out.now m g c.count-root.result c.count-root.ensures c.in_default.ensures
 
 pub returns-then-out-length : goal.returns-then-out-length
 returns-then-out-length c =
     let m = (sym c.within.ensures ∙ c.if-not-within.false) in
     let g = (sym c.good.ensures ∙ c.if-not-good.false) in
-    room-refused c.args.m c.args.table.now c.args.out.now m g c.count-root.result c.count-root.ensures c.spend-rest.result
-    c.spend-rest.ensures c.if-rest-eq0.false _ refl c.if-out-length.true
+    room-refused c.args.m c.args.table.now c.args.out.now m g c.count-root.result c.count-root.ensures c.in-Some.rest
+    c.in-Some.ensures _ refl c.if-out-length.true
 
 pub put_node-requires : goal.put_node-requires
 put_node-requires c =
     let m = (sym c.within.ensures ∙ c.if-not-within.false) in
     let g = (sym c.good.ensures ∙ c.if-not-good.false) in
-    putting c.args.m c.args.table.now c.args.out.now m g c.count-root.result c.count-root.ensures c.spend-rest.result c.spend-rest.ensures
-    c.if-rest-eq0.false _ refl (omega (arith, c.if-out-length.false))
+    putting c.args.m c.args.table.now c.args.out.now m g c.count-root.result c.count-root.ensures c.in-Some.rest c.in-Some.ensures
+    _ refl (omega (arith, c.if-out-length.false))
 
 pub returns : goal.returns
 returns c =
     let m = (sym c.within.ensures ∙ c.if-not-within.false) in
     let g = (sym c.good.ensures ∙ c.if-not-good.false) in
-    text-printed c.args.m c.args.table.now c.args.out.now m g c.count-root.result c.count-root.ensures c.spend-rest.result c.spend-rest.ensures
-    c.if-rest-eq0.false _ refl (omega (arith, c.if-out-length.false)) c.put_node.ensures
+    text-printed c.args.m c.args.table.now c.args.out.now m g c.count-root.result c.count-root.ensures c.in-Some.rest c.in-Some.ensures
+    _ refl (omega (arith, c.if-out-length.false)) c.put_node.ensures

@@ -1,8 +1,7 @@
 -- `reader_lexer::number_at` meets its contract.
-use Rattle.reader_lexer.proofs.Laws.{number-found}
+use Rattle.rules.specs.Reading.Lexer.{number_at}
 use Rattle.reader_lexer.proofs.number_at.Goals as goal
 
 pub returns : goal.returns
-returns c =
-    number-found c.args.text.now c.args.at c.skip-p.result
-    c.skip-p.ensures c.numeral.result c.numeral.ensures
+unfolding number_at
+returns c = rw (← c.skip.ensures) c.numeral.ensures

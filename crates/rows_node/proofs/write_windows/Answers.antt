@@ -1,61 +1,27 @@
--- `rows_node::write_windows` meets its contract. The loop's invariant: the rows of the slots passed stand in the buffer. Assumes nothing.
-use mathlib.Core.Path.{ap, ◌∙◌}
-use mathlib.Core.List.{List}
-use Prim.Native.Nat.{ℕ, ◌+◌, ◌<◌}
-use native.Mathlib.Omega.{arith}
-use lib.ListN.{length}
-use Rattle.lists.specs.Filling.{splice_as, filled_none, filled_room, filled_more, filled_all}
-use Rattle.rules.specs.Rows.{rows_bytes}
-use Rattle.window.specs.Slots.{window_by}
-use Rattle.row.specs.Kinds.{over_rows}
-use Rattle.rows_node.specs.Slots.{windows}
+-- `rows_node::write_windows` meets its contract.
+use Rattle.std.proofs.Common.{arith}
+use Rattle.lists.specs.Filling.{filled_none, filled_room, filled_more, filled_all}
+use Rattle.rows_node.specs.Blocks.{block_bytes, window-rows}
 use Rattle.rows_node.proofs.write_windows.Goals as goal
 
 pub loop-s-init : goal.loop-s-init
-loop-s-init c = (omega arith, filled_none _ _ _)
+loop-s-init c = filled_none _ _ _
 
-pub look-looks-requires : goal.look-looks-requires
-look-looks-requires c = let test = c.loop-s-test in omega (arith, c.requires.le_l)
-
-pub overflow_add-node : goal.overflow_add-node
-overflow_add-node c = let test = c.loop-s-test in omega (arith, c.requires.le_l.3)
-
-pub put_window-next-requires : goal.put_window-next-requires
-unfolding windows
-put_window-next-requires c =
-    let l = c in
-    let a = c in
-    let test = c.loop-s-test in
-    let h : l.loop-s.s < a.args.reach.t = omega arith in
-    let e =
-    ap (λ (vs : List ℕ). rows_bytes (over_rows (window_by a.args.within) (a.args.node + l.loop-s.s) vs))
-    (c.look-looks.ensures.is a.args.p) in
-    record { few = (c.look-looks.ensures.are-few, a.requires.le_l.4); p_in_bounds = rw e (filled_room l.loop-s.invariant.1 a.args.reach.t h a.requires.p_in_bounds) }
-
-pub overflow_add-s : goal.overflow_add-s
-overflow_add-s c =
-    let l = c in
-    let test = c.loop-s-test in
-    omega (arith, l.requires.le_l.2)
-
-pub loop-s-smaller : goal.loop-s-smaller
-loop-s-smaller c = let test = c.loop-s-test in omega arith
+pub put_window-next-requires-clause-p_in_bounds : goal.put_window-next-requires-clause-p_in_bounds
+unfolding block_bytes
+put_window-next-requires-clause-p_in_bounds c =
+    let a = c.args in
+    let is = window-rows a.block a.t a.l c.loop-s.s c.look-looks.result c.requires.window.0 c.look-looks.ensures in
+    rw is (filled_room c.loop-s.invariant a.t (omega arith) c.requires.block_in_bounds)
 
 pub loop-s-preserved : goal.loop-s-preserved
-unfolding windows
+unfolding block_bytes
 loop-s-preserved c =
-    let l = c in
-    let a = c in
-    let test = c.loop-s-test in
-    let h : l.loop-s.s < a.args.reach.t = omega arith in
-    let looks = c.look-looks.ensures in
-    let e = ap (λ (vs : List ℕ). rows_bytes (over_rows (window_by a.args.within) (a.args.node + l.loop-s.s) vs)) (looks.is a.args.p) in
-    let w = c.put_window-next.ensures in (
-      omega arith,
-      filled_more l.loop-s.invariant.1 a.args.reach.t h a.requires.p_in_bounds _ _ (splice_as _ _ w.is e)
-          (w.to ∙ ap (λ (x : List ℕ). l.loop-s.next + length x) e) (omega arith),
-    )
+    let a = c.args in
+    let is = window-rows a.block a.t a.l c.loop-s.s c.look-looks.result c.requires.window.0 c.look-looks.ensures in
+    let put = rw is at c.put_window-next.ensures in
+    filled_more c.loop-s.invariant a.t (omega arith) c.requires.block_in_bounds _ _ put.is put.to (omega arith)
 
 pub returns : goal.returns
-unfolding windows
-returns c = filled_all c.loop-s.invariant.1 c.args.reach.t (omega arith)
+unfolding block_bytes
+returns c = filled_all c.loop-s.invariant c.args.t (omega arith)

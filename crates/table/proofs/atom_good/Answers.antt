@@ -1,24 +1,16 @@
 -- `table::atom_good` meets its contract. Assumes nothing.
-use mathlib.Core.Path.{sym, ap, ap₂, ◌∙◌}
-use mathlib.Core.Bool.{Bool, ◌&&◌}
-use Prim.Native.Nat.{ℕ, ◌+◌, ◌*◌}
-use native.Mathlib.Nat.{add-zero}
-use lib.Dec.{eqb, ltb}
-use lib.ListN.{get_or}
-use Rattle.table.specs.Atoms.{atom_record}
+use Rattle.std.proofs.Common.{◌≡◌, sym, ap, ◌∙◌, ℕ, eqb, arith, le-ltb}
+use Rattle.table.specs.Atoms.{last_four, atom-tested, atom-beyond, atom-unmarked}
 use Rattle.table.proofs.atom_good.Goals as goal
 
-pub returns : goal.returns
-returns c =
-    let s = c in
-    let m = c.args.m in
-    c.both-2.ensures
-    ∙ ap₂ (λ (a b : Bool). a && b)
-    (c.marked.ensures
-    ∙ ap (λ (i : ℕ). eqb (get_or s.args.table.now i 0) 0x4E && eqb (get_or s.args.table.now (8 * s.args.n + 1) 0) 0x44)
-    (sym (add-zero (8 * s.args.n))))
-    (c.both.ensures
-    ∙ ap₂ (λ (l r : ℕ). ltb l m && eqb r 0) c.wide_byte.ensures.0
-    (ap₂ (λ (a b : ℕ). a + 65536 * b) c.word.ensures.0
-    c.word-2.ensures.0))
-    ∙ sym (atom_record m s.args.table.now s.args.n s.requires.1)
+pub returns-then-from-m : goal.returns-then-from-m
+returns-then-from-m c =
+    let four : c.from_le_bytes-rest.result ≡ last_four c.args.table.now c.args.n = omega (arith, c.from_le_bytes-rest.ensures) in
+    ap (λ (k : ℕ). eqb k 0) four ∙ atom-tested c.args.m c.args.table.now c.args.n c.requires.1 (sym c.marked.ensures ∙ c.if-marked.true) (omega arith)
+
+pub returns-else-from-m : goal.returns-else-from-m
+returns-else-from-m c = le-ltb _ _ c.if-from-m.false ∙ atom-beyond c.args.m c.args.table.now c.args.n c.requires.1 (omega arith)
+
+pub returns-else-marked : goal.returns-else-marked
+returns-else-marked c =
+    c.if-marked.false ∙ atom-unmarked c.args.m c.args.table.now c.args.n c.requires.1 (sym c.marked.ensures ∙ c.if-marked.false)

@@ -1,33 +1,25 @@
--- `table::node_at` meets its contract: its five bytes are node n's kind, left, right and window. Assumes nothing.
-use mathlib.Core.Path.{◌≡◌, sym, ◌∙◌}
-use native.Mathlib.Omega.{arith}
-use Rattle.rules.specs.TableTest.{byte_at}
-use Rattle.table.specs.Nodes.{kind_in, known_is, unknown_is}
-use Rattle.table.specs.declared.KindRead.TheVariants.{Known, Unknown}
+-- `table::node_at` meets its contract: the record's bytes are node n's kind, left, right and window. Assumes nothing.
+use Rattle.std.proofs.Common.{◌*◌, ◌+◌, arith}
+use Rattle.table.specs.Nodes.{from-record, unread, known_is, unknown_is}
 use Rattle.table.proofs.node_at.Goals as goal
 
-pub returns-in-Known : goal.returns-in-Known
-returns-in-Known c =
-    let p = c in
-    let q = c in
-    let u = c in
-    let a = c.args in
-    let e : kind_in (byte_at a.table.now a.n 2) ≡ Known c.in-Known.kind =
-    sym c.kind_of-read.ensures ∙ c.in-Known.is in
-    let l = c.wide_byte-left.ensures in
-    let r = c.wide_byte-right.ensures in
-    let i = c.wide_byte-from.ensures in
-    let j = c.wide_byte-to.ensures in
-    let h = c.requires in
-    record { is = rw (l.0, r.0, i.0, j.0) (known_is a.table.now a.n _ h e); left-byte = l.1; right-byte = r.1; from_byte = i.1; to-byte = j.1 }
-
-pub returns-in-Unknown : goal.returns-in-Unknown
-returns-in-Unknown c =
-    let p = c in
-    let a = c.args in
-    let e : kind_in (byte_at a.table.now a.n 2) ≡ Unknown = sym c.kind_of-read.ensures ∙ c.in-Unknown.is in
+pub returns-in-Ok : goal.returns-in-Ok
+returns-in-Ok c =
+    let table = c.args.table.now in
+    let n = c.args.n in
+    let f = from-record _ _ _ _ _ _ c.in-Ok.ensures in
     record {
-      is = unknown_is a.table.now a.n p.requires e;
+      is = rw (f.same-left, f.same-right, f.same-from, f.same-to) (known_is table n _ c.requires f.known);
+      left-byte = omega (arith, f.same-left, c.type_inv.table (8 * n + 3));
+      right-byte = omega (arith, f.same-right, c.type_inv.table (8 * n + 4));
+      from_byte = omega (arith, f.same-from, c.type_inv.table (8 * n + 5));
+      to-byte = omega (arith, f.same-to, c.type_inv.table (8 * n + 6));
+    }
+
+pub returns-in-Err : goal.returns-in-Err
+returns-in-Err c =
+    record {
+      is = unknown_is c.args.table.now c.args.n _ c.requires (unread _ _ _ _ _ _ c.in-Err.ensures);
       left-byte = omega arith;
       right-byte = omega arith;
       from_byte = omega arith;

@@ -1,11 +1,13 @@
 -- `table::node_good` meets its contract. Assumes nothing.
-use mathlib.Core.Path.{refl, ◌∙◌}
-use Prim.Native.Nat.{◌*◌}
-use native.Mathlib.Nat.{add-zero}
+use Rattle.std.proofs.Common.{sym, ◌∙◌}
+use mathlib.Core.Bool.{and-false}
+use Rattle.table.specs.Nodes.{node_in_kind, read-good, unread-bad}
 use Rattle.table.proofs.node_good.Goals as goal
 
-pub returns : goal.returns
-returns c =
-    let p = c in
-    let a = c.args in
-    c.both.ensures ∙ rw (p.marked.ensures, c.fields_good.ensures, add-zero (8 * a.n)) refl
+pub returns-then-marked : goal.returns-then-marked
+returns-then-marked c =
+    rw (sym c.marked.ensures ∙ c.if-marked.true, node_in_kind)
+    (c.parts_good.ensures ∙ read-good c.args.m c.args.n _ _ _ _ _ _ c.in-Ok.ensures)
+
+pub returns-in-Err : goal.returns-in-Err
+returns-in-Err c = rw (node_in_kind, sym (unread-bad c.args.m c.args.n _ _ _ _ _ _ c.in-Err.ensures), and-false)

@@ -3,6 +3,4 @@ use Rattle.text.specs.Put.{also}
 use Rattle.text.proofs.put_pair.Goals as goal
 
 pub returns : goal.returns
-returns c =
-    let second = c in
-    also second.put_byte-next.ensures second.put_byte.ensures
+returns c = also c.put_byte-next.ensures c.put_byte.ensures

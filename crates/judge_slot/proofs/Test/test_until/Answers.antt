@@ -1,0 +1,19 @@
+-- The tests are of the rows' sums over the figures.
+use Rattle.std.proofs.Common.{refl, ◌∙◌, pos, negsuc}
+use Rattle.rules.specs.Judge.{shortfall}
+use Rattle.judge_sums.specs.Laws.{short_told}
+use Rattle.judge_slot.specs.Searches.{four-tested}
+use Rattle.judge_slot.proofs.Test.test_until.Goals as goal
+
+pub returns : goal.returns
+returns c =
+    let x = c.figure-x.ensures in
+    let y = c.figure-y.ensures in
+    let z = c.figure-z.ensures in
+    let w = c.figure-w.ensures in
+    four-tested c.args.self.e (shortfall c.args.self.figures.now)
+    (short_told c.pair.ensures (pos 0) c.short-first.ensures ∙ rw (x, z) refl)
+    (short_told c.triple.ensures (pos 0) c.short-second.ensures ∙ rw (y, z, x) refl)
+    (short_told c.triple-2.ensures (pos 0) c.short-third.ensures ∙ rw (z, w, x) refl)
+    (short_told c.triple-3.ensures (negsuc 0) c.short-fourth.ensures ∙ rw (x, y, w) refl)
+    c.steps.ensures

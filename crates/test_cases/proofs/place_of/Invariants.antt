@@ -1,6 +1,0 @@
--- The bytes that were passed are others.
-use Rattle.std.proofs.Common.{ℕ, ◌≢◌, ◌<◌, ◌≤◌, slice_index}
-use Rattle.test_cases.proofs.place_of.Given as goal
-
-abbrev pub invariant-loop-i : goal.invariant-loop-i
-invariant-loop-i l = (k : ℕ) → l.from ≤ k → k < l.i → slice_index l.text k ≢ l.byte
