@@ -19,8 +19,7 @@ from data_file import TOP, write_or_check
 HEAD = """\
 # Must-fail edits
 
-Made by tests/must_fail.py. Each edit changes an operand and keeps the shape, but for two of `reader` that answer another
-refusal on a condition; the prover must refuse it because a fact no longer holds. The gate tries them all. There are
+Made by tests/must_fail.py. Most edits change an operand and keep the shape; two of `reader` answer another refusal on a condition; the prover must refuse it because a fact no longer holds. The gate tries them all. There are
 edits for the promises of the calls and programs offered to others, for the definitions that must be believed, and for
 what the scope paper's "The wording of each promise" (c) and the requests name. Other crates need none: their callers'
 proofs would break. `test_known` compares nothing inside a proof, so it has none either: the gate compares what it prints.
