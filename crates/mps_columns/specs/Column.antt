@@ -9,6 +9,7 @@ use Rattle.rules.specs.Quantities.{LoopAllowed}
 use Rattle.rules.specs.Table.{Node}
 use Rattle.rules.specs.Rows.{Row, slack_rows, goal_row, rows_of}
 use Rattle.mps.specs.Page.{entry_line, cost_line, column_lines}
+use Rattle.cursor.specs.declared.Cursor.{Cursor}
 use Rattle.mps_line.specs.Emitted.{Emitted, emitted-also, emitted_as}
 use Rattle.mps_users.specs.Users.{users, user_text, variable_text}
 use Rattle.mps_users.specs.Picked.{gather_listed}
@@ -17,10 +18,10 @@ use Rattle.mps_users.specs.Found.{Found}
 
 module _ (T M L : ℕ) (loop : LoopAllowed T L) (ns : List Node) (x s v : ℕ) (is : v ≡ x * T + s) (low : s < T) where
   -- in the rows of all users, and in the goal row
-  pub users-emitted : {at next last count rows : ℕ} {list l m n : List ℕ} {goal : Row} → Found M ns x list count →
-      Emitted at (flat (λ j. user_text T M L ns v (get_or list j 0)) count) l m next →
-      rows ≡ length (slack_rows T M L ns) → goal ≡ goal_row T M ns → Emitted next (entry_line v rows goal) m n last →
-      Emitted at (variable_text T M L ns x s) l n last
+  pub users-emitted : {count rows : ℕ} {list : List ℕ} {goal : Row} {a b c : Cursor} → Found M ns x list count →
+      Emitted (flat (λ j. user_text T M L ns v (get_or list j 0)) count) a b →
+      rows ≡ length (slack_rows T M L ns) → goal ≡ goal_row T M ns → Emitted (entry_line v rows goal) b c →
+      Emitted (variable_text T M L ns x s) a c
   unfolding variable_text
   users-emitted {count = count} {rows} {list} {goal = goal} f p e g q =
       let around : ℕ → List ℕ = user_text T M L ns v in
@@ -35,25 +36,24 @@ module _ (T M L : ℕ) (loop : LoopAllowed T L) (ns : List Node) (x s v : ℕ) (
   column = column_lines (rows_of T M L ns) (x * T + s)
 
   -- there are some, or none
-  pub column-some : {at last : ℕ} {l n : List ℕ} → Emitted at (variable_text T M L ns x s) l n last → (last ≡ at → ⊥) → Emitted at column l n last
-  column-some {at} {last} p h =
+  pub column-some : {a b : Cursor} → Emitted (variable_text T M L ns x s) a b → (b.at ≡ a.at → ⊥) → Emitted column a b
+  column-some {a} {b} p h =
       let some : 0 < length (variable_text T M L ns x s) =
-      more (length (variable_text T M L ns x s)) (λ z. h (p.ends ∙ (let e : at + length (variable_text T M L ns x s) ≡ at = omega arith in e))) in
+      more (length (variable_text T M L ns x s)) (λ z. h (p.ends ∙ (let e : a.at + length (variable_text T M L ns x s) ≡ a.at = omega arith in e))) in
       emitted_as (sym (column-text T M L loop ns x s low ∙ ap (λ (b : Bool). cond b (variable_text T M L ns x s) (cost_line (x * T + s)))
       (lt-ltb 0 (length (variable_text T M L ns x s)) some))) p
     where
       more : (k : ℕ) → (k ≡ 0 → ⊥) → 0 < k
       more k h = omega arith
 
-  pub column-none : {at last to : ℕ} {l n o : List ℕ} → Emitted at (variable_text T M L ns x s) l n last → last ≡ at → Emitted at (cost_line v) n o to
-      → Emitted at column l o to
-  column-none {at} {last} {to} {l} {n} {o} p e q =
+  pub column-none : {a b c : Cursor} → Emitted (variable_text T M L ns x s) a b → b.at ≡ a.at → Emitted (cost_line v) b c → Emitted column a c
+  column-none {a} {b} {c} p e q =
       let none : length (variable_text T M L ns x s) ≡ 0 = omega (arith, p.ends) in
       let empty : variable_text T M L ns x s ≡ [] = no_length (variable_text T M L ns x s) none in
       let text : cost_line v ≡ column =
       ap cost_line is ∙ sym (column-text T M L loop ns x s low ∙ ap (λ (b : Bool). cond b (variable_text T M L ns x s) (cost_line (x * T + s)))
       (le-ltb 0 (length (variable_text T M L ns x s)) (omega arith))) in
-      emitted_as (ap (λ (t : List ℕ). t ++ cost_line v) empty ∙ text) (emitted-also p (rw (sym e) at q))
+      emitted_as (ap (λ (t : List ℕ). t ++ cost_line v) empty ∙ text) (emitted-also p q)
     where
       no_length : (t : List ℕ) → length t ≡ 0 → t ≡ []
       no_length [] h = refl

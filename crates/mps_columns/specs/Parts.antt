@@ -5,6 +5,7 @@ use Rattle.lists.specs.Flat.{flat, flat-more}
 use Rattle.rules.specs.Table.{Node, node_at}
 use Rattle.rules.specs.Rows.{loops, looping, variable_count}
 use Rattle.table.specs.Looping.{looping_to, looping-more}
+use Rattle.cursor.specs.declared.Cursor.{Cursor}
 use Rattle.mps_line.specs.Emitted.{Emitted, emitted-none, emitted-also, emitted_as}
 use Rattle.mps_users.specs.Picked.{flat-add, flat-parts}
 
@@ -18,9 +19,9 @@ kept_more g ns n h = go (loops (node_at ns n)) ∙ ap (flat g) (sym (looping-mor
     go false = append-nil (flat g (looping_to ns n))
 
 -- the lines of the V's of one node more are put
-pub kept_turn : (g : ℕ → List ℕ) (first : ℕ) (ns : List Node) (n : ℕ) → n < length ns → {found more x at next last : ℕ} {l m o : List ℕ} →
-    found ≡ looping_to ns n → more ≡ looping_to ns (n + 1) → x ≡ first + found → Emitted at (flat (λ j. g (first + j)) found) l m next →
-    Emitted next (cond (loops (node_at ns n)) (g x) []) m o last → Emitted at (flat (λ j. g (first + j)) more) l o last
+pub kept_turn : (g : ℕ → List ℕ) (first : ℕ) (ns : List Node) (n : ℕ) → n < length ns → {found more x : ℕ} {a b c : Cursor} →
+    found ≡ looping_to ns n → more ≡ looping_to ns (n + 1) → x ≡ first + found → Emitted (flat (λ j. g (first + j)) found) a b →
+    Emitted (cond (loops (node_at ns n)) (g x) []) b c → Emitted (flat (λ j. g (first + j)) more) a c
 kept_turn g first ns n h {found} {more} {x} e f is p q = emitted_as text (emitted-also p q)
   where
     part : ℕ → List ℕ
@@ -32,10 +33,10 @@ kept_turn g first ns n h {found} {more} {x} e f is p q = emitted_as text (emitte
         ∙ kept_more part ns n h ∙ ap (flat part) (sym f)
 
 -- a text that is there or not, and is put or not
-pub kept-none : {at : ℕ} {l : List ℕ} {b : Bool} (text : List ℕ) → b ≡ false → Emitted at (cond b text []) l l at
-kept-none {at} {l} text e = emitted_as (sym (ap (λ (b : Bool). cond b text []) e)) (emitted-none at l)
+pub kept-none : {a : Cursor} {b : Bool} (text : List ℕ) → b ≡ false → Emitted (cond b text []) a a
+kept-none {a} text e = emitted_as (sym (ap (λ (b : Bool). cond b text []) e)) (emitted-none a)
 
-pub kept-some : {at last : ℕ} {l m : List ℕ} {b : Bool} {text : List ℕ} → b ≡ true → Emitted at text l m last → Emitted at (cond b text []) l m last
+pub kept-some : {a c : Cursor} {b : Bool} {text : List ℕ} → b ≡ true → Emitted text a c → Emitted (cond b text []) a c
 kept-some {text = text} e s = emitted_as (sym (ap (λ (b : Bool). cond b text []) e)) s
 
 module _ (T : ℕ) (f : ℕ → List ℕ) where
@@ -45,14 +46,14 @@ module _ (T : ℕ) (f : ℕ → List ℕ) where
 
   -- that of all parts, where no V is there, and where they are
   module _ (M L N : ℕ) (ns : List Node) (nodes : N ≡ length ns) where
-    pub all-parts : {at last : ℕ} {l m : List ℕ} → T ≤ L → Emitted at (flat part_text (M + N)) l m last → Emitted at (flat f (variable_count T M L ns)) l m last
+    pub all-parts : {a b : Cursor} → T ≤ L → Emitted (flat part_text (M + N)) a b → Emitted (flat f (variable_count T M L ns)) a b
     all-parts h s = emitted_as (flat-parts f T (M + N) ∙ ap (flat f) count) s
       where
         count : (M + N) * T ≡ variable_count T M L ns
         count = rw (le-ltb L T h, nodes) (omega arith)
 
-    pub all-parts-kept : {at next last : ℕ} {l m n : List ℕ} → L < T → Emitted at (flat part_text (M + N)) l m next →
-        Emitted next (flat (λ j. part_text (M + N + j)) (looping ns)) m n last → Emitted at (flat f (variable_count T M L ns)) l n last
+    pub all-parts-kept : {a b c : Cursor} → L < T → Emitted (flat part_text (M + N)) a b →
+        Emitted (flat (λ j. part_text (M + N + j)) (looping ns)) b c → Emitted (flat f (variable_count T M L ns)) a c
     all-parts-kept h p q =
         emitted_as (sym (flat-add part_text (M + N) (looping ns)) ∙ flat-parts f T (M + N + looping ns) ∙ ap (flat f) count) (emitted-also p q)
       where

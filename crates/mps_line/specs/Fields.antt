@@ -1,10 +1,9 @@
 -- The fields of a line as they are put: what stands there, and the spaces up to the next field.
-use Rattle.std.specs.Prelude.{◌≡◌, refl, List, [], ◌∷◌, ◌++◌, ℕ, ◌+◌, ◌-◌, ◌≤◌, ℤ, pos, length, replicate}
-use Rattle.std.proofs.Common.{sym, ap, ◌∙◌, append_assoc, arith, length-append}
+use Rattle.std.specs.Prelude.{◌≡◌, refl, List, [], ◌∷◌, ◌++◌, ℕ, suc, ◌+◌, ◌-◌, ◌≤◌, ℤ, pos, length, replicate}
+use Rattle.std.proofs.Common.{sym, ap, ap₂, ◌∙◌, append_assoc, arith, length-append}
 use Rattle.std.proofs.lemmas.List.{length-replicate, replicate-append-replicate}
-use Rattle.lists.specs.Splice.{splice, sets_splice}
-use Rattle.text.specs.Decimal.{signed_text}
-use Rattle.text.specs.Put.{Put}
+use Rattle.endian.specs.Words.{little_endian}
+use Rattle.text.specs.Decimal.{decimal, signed_text}
 use Rattle.mps.specs.Page.{field, ended, variable_name, type_line, number_line, binary_line, upper_line}
 
 abbrev pub space : ℕ
@@ -24,6 +23,12 @@ padded-more name h =
 pub length-padded : (k : ℕ) (text : List ℕ) → length text ≤ k → length (padded k text) ≡ k
 length-padded k text h = simp (length-append, length-replicate) (omega arith)
 
+-- a letter before a number
+pub padded-first : (letter n : ℕ) {xs : List ℕ} → xs ≡ letter ∷ padded 7 (decimal n) → xs ≡ padded 8 (letter ∷ decimal n)
+padded-first letter n e =
+    let z : 7 - length (decimal n) ≡ 8 - suc (length (decimal n)) = omega arith in
+    e ∙ ap (λ (k : ℕ). letter ∷ (decimal n ++ replicate k space)) z
+
 -- a field of ten columns behind what has come to its column
 next_field : (column : ℕ) (text name content : List ℕ) → length (text ++ name) ≡ column - 11 + length name → 11 ≤ column →
     field column (text ++ name) content ≡ (text ++ padded 10 name) ++ content
@@ -40,9 +45,26 @@ pub type_fields : (letter : ℕ) (name : List ℕ) → type_line (letter ∷ [])
 unfolding type_line field
 type_fields letter name = refl
 
+-- a word's bytes, and two spaces
+abbrev pub word_field : ℕ → List ℕ
+word_field w = little_endian 8 w ++ (32 ∷ 32 ∷ [])
+
+-- they are the field of a name that the word has, with spaces up to 8 bytes
+pub field-of : (w : ℕ) (name : List ℕ) → length name ≤ 8 → little_endian 8 w ≡ padded 8 name → word_field w ≡ padded 10 name
+field-of w name h e = ap (λ (l : List ℕ). l ++ (32 ∷ 32 ∷ [])) e ∙ padded-more name h
+
+-- four spaces, and two words as fields
+abbrev pub word_fields : (first second : ℕ) → List ℕ
+word_fields first second = ((32 ∷ 32 ∷ 32 ∷ 32 ∷ []) ++ word_field first) ++ word_field second
+
 -- four spaces, and two fields
 abbrev pub fields : (name row : List ℕ) → List ℕ
 fields name row = ((32 ∷ 32 ∷ 32 ∷ 32 ∷ []) ++ padded 10 name) ++ padded 10 row
+
+pub fields-of : (first second : ℕ) (name row : List ℕ) → length name ≤ 8 → length row ≤ 8 → little_endian 8 first ≡ padded 8 name →
+    little_endian 8 second ≡ padded 8 row → word_fields first second ≡ fields name row
+fields-of first second name row h g e f =
+    ap₂ (λ (a b : List ℕ). ((32 ∷ 32 ∷ 32 ∷ 32 ∷ []) ++ a) ++ b) (field-of first name h e) (field-of second row g f)
 
 pub number_fields : (name row : List ℕ) (c : ℤ) → length name ≤ 8 → length row ≤ 8 →
     number_line name row c ≡ (fields name row ++ signed_text c) ++ (10 ∷ [])
@@ -66,10 +88,3 @@ unfolding upper_line field
 upper_fields v h =
     let before : List ℕ = 32 ∷ 85 ∷ 80 ∷ 32 ∷ 66 ∷ 78 ∷ 68 ∷ 32 ∷ 32 ∷ 32 ∷ 32 ∷ 32 ∷ 32 ∷ 32 ∷ [] in
     ap ended (next_field 25 before (variable_name v) (signed_text (pos 1)) (length-append before (variable_name v)) (omega arith))
-
--- what was written in one piece
-pub put_splice : {at k : ℕ} {xs l m : List ℕ} → m ≡ splice at xs l → k ≡ at + length xs → at + length xs ≤ length l → Put at xs l m k
-put_splice {at} {k} {xs} {l} e f h = record { content = e ∙ sym (sets_splice at xs l h); ends = f }
-
-pub put_as : {at k : ℕ} {xs ys l m : List ℕ} → xs ≡ ys → Put at xs l m k → Put at ys l m k
-put_as {at} {k} {l = l} {m} e p = rw e at p

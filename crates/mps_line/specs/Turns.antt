@@ -1,15 +1,16 @@
 -- A loop that puts the texts f 0, f 1, .. one after the other where there is room for them.
 use Rattle.std.specs.Prelude.{◌≡◌, List, ℕ, ◌+◌}
 use Rattle.std.proofs.Common.{sym}
+use Rattle.cursor.specs.declared.Cursor.{Cursor}
 use Rattle.lists.specs.Flat.{flat, flat-zero, flat-more}
 use Rattle.mps_line.specs.Emitted.{Emitted, emitted-none, emitted-also, emitted_as}
 
-module _ (f : ℕ → List ℕ) (at : ℕ) (l : List ℕ) where
-  pub turns_none : Emitted at (flat f 0) l l at
-  turns_none = emitted_as (sym (flat-zero f)) (emitted-none at l)
+module _ (f : ℕ → List ℕ) (a : Cursor) where
+  pub turns_none : Emitted (flat f 0) a a
+  turns_none = emitted_as (sym (flat-zero f)) (emitted-none a)
 
-  pub turns_more : {k next to : ℕ} {m n : List ℕ} → Emitted at (flat f k) l m next → Emitted next (f k) m n to → Emitted at (flat f (k + 1)) l n to
+  pub turns_more : {k : ℕ} {b c : Cursor} → Emitted (flat f k) a b → Emitted (f k) b c → Emitted (flat f (k + 1)) a c
   turns_more {k} d s = emitted_as (sym (flat-more f k)) (emitted-also d s)
 
-  pub turns_all : {k n to : ℕ} {m : List ℕ} → k ≡ n → Emitted at (flat f k) l m to → Emitted at (flat f n) l m to
+  pub turns_all : {k n : ℕ} {b : Cursor} → k ≡ n → Emitted (flat f k) a b → Emitted (flat f n) a b
   turns_all e s = rw e at s

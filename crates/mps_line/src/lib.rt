@@ -1,18 +1,21 @@
-// The lines of an MPS page. A line is put where there is room for it; the result is the place after it, with room or without.
+// The lines of an MPS page. A line is put where there is room for it, and the cursor then stands after it, with room or without.
 #![tactic(auto)]
 
 ghost use Rattle.std.specs.Prelude.{◌≡◌, List, [], ◌∷◌, ◌++◌, ℕ, ◌+◌, ◌*◌, ◌/◌, ◌%◌, ◌≤◌, ◌<◌, nat_abs, length};
+ghost use Rattle.cursor.specs.Puts.{Puts, Room};
 ghost use Rattle.endian.specs.Words.{little_endian};
 ghost use Rattle.text.specs.Decimal.{decimal, signed_text};
 ghost use Rattle.text.specs.DecimalLaws.{pair_text};
-ghost use Rattle.text.specs.Put.{Put};
 ghost use Rattle.mps.specs.Page.{type_line, number_line, binary_line, upper_line};
 ghost use Rattle.mps_line.specs.Names.{name_text, NameFits};
 ghost use Rattle.mps_line.specs.Bounds.{number_limit, line_limit, coefficient_limit, LinesFit};
 ghost use Rattle.mps_line.specs.Emitted.{Lines};
-ghost use Rattle.mps_line.specs.Fields.{padded, fields};
+ghost use Rattle.mps_line.specs.Fields.{padded, word_field, word_fields};
 ghost use Rattle.mps_line.specs.DigitWords.{after};
 ghost use Rattle.mps_line.specs.Units.{bit, one, unit_line};
+
+use cursor::Cursor;
+use text::put_decimal;
 
 // 2 to the power 56: the words below it have at most seven bytes.
 const SEVEN_BYTES: u64 = 1 << 56;
@@ -30,15 +33,16 @@ pub enum Name {
 }
 
 // Puts a text of a line's length or less.
-pub fn put_text(out: &mut [u8], at: usize, text: &[u8]) -> usize
-    requires { LinesFit at 1 × (length text.now ≤ line_limit) }
-    ensures { Lines 1 at text.now out.old out.new result }
+pub fn put_text(page: &mut Cursor, text: &[u8])
+    requires { LinesFit page.old.at 1 × (length text.now ≤ line_limit) }
+    ensures { Lines 1 text.now page.old page.new }
 {
-    let end = at + text.len();
-    if end <= out.len() {
-        text::put_bytes(out, at, text);
+    let past = page.at + text.len();
+    if page.out.len() < past {
+        page.at = past;
+        return;
     }
-    end
+    page.put_bytes(text);
 }
 
 // How many digits a number has.
@@ -129,87 +133,88 @@ fn name_word(name: Name) -> u64
 // ---- what a line is made of, put where there is room
 
 // A field of ten columns: the 8 bytes of a name's word, and two spaces.
-fn put_field(out: &mut [u8], at: usize, w: u64) -> usize
-    requires { at + 10 ≤ length out.old }
-    ensures { ((name : List ℕ) → length name ≤ 8 → little_endian 8 w ≡ padded 8 name →
-        Put at (padded 10 name) out.old out.new result) × (result ≡ at + 10) }
+fn put_field(page: &mut Cursor, w: u64)
+    requires { Room page.old 10 }
+    ensures { Puts (word_field w) page.old page.new }
 {
-    let next = endian::put_eight(out, at, w);
-    text::put_bytes(out, next, b"  ")
+    page.put(w.to_le_bytes());
+    page.put(*b"  ");
 }
 
 // Four spaces, and two fields.
-fn put_fields(out: &mut [u8], at: usize, first: u64, second: u64) -> usize
-    requires { at + 24 ≤ length out.old }
-    ensures { ((name row : List ℕ) → length name ≤ 8 → length row ≤ 8 → little_endian 8 first ≡ padded 8 name →
-        little_endian 8 second ≡ padded 8 row → Put at (fields name row) out.old out.new result) × (result ≡ at + 24) }
+fn put_fields(page: &mut Cursor, first: u64, second: u64)
+    requires { Room page.old 24 }
+    ensures { Puts (word_fields first second) page.old page.new }
 {
-    let name = text::put_bytes(out, at, b"    ");
-    let row = put_field(out, name, first);
-    put_field(out, row, second)
+    page.put(*b"    ");
+    put_field(page, first);
+    put_field(page, second);
 }
 
 // A letter and a number.
-fn put_lettered(out: &mut [u8], at: usize, letter: u8, n: usize) -> usize
-    requires { at + (1 + length (decimal n)) ≤ length out.old }
-    ensures { Put at (letter ∷ decimal n) out.old out.new result }
+fn put_lettered(page: &mut Cursor, letter: u8, n: usize)
+    requires { Room page.old (1 + length (decimal n)) }
+    ensures { Puts (letter ∷ decimal n) page.old page.new }
 {
-    let next = text::put_byte(out, at, letter);
-    text::put_decimal(out, next, n)
+    page.put_byte(letter);
+    put_decimal(page, n);
 }
 
-fn put_name(out: &mut [u8], at: usize, name: Name) -> usize
-    requires { at + length (name_text name) ≤ length out.old }
-    ensures { Put at (name_text name) out.old out.new result }
+fn put_name(page: &mut Cursor, name: Name)
+    requires { Room page.old (length (name_text name)) }
+    ensures { Puts (name_text name) page.old page.new }
 {
     match name {
-        Name::Cost => text::put_bytes(out, at, b"COST"),
-        Name::Rights => text::put_bytes(out, at, b"RHS"),
-        Name::Row(i) => put_lettered(out, at, b'R', i),
-        Name::Variable(v) => put_lettered(out, at, b'X', v),
+        Name::Cost => page.put(*b"COST"),
+        Name::Rights => page.put(*b"RHS"),
+        Name::Row(i) => put_lettered(page, b'R', i),
+        Name::Variable(v) => put_lettered(page, b'X', v),
     }
 }
 
-fn put_signed(out: &mut [u8], at: usize, c: i64) -> usize
-    requires { (at + length (signed_text c) ≤ length out.old) × (nat_abs c ≤ coefficient_limit) }
-    ensures { Put at (signed_text c) out.old out.new result }
+fn put_signed(page: &mut Cursor, c: i64)
+    requires { Room page.old (length (signed_text c)) × (nat_abs c ≤ coefficient_limit) }
+    ensures { Puts (signed_text c) page.old page.new }
 {
     let n = c.unsigned_abs() as usize;
     if c < 0 {
-        let next = text::put_byte(out, at, b'-');
-        return text::put_decimal(out, next, n);
+        page.put_byte(b'-');
+        put_decimal(page, n);
+        return;
     }
-    text::put_decimal(out, at, n)
+    put_decimal(page, n);
 }
 
 // ---- the lines
 
 // A row's type and name.
-pub fn put_type_line(out: &mut [u8], at: usize, letter: u8, name: Name) -> usize
-    requires { LinesFit at 1 × NameFits name }
-    ensures { Lines 1 at (type_line (letter ∷ []) (name_text name)) out.old out.new result }
+pub fn put_type_line(page: &mut Cursor, letter: u8, name: Name)
+    requires { LinesFit page.old.at 1 × NameFits name }
+    ensures { Lines 1 (type_line (letter ∷ []) (name_text name)) page.old page.new }
 {
-    let past = at + 5 + name_length(name);
-    if out.len() < past {
-        return past;
+    let past = page.at + 5 + name_length(name);
+    if page.out.len() < past {
+        page.at = past;
+        return;
     }
-    let first = text::put_bytes(out, at, &[b' ', letter, b' ', b' ']);
-    let end = put_name(out, first, name);
-    text::put_byte(out, end, b'\n')
+    page.put([b' ', letter, b' ', b' ']);
+    put_name(page, name);
+    page.put_byte(b'\n');
 }
 
 // A name, a row and a number.
-pub fn put_number_line(out: &mut [u8], at: usize, name: Name, row: Name, c: i64) -> usize
-    requires { LinesFit at 1 × NameFits name × NameFits row × (nat_abs c ≤ coefficient_limit) }
-    ensures { Lines 1 at (number_line (name_text name) (name_text row) c) out.old out.new result }
+pub fn put_number_line(page: &mut Cursor, name: Name, row: Name, c: i64)
+    requires { LinesFit page.old.at 1 × NameFits name × NameFits row × (nat_abs c ≤ coefficient_limit) }
+    ensures { Lines 1 (number_line (name_text name) (name_text row) c) page.old page.new }
 {
-    let past = at + 25 + signed_length(c);
-    if out.len() < past {
-        return past;
+    let past = page.at + 25 + signed_length(c);
+    if page.out.len() < past {
+        page.at = past;
+        return;
     }
-    let number = put_fields(out, at, name_word(name), name_word(row));
-    let end = put_signed(out, number, c);
-    text::put_byte(out, end, b'\n')
+    put_fields(page, name_word(name), name_word(row));
+    put_signed(page, c);
+    page.put_byte(b'\n');
 }
 
 // The length of a line with 1 or −1.
@@ -220,54 +225,57 @@ fn unit_length(up: bool) -> usize
 }
 
 // 1 or −1, and the line's end.
-fn put_one(out: &mut [u8], at: usize, up: bool) -> usize
-    requires { at + 3 ≤ length out.old + bit up }
-    ensures { Put at (signed_text (one up) ++ (10 ∷ [])) out.old out.new result }
+fn put_one(page: &mut Cursor, up: bool)
+    requires { page.old.at + 3 ≤ length page.old.out.now + bit up }
+    ensures { Puts (signed_text (one up) ++ (10 ∷ [])) page.old page.new }
 {
     if up {
-        text::put_bytes(out, at, b"1\n")
+        page.put(*b"1\n");
     } else {
-        text::put_bytes(out, at, b"-1\n")
+        page.put(*b"-1\n");
     }
 }
 
 // A variable, a row and 1 or −1.
-pub fn put_unit(out: &mut [u8], at: usize, v: usize, i: usize, up: bool) -> usize
-    requires { LinesFit at 1 × (v < number_limit) × (i < number_limit) }
-    ensures { Lines 1 at (unit_line v i up) out.old out.new result }
+pub fn put_unit(page: &mut Cursor, v: usize, i: usize, up: bool)
+    requires { LinesFit page.old.at 1 × (v < number_limit) × (i < number_limit) }
+    ensures { Lines 1 (unit_line v i up) page.old page.new }
 {
-    let past = at + unit_length(up);
-    if out.len() < past {
-        return past;
+    let past = page.at + unit_length(up);
+    if page.out.len() < past {
+        page.at = past;
+        return;
     }
-    let number = put_fields(out, at, lettered_word(b'X', v), lettered_word(b'R', i));
-    put_one(out, number, up)
+    put_fields(page, lettered_word(b'X', v), lettered_word(b'R', i));
+    put_one(page, up);
 }
 
 // The bound of an atom's variable.
-pub fn put_binary_line(out: &mut [u8], at: usize, v: usize) -> usize
-    requires { LinesFit at 1 × (v < number_limit) }
-    ensures { Lines 1 at (binary_line v) out.old out.new result }
+pub fn put_binary_line(page: &mut Cursor, v: usize)
+    requires { LinesFit page.old.at 1 × (v < number_limit) }
+    ensures { Lines 1 (binary_line v) page.old page.new }
 {
-    let past = at + 16 + digits_in(v);
-    if out.len() < past {
-        return past;
+    let past = page.at + 16 + digits_in(v);
+    if page.out.len() < past {
+        page.at = past;
+        return;
     }
-    let first = text::put_bytes(out, at, b" BV BND       ");
-    let end = put_lettered(out, first, b'X', v);
-    text::put_byte(out, end, b'\n')
+    page.put(*b" BV BND       ");
+    put_lettered(page, b'X', v);
+    page.put_byte(b'\n');
 }
 
 // The bound of a slack. (Its name has spaces behind it and a number; an atom's has not: one function for both would be no plainer.)
-pub fn put_upper_line(out: &mut [u8], at: usize, v: usize) -> usize
-    requires { LinesFit at 1 × (v < number_limit) }
-    ensures { Lines 1 at (upper_line v) out.old out.new result }
+pub fn put_upper_line(page: &mut Cursor, v: usize)
+    requires { LinesFit page.old.at 1 × (v < number_limit) }
+    ensures { Lines 1 (upper_line v) page.old page.new }
 {
-    let past = at + 26;
-    if out.len() < past {
-        return past;
+    let past = page.at + 26;
+    if page.out.len() < past {
+        page.at = past;
+        return;
     }
-    let first = text::put_bytes(out, at, b" UP BND       ");
-    let second = put_field(out, first, lettered_word(b'X', v));
-    text::put_bytes(out, second, b"1\n")
+    page.put(*b" UP BND       ");
+    put_field(page, lettered_word(b'X', v));
+    page.put(*b"1\n");
 }

@@ -13,6 +13,7 @@ ghost use Rattle.mps_slot.specs.Spots.{slot_rows, Windowed};
 ghost use Rattle.mps_node.specs.Places.{blocks_rows, Fit, KeptFit, BlocksAt};
 ghost use Rattle.mps_node.specs.Windows.{OverAt};
 
+use cursor::Cursor;
 use mps_row::{Spot, Text};
 use mps_window::Over;
 use row::Block;
@@ -68,73 +69,54 @@ fn slot_count(spot: Spot, over: Option<Over>) -> usize
 }
 
 // The lines of a block at t slots, from row `first` on.
-pub fn put_block(
-    out: &mut [u8],
-    at: usize,
-    text: Text,
-    first: usize,
-    block: Block,
-    t: u16,
-    l: u16,
-) -> usize
-    requires { LinesFit at block_lines × TextFits text × (first + block_lines ≤ number_limit) × (1 ≤ l) × (l ≤ t) × (t ≤ 64) × Fit t block }
-    ensures { Lines block_lines at (each_row (line_of text) first (block_rows block t l)) out.old out.new result }
+pub fn put_block(page: &mut Cursor, text: Text, first: usize, block: Block, t: u16, l: u16)
+    requires { LinesFit page.old.at block_lines × TextFits text × (first + block_lines ≤ number_limit) × (1 ≤ l) × (l ≤ t) × (t ≤ 64) × Fit t block }
+    ensures { Lines block_lines (each_row (line_of text) first (block_rows block t l)) page.old page.new }
 {
-    let mut next = at;
     let mut i = first;
     for s in 0..t {
         let spot = mps_row::spot_of(block, t, s);
         let over = over_at(block, t, l, s);
-        next = mps_slot::put_slot(out, next, text, i, spot, over);
+        mps_slot::put_slot(page, text, i, spot, over);
         i += slot_count(spot, over);
     }
-    next
 }
 
 // The lines of a node at t slots, from row `first` on: "All of a node's V rows, by slot, come before its P rows."
-fn put_node(
-    out: &mut [u8],
-    at: usize,
-    text: Text,
-    first: usize,
-    blocks: Blocks,
-    t: u16,
-    l: u16,
-) -> usize
-    requires { LinesFit at node_lines × TextFits text × (first + node_lines ≤ number_limit) × (1 ≤ l) × (l ≤ t) × (t ≤ 64)
+fn put_node(page: &mut Cursor, text: Text, first: usize, blocks: Blocks, t: u16, l: u16)
+    requires { LinesFit page.old.at node_lines × TextFits text × (first + node_lines ≤ number_limit) × (1 ≤ l) × (l ≤ t) × (t ≤ 64)
         × Fit t blocks.own × KeptFit t blocks.kept }
-    ensures { Lines node_lines at (each_row (line_of text) first (blocks_rows t l blocks)) out.old out.new result }
+    ensures { Lines node_lines (each_row (line_of text) first (blocks_rows t l blocks)) page.old page.new }
 {
     match blocks.kept {
-        None => put_block(out, at, text, first, blocks.own, t, l),
+        None => put_block(page, text, first, blocks.own, t, l),
         Some(kept) => {
-            let last = put_block(out, at, text, first, kept, t, l);
+            put_block(page, text, first, kept, t, l);
             let loops = kept.next.is_some();
             let rows = row::block_count(kept.kind, loops, t, l, kept.from, kept.to);
-            put_block(out, last, text, first + rows, blocks.own, t, l)
+            put_block(page, text, first + rows, blocks.own, t, l)
         }
     }
 }
 
 // The lines of all rows of a checked table.
-pub fn put_all(out: &mut [u8], at: usize, text: Text, plan: Plan) -> usize
-    requires { LinesFit at table_lines × TextFits text }
-    ensures { Lines table_lines at (each_row (line_of text) 0 (rows_of plan.entry.t plan.entry.m plan.entry.l (nodes_in plan.entry.table.now)))
-        out.old out.new result }
+pub fn put_all(page: &mut Cursor, text: Text, plan: Plan)
+    requires { LinesFit page.old.at table_lines × TextFits text }
+    ensures { Lines table_lines (each_row (line_of text) 0 (rows_of plan.entry.t plan.entry.m plan.entry.l (nodes_in plan.entry.table.now)))
+        page.old page.new }
 {
     let t = plan.t as u16;
     let l = plan.l as u16;
-    let mut next = at;
     let mut first: usize = 0;
     let mut looping: usize = 0;
     for n in 0..plan.nodes {
         let v = row::first_variable(plan.m + plan.nodes + looping, plan.t);
         let blocks = blocks_at(plan, n, v);
         let own = blocks.own;
-        next = put_node(out, next, text, first, blocks, t, l);
+        put_node(page, text, first, blocks, t, l);
         first += row::node_count(own.kind, t, l, own.from, own.to);
         looping = table::one_more(looping, plan.loops(n));
     }
     let goal = row::goal(row::slack(plan.t, plan.m, plan.nodes - 1, 1));
-    mps_row::put_row(out, next, text, first, goal)
+    mps_row::put_row(page, text, first, goal);
 }

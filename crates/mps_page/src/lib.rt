@@ -1,7 +1,8 @@
 // The fixed-column MPS page of a table's rows.
 #![tactic(auto)]
 
-ghost use Rattle.std.specs.Prelude.{◌≡◌, ◌+◌, ◌*◌, length};
+ghost use Rattle.std.specs.Prelude.{◌≡◌, ◌+◌, ◌*◌, ◌≤◌, length};
+ghost use Rattle.std.proofs.lemmas.List.Edits.{sets};
 ghost use Rattle.rules.specs.Rows.{variable_count, rows_of};
 ghost use Rattle.rules.specs.TableTest.{nodes_in};
 ghost use Rattle.rules.specs.Outcome.{returned, buffer};
@@ -13,29 +14,40 @@ ghost use Rattle.mps.specs.Outcome.{page_outcome};
 ghost use Rattle.mps_page.specs.Answers.{page_answer, Short};
 
 use answers::Refusal;
+use cursor::Cursor;
 use table::Plan;
 
 // COLUMNS: the lines of each variable.
-fn put_columns(out: &mut [u8], at: usize, plan: Plan) -> usize
-    requires { LinesFit at (1 + all_parts * part_lines) }
-    ensures { Lines (1 + all_parts * part_lines) at (column_section (variable_count plan.entry.t plan.entry.m plan.entry.l (nodes_in plan.entry.table.now))
-        (rows_of plan.entry.t plan.entry.m plan.entry.l (nodes_in plan.entry.table.now))) out.old out.new result }
+fn put_columns(page: &mut Cursor, plan: Plan)
+    requires { LinesFit page.old.at (1 + all_parts * part_lines) }
+    ensures { Lines (1 + all_parts * part_lines) (column_section (variable_count plan.entry.t plan.entry.m plan.entry.l (nodes_in plan.entry.table.now))
+        (rows_of plan.entry.t plan.entry.m plan.entry.l (nodes_in plan.entry.table.now))) page.old page.new }
 {
-    let first = mps_line::put_text(out, at, b"COLUMNS\n");
-    mps_columns::put_columns(out, first, plan)
+    mps_line::put_text(page, b"COLUMNS\n");
+    mps_columns::put_columns(page, plan);
 }
 
-// Puts the page of a checked table at the start of `out`, where there is room for it, and returns its length.
-fn put_page(out: &mut [u8], plan: Plan) -> usize
-    ensures { Emitted 0 (page plan.entry.t plan.entry.m plan.entry.l (nodes_in plan.entry.table.now)) out.old out.new result }
+// Puts the page of a checked table at the start of the buffer, where there is room for it.
+fn put_page(cursor: &mut Cursor, plan: Plan)
+    requires { cursor.old.at ≡ 0 }
+    ensures { Emitted (page plan.entry.t plan.entry.m plan.entry.l (nodes_in plan.entry.table.now)) cursor.old cursor.new }
 {
     let Plan { nodes, t, m, .. } = plan;
-    let columns = mps_sections::put_rows(out, 0, plan);
-    let rights = put_columns(out, columns, plan);
-    let bounds = mps_sections::put_rights(out, rights, plan);
+    mps_sections::put_rows(cursor, plan);
+    put_columns(cursor, plan);
+    mps_sections::put_rights(cursor, plan);
     let atoms = usize::from(row::first_variable(m, t));
     let variables = usize::from(row::first_variable(m + nodes + plan.kept_count(), t));
-    mps_sections::put_bounds(out, bounds, atoms, variables)
+    mps_sections::put_bounds(cursor, atoms, variables);
+}
+
+// Writes the page at the start of a buffer that has room for it.
+fn write_page(out: &mut [u8], plan: Plan)
+    requires { length (page plan.t plan.m plan.l (nodes_in plan.table.now)) ≤ length out.old }
+    ensures { out.new ≡ sets out.old 0 (page plan.entry.t plan.entry.m plan.entry.l (nodes_in plan.entry.table.now)) }
+{
+    let mut cursor = Cursor { out, at: 0 };
+    put_page(&mut cursor, plan);
 }
 
 // Writes the page, where there is room.
@@ -48,7 +60,7 @@ fn write_checked(plan: Plan, out: &mut [u8]) -> Result<usize, Refusal>
     if out.len() < length {
         return Err(Refusal::Room);
     }
-    put_page(out, plan);
+    write_page(out, plan);
     Ok(length)
 }
 

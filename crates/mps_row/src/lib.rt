@@ -12,6 +12,7 @@ ghost use Rattle.row.specs.Placed.{Placed};
 ghost use Rattle.mps_row.specs.Spots.{spot_at};
 ghost use Rattle.mps_row.specs.Texts.{type_letter, line_of, TextFits};
 
+use cursor::Cursor;
 use mps_line::Name;
 use row::{Block, Relation, Row, Term, Terms};
 use table::Kind;
@@ -82,26 +83,26 @@ fn letter(relation: Relation) -> u8
 }
 
 // A line with the number c of row i, unless it is 0.
-fn put_unless_zero(out: &mut [u8], at: usize, name: Name, i: usize, c: i64) -> usize
-    requires { LinesFit at 1 × NameFits name × (i < number_limit) × (nat_abs c ≤ 3 * 128) }
-    ensures { Lines 1 at (number_unless_zero (name_text name) i c) out.old out.new result }
+fn put_unless_zero(page: &mut Cursor, name: Name, i: usize, c: i64)
+    requires { LinesFit page.old.at 1 × NameFits name × (i < number_limit) × (nat_abs c ≤ 3 * 128) }
+    ensures { Lines 1 (number_unless_zero (name_text name) i c) page.old page.new }
 {
     if c == 0 {
-        return at;
+        return;
     }
-    mps_line::put_number_line(out, at, name, Name::Row(i), c)
+    mps_line::put_number_line(page, name, Name::Row(i), c);
 }
 
 // The line of row i.
-pub fn put_row(out: &mut [u8], at: usize, text: Text, i: usize, row: Row) -> usize
-    requires { LinesFit at 1 × TextFits text × (i < number_limit) }
-    ensures { Lines 1 at (line_of text i (row_of row)) out.old out.new result }
+pub fn put_row(page: &mut Cursor, text: Text, i: usize, row: Row)
+    requires { LinesFit page.old.at 1 × TextFits text × (i < number_limit) }
+    ensures { Lines 1 (line_of text i (row_of row)) page.old page.new }
 {
     match text {
-        Text::Typed => mps_line::put_type_line(out, at, letter(row.relation), Name::Row(i)),
-        Text::Right => put_unless_zero(out, at, Name::Rights, i, i64::from(row.right)),
+        Text::Typed => mps_line::put_type_line(page, letter(row.relation), Name::Row(i)),
+        Text::Right => put_unless_zero(page, Name::Rights, i, i64::from(row.right)),
         Text::Entry(v) => {
-            put_unless_zero(out, at, Name::Variable(v), i, coefficient_in(row.terms, v))
+            put_unless_zero(page, Name::Variable(v), i, coefficient_in(row.terms, v))
         }
     }
 }

@@ -12,21 +12,20 @@ ghost use Rattle.mps_row.specs.Spots.{spot_rows};
 ghost use Rattle.mps_row.specs.Texts.{line_of, TextFits};
 ghost use Rattle.mps_slot.specs.Spots.{slot_rows, Windowed};
 
+use cursor::Cursor;
 use mps_row::{Spot, Text};
 use mps_window::Over;
 use row::Row;
 use table::Kind;
 
 // The lines of rows, one after the other, from row i on.
-fn put_rows(out: &mut [u8], at: usize, text: Text, i: usize, rows: &[Row]) -> usize
-    requires { LinesFit at (length rows.now) × TextFits text × (i + length rows.now ≤ number_limit) }
-    ensures { Lines (length rows.now) at (each_row (line_of text) i (map row_of rows.now)) out.old out.new result }
+fn put_rows(page: &mut Cursor, text: Text, i: usize, rows: &[Row])
+    requires { LinesFit page.old.at (length rows.now) × TextFits text × (i + length rows.now ≤ number_limit) }
+    ensures { Lines (length rows.now) (each_row (line_of text) i (map row_of rows.now)) page.old page.new }
 {
-    let mut next = at;
     for (j, row) in rows.iter().enumerate() {
-        next = mps_row::put_row(out, next, text, i + j, *row);
+        mps_row::put_row(page, text, i + j, *row);
     }
-    next
 }
 
 // p − P ≥ 0; q − P ≥ 0; P − p − q ≥ −1
@@ -75,9 +74,9 @@ fn until_rows(node: u16, p: u16, q: u16, next: u16) -> [Row; 4]
 }
 
 // The lines of the rows of a node without a window.
-fn put_plain(out: &mut [u8], at: usize, text: Text, i: usize, spot: Spot) -> usize
-    requires { LinesFit at plain_lines × TextFits text × (i + plain_lines ≤ number_limit) × Plain spot.kind }
-    ensures { Lines plain_lines at (each_row (line_of text) i (spot_rows spot [])) out.old out.new result }
+fn put_plain(page: &mut Cursor, text: Text, i: usize, spot: Spot)
+    requires { LinesFit page.old.at plain_lines × TextFits text × (i + plain_lines ≤ number_limit) × Plain spot.kind }
+    ensures { Lines plain_lines (each_row (line_of text) i (spot_rows spot [])) page.old page.new }
 {
     let Spot {
         kind,
@@ -87,41 +86,34 @@ fn put_plain(out: &mut [u8], at: usize, text: Text, i: usize, spot: Spot) -> usi
         next,
     } = spot;
     match kind {
-        Kind::Atom => put_rows(out, at, text, i, &[row::same(own, left)]),
-        Kind::Not => put_rows(out, at, text, i, &[row::opposite(own, left)]),
-        Kind::And => put_rows(out, at, text, i, &and_rows(own, left, right)),
-        Kind::Or => put_rows(out, at, text, i, &or_rows(own, left, right)),
-        Kind::Implies => put_rows(out, at, text, i, &implies_rows(own, left, right)),
+        Kind::Atom => put_rows(page, text, i, &[row::same(own, left)]),
+        Kind::Not => put_rows(page, text, i, &[row::opposite(own, left)]),
+        Kind::And => put_rows(page, text, i, &and_rows(own, left, right)),
+        Kind::Or => put_rows(page, text, i, &or_rows(own, left, right)),
+        Kind::Implies => put_rows(page, text, i, &implies_rows(own, left, right)),
         Kind::Eventually => match next {
-            Some(next) => put_rows(out, at, text, i, &or_rows(own, left, next)),
-            None => put_rows(out, at, text, i, &[row::same(own, left)]),
+            Some(next) => put_rows(page, text, i, &or_rows(own, left, next)),
+            None => put_rows(page, text, i, &[row::same(own, left)]),
         },
         Kind::Always => match next {
-            Some(next) => put_rows(out, at, text, i, &and_rows(own, left, next)),
-            None => put_rows(out, at, text, i, &[row::same(own, left)]),
+            Some(next) => put_rows(page, text, i, &and_rows(own, left, next)),
+            None => put_rows(page, text, i, &[row::same(own, left)]),
         },
         Kind::Until => match next {
-            Some(next) => put_rows(out, at, text, i, &until_rows(own, left, right, next)),
-            None => put_rows(out, at, text, i, &[row::same(own, right)]),
+            Some(next) => put_rows(page, text, i, &until_rows(own, left, right, next)),
+            None => put_rows(page, text, i, &[row::same(own, right)]),
         },
-        Kind::Within | Kind::Throughout => at,
+        Kind::Within | Kind::Throughout => {}
     }
 }
 
 // The lines of the rows of a node at a slot, from row i on: those of its window there, if it has one.
-pub fn put_slot(
-    out: &mut [u8],
-    at: usize,
-    text: Text,
-    i: usize,
-    spot: Spot,
-    over: Option<Over>,
-) -> usize
-    requires { LinesFit at slot_lines × TextFits text × (i + slot_lines ≤ number_limit) × Windowed spot over }
-    ensures { Lines slot_lines at (each_row (line_of text) i (slot_rows spot over)) out.old out.new result }
+pub fn put_slot(page: &mut Cursor, text: Text, i: usize, spot: Spot, over: Option<Over>)
+    requires { LinesFit page.old.at slot_lines × TextFits text × (i + slot_lines ≤ number_limit) × Windowed spot over }
+    ensures { Lines slot_lines (each_row (line_of text) i (slot_rows spot over)) page.old page.new }
 {
     match over {
-        Some(over) => mps_window::put_window(out, at, text, i, over),
-        None => put_plain(out, at, text, i, spot),
+        Some(over) => mps_window::put_window(page, text, i, over),
+        None => put_plain(page, text, i, spot),
     }
 }

@@ -2,11 +2,11 @@
 // G has p(s) − P ≥ 0 for each s, then P less all p(s) ≥ −(k − 1)."
 #![tactic(auto)]
 
-ghost use Rattle.std.specs.Prelude.{ℕ, List, not, ◌++◌, ◌+◌, ◌-◌, ◌≤◌, ◌<◌};
+ghost use Rattle.std.specs.Prelude.{not, ◌++◌, ◌+◌, ◌-◌, ◌≤◌, ◌<◌};
 ghost use Rattle.lists.specs.Flat.{flat};
 ghost use Rattle.mps.specs.Words.{G, RHS};
 ghost use Rattle.mps.specs.Page.{row_name, type_line, number_unless_zero, entry_line, each_row};
-ghost use Rattle.mps_line.specs.Bounds.{number_limit, line_limit, LinesFit, slot_lines};
+ghost use Rattle.mps_line.specs.Bounds.{number_limit, LinesFit, slot_lines};
 ghost use Rattle.mps_line.specs.Emitted.{Lines};
 ghost use Rattle.mps_line.specs.Units.{unit_line};
 ghost use Rattle.mps_row.specs.Texts.{line_of, TextFits};
@@ -16,62 +16,43 @@ ghost use Rattle.mps_window.specs.Places.{rows_over, Placed};
 
 mod over;
 
+use cursor::Cursor;
 use mps_line::Name;
 use mps_row::Text;
 pub use over::Over;
 use window::Looks;
 
-// `count` lines, the j-th of them as `put_line` puts it.
-fn put_each<F: Fn(&mut [u8], usize, usize) -> usize>(
-    out: &mut [u8],
-    at: usize,
-    count: usize,
-    put_line: F,
-) -> usize
-    requires fits { LinesFit at count }
-    requires bounded { (o : _) (p j r : ℕ) (after : _) → j < count → F.post put_line o p j r after → r ≤ p + line_limit }
-    requires callable { (o : _) (p j : ℕ) → LinesFit p 1 → j < count → F.pre put_line o p j }
-    ensures { (f : ℕ → List ℕ) → ((o : _) (p j r : ℕ) (after : _) → j < count → F.post put_line o p j r after → Lines 1 p (f j) o.now after.now r)
-        → Lines count at (flat f count) out.old out.new result }
-{
-    let mut next = at;
-    for j in 0..count {
-        next = put_line(out, next, j);
-    }
-    next
-}
-
 // ROWS: `count` rows of type G from row i on.
-fn put_types(out: &mut [u8], at: usize, i: usize, count: usize) -> usize
-    requires { LinesFit at count × (i + count ≤ number_limit) }
-    ensures { Lines count at (flat (λ j. type_line G (row_name (i + j))) count) out.old out.new result }
+fn put_types(page: &mut Cursor, i: usize, count: usize)
+    requires { LinesFit page.old.at count × (i + count ≤ number_limit) }
+    ensures { Lines count (flat (λ j. type_line G (row_name (i + j))) count) page.old page.new }
 {
-    put_each(out, at, count, |out, at, j| {
-        mps_line::put_type_line(out, at, b'G', Name::Row(i + j))
-    })
+    for j in 0..count {
+        mps_line::put_type_line(page, b'G', Name::Row(i + j));
+    }
 }
 
 // RHS: the right side of the last row, −(k − 1) for G, where it is not 0.
-fn put_right(out: &mut [u8], at: usize, i: usize, over: Over) -> usize
-    requires { LinesFit at 1 × (i < number_limit) }
-    ensures { Lines 1 at (number_unless_zero RHS i (last_right (window_by over.within) over.looks.count)) out.old out.new result }
+fn put_right(page: &mut Cursor, i: usize, over: Over)
+    requires { LinesFit page.old.at 1 × (i < number_limit) }
+    ensures { Lines 1 (number_unless_zero RHS i (last_right (window_by over.within) over.looks.count)) page.old page.new }
 {
     let count = over.looks.count;
     if over.within || count == 1 {
-        return at;
+        return;
     }
     let right = i64::from(row::less_one(count));
-    mps_line::put_number_line(out, at, Name::Rights, Name::Row(i), right)
+    mps_line::put_number_line(page, Name::Rights, Name::Row(i), right);
 }
 
 // Entries of the same number in `count` rows from row i on.
-fn put_units(out: &mut [u8], at: usize, v: usize, i: usize, up: bool, count: usize) -> usize
-    requires { LinesFit at count × (v < number_limit) × (i + count ≤ number_limit) }
-    ensures { Lines count at (flat (λ j. unit_line v (i + j) up) count) out.old out.new result }
+fn put_units(page: &mut Cursor, v: usize, i: usize, up: bool, count: usize)
+    requires { LinesFit page.old.at count × (v < number_limit) × (i + count ≤ number_limit) }
+    ensures { Lines count (flat (λ j. unit_line v (i + j) up) count) page.old page.new }
 {
-    put_each(out, at, count, |out, at, j| {
-        mps_line::put_unit(out, at, v, i + j, up)
-    })
+    for j in 0..count {
+        mps_line::put_unit(page, v, i + j, up);
+    }
 }
 
 // Which of a window's slots a variable stands at, if it is the part's there.
@@ -91,49 +72,49 @@ fn place_of(looks: Looks, left: u16, v: usize) -> Option<usize>
 }
 
 // The entries of the node's own variable: in every row.
-fn put_own(out: &mut [u8], at: usize, v: usize, i: usize, over: Over) -> usize
-    requires { LinesFit at slot_lines × (v < number_limit) × (i + slot_lines ≤ number_limit) }
-    ensures { Lines slot_lines at (flat (λ j. unit_line v (i + j) over.within) over.looks.count
-        ++ unit_line v (i + over.looks.count) (not over.within)) out.old out.new result }
+fn put_own(page: &mut Cursor, v: usize, i: usize, over: Over)
+    requires { LinesFit page.old.at slot_lines × (v < number_limit) × (i + slot_lines ≤ number_limit) }
+    ensures { Lines slot_lines (flat (λ j. unit_line v (i + j) over.within) over.looks.count
+        ++ unit_line v (i + over.looks.count) (not over.within)) page.old page.new }
 {
     let count = usize::from(over.looks.count);
-    let last = put_units(out, at, v, i, over.within, count);
-    mps_line::put_unit(out, last, v, i + count, !over.within)
+    put_units(page, v, i, over.within, count);
+    mps_line::put_unit(page, v, i + count, !over.within);
 }
 
 // The entries of the part's variable at the j-th slot of the window: in that slot's row and in the last one.
-fn put_part(out: &mut [u8], at: usize, v: usize, i: usize, over: Over, j: usize) -> usize
-    requires { LinesFit at slot_lines × (v < number_limit) × (i + slot_lines ≤ number_limit) × (j < over.looks.count) }
-    ensures { Lines slot_lines at (unit_line v (i + j) (not over.within) ++ unit_line v (i + over.looks.count) over.within)
-        out.old out.new result }
+fn put_part(page: &mut Cursor, v: usize, i: usize, over: Over, j: usize)
+    requires { LinesFit page.old.at slot_lines × (v < number_limit) × (i + slot_lines ≤ number_limit) × (j < over.looks.count) }
+    ensures { Lines slot_lines (unit_line v (i + j) (not over.within) ++ unit_line v (i + over.looks.count) over.within)
+        page.old page.new }
 {
-    let last = mps_line::put_unit(out, at, v, i + j, !over.within);
-    mps_line::put_unit(out, last, v, i + usize::from(over.looks.count), over.within)
+    mps_line::put_unit(page, v, i + j, !over.within);
+    mps_line::put_unit(page, v, i + usize::from(over.looks.count), over.within);
 }
 
 // The column of variable v: the node's own, the part's at one of the window's slots, or another.
-pub fn put_entries(out: &mut [u8], at: usize, v: usize, i: usize, over: Over) -> usize
-    requires { LinesFit at slot_lines × (v < number_limit) × (i + slot_lines ≤ number_limit) }
-    ensures { Lines slot_lines at (each_row (entry_line v) i (rows_over over)) out.old out.new result }
+pub fn put_entries(page: &mut Cursor, v: usize, i: usize, over: Over)
+    requires { LinesFit page.old.at slot_lines × (v < number_limit) × (i + slot_lines ≤ number_limit) }
+    ensures { Lines slot_lines (each_row (entry_line v) i (rows_over over)) page.old page.new }
 {
     if v == usize::from(over.own) {
-        return put_own(out, at, v, i, over);
+        return put_own(page, v, i, over);
     }
     match place_of(over.looks, over.left, v) {
-        None => at,
-        Some(j) => put_part(out, at, v, i, over, j),
+        None => {}
+        Some(j) => put_part(page, v, i, over, j),
     }
 }
 
 // The lines of a window's rows from row i on: a row for each slot, and the last row.
-pub fn put_window(out: &mut [u8], at: usize, text: Text, i: usize, over: Over) -> usize
-    requires { LinesFit at slot_lines × TextFits text × (i + slot_lines ≤ number_limit) }
-    ensures { Lines slot_lines at (each_row (line_of text) i (rows_over over)) out.old out.new result }
+pub fn put_window(page: &mut Cursor, text: Text, i: usize, over: Over)
+    requires { LinesFit page.old.at slot_lines × TextFits text × (i + slot_lines ≤ number_limit) }
+    ensures { Lines slot_lines (each_row (line_of text) i (rows_over over)) page.old page.new }
 {
     let count = usize::from(over.looks.count);
     match text {
-        Text::Typed => put_types(out, at, i, count + 1),
-        Text::Right => put_right(out, at, i + count, over),
-        Text::Entry(v) => put_entries(out, at, v, i, over),
+        Text::Typed => put_types(page, i, count + 1),
+        Text::Right => put_right(page, i + count, over),
+        Text::Entry(v) => put_entries(page, v, i, over),
     }
 }

@@ -3,7 +3,7 @@
 
 ghost use Rattle.std.specs.Prelude.{◌≡◌, ◌≤◌, length};
 ghost use Rattle.std.proofs.lemmas.List.Edits.{sets};
-ghost use Rattle.text.specs.Put.{Put};
+ghost use Rattle.cursor.specs.Put.{Put};
 ghost use Rattle.program_input.specs.Scanning.{state};
 ghost use Rattle.program_rule.specs.Sizes.{refusal_room};
 ghost use Rattle.program_rule.specs.Shown.{shown};

@@ -15,7 +15,8 @@ use Rattle.rules.specs.Demands.{Answer}
 use Rattle.rules.specs.Demands.Answer.{refused, answered}
 use Rattle.rules.specs.Outcome.{between, returned, buffer}
 use Rattle.rules.proofs.Exactness.Tests.{between-true}
-use Rattle.text.specs.Put.{Put}
+use Rattle.cursor.specs.Put.{Put}
+use Rattle.cursor.specs.declared.Cursor.{Cursor}
 use Rattle.table.specs.Checks.{good-nodes-at}
 use Rattle.printer_text.specs.Shown.{shown}
 use Rattle.printer_text.specs.Outcome.{root_text, print_outcome}
@@ -72,11 +73,11 @@ module _ (M : ℕ) (table out : List ℕ) where
                 let j = lt-leb (length (root_text table)) (length out) (omega (arith, long-is)) in
                 record { r_value = rw (m, g, k, j) refl; out_after = rw (m, g, k, j) refl }
 
-            pub putting : n ≤ length out → Putting table (c - 1) 0 0 out
-            putting h = record {
+            pub putting : n ≤ length out → (page : Cursor) → page.at ≡ 0 → page.out.now ≡ out → Putting table (c - 1) 0 page
+            putting h page start same = record {
               printable = printable;
               inside = omega (arith, some-nodes);
-              room = omega (arith, ap length text-is, long-is);
+              room = omega (arith, start, ap length same, ap length text-is, long-is);
             }
 
             pub text-printed : n ≤ length out → {after : List ℕ} {next : ℕ} → Put 0 (shown 0 (rule_at (nodes_in table) (c - 1))) out after next →

@@ -7,6 +7,7 @@ ghost use Rattle.answers.specs.Meaning.{answer_of};
 ghost use Rattle.printer_text.specs.Outcome.{print_outcome};
 
 use answers::Refusal;
+use cursor::Cursor;
 use printer_node::Level;
 
 // The largest text that is printed, in bytes: the largest that the reader takes.
@@ -31,6 +32,6 @@ pub fn print(table: &[u8], m: usize, out: &mut [u8]) -> Result<usize, Refusal>
     if out.len() < length {
         return Err(Refusal::Room);
     }
-    printer_node::put_node(table, root, Level::Rule, out, 0);
+    printer_node::put_node(table, root, Level::Rule, &mut Cursor { out, at: 0 });
     Ok(length)
 }

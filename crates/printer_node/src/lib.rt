@@ -1,14 +1,15 @@
-// The text of a node where a level is wanted: how many bytes it takes, and putting it into a lent buffer.
+// The text of a node where a level is wanted: how many bytes it takes, and putting it behind a cursor.
 #![tactic(auto)]
 
 ghost use Rattle.std.specs.Prelude.{◌≡◌, ◌∷◌, ◌+◌, ◌-◌, ◌≤◌, ◌<◌, ltb, length, SomeIff};
 ghost use Rattle.rules.specs.TableTest.{record_count};
-ghost use Rattle.text.specs.Put.{Put};
+ghost use Rattle.cursor.specs.Puts.{Puts, Room};
 ghost use Rattle.text.specs.Decimal.{decimal};
 ghost use Rattle.printer_text.specs.Shown.{span_text};
 ghost use Rattle.printer_node.specs.Shapes.{grade_of, node_text, tighter, prefixed, paired, piece, head_text, shape_by, Printable, Shaped, HeadLow};
 ghost use Rattle.printer_node.specs.Putting.{Putting};
 
+use cursor::Cursor;
 use table::{Kind, Node};
 
 // The levels of the grammar, from the loosest on: an operator between two parts binds as tight as its level.
@@ -168,67 +169,64 @@ pub fn spend(table: &[u8], n: usize, k: Level, room: usize) -> Option<usize>
 }
 
 // A byte, if it is wanted.
-fn put_if(out: &mut [u8], at: usize, byte: u8, wanted: bool) -> usize
-    requires { at + length (piece wanted byte) ≤ length out.old }
-    ensures { Put at (piece wanted byte) out.old out.new result }
+fn put_if(page: &mut Cursor, byte: u8, wanted: bool)
+    requires { Room page.old (length (piece wanted byte)) }
+    ensures { Puts (piece wanted byte) page.old page.new }
 {
     if wanted {
-        text::put_byte(out, at, byte)
-    } else {
-        at
+        page.put_byte(byte);
     }
 }
 
-fn put_atom(out: &mut [u8], at: usize, a: usize) -> usize
-    requires { at + length (97 ∷ decimal a) ≤ length out.old }
-    ensures { Put at (97 ∷ decimal a) out.old out.new result }
+fn put_atom(page: &mut Cursor, a: usize)
+    requires { Room page.old (length (97 ∷ decimal a)) }
+    ensures { Puts (97 ∷ decimal a) page.old page.new }
 {
-    let next = text::put_byte(out, at, b'a');
-    text::put_decimal(out, next, a)
+    page.put_byte(b'a');
+    text::put_decimal(page, a);
 }
 
 // A window [a,b].
-fn put_span(out: &mut [u8], at: usize, a: usize, b: usize) -> usize
-    requires { at + length (span_text a b) ≤ length out.old }
-    ensures { Put at (span_text a b) out.old out.new result }
+fn put_span(page: &mut Cursor, a: usize, b: usize)
+    requires { Room page.old (length (span_text a b)) }
+    ensures { Puts (span_text a b) page.old page.new }
 {
-    let first = text::put_byte(out, at, b'[');
-    let second = text::put_decimal(out, first, a);
-    let third = text::put_byte(out, second, b',');
-    let fourth = text::put_decimal(out, third, b);
-    text::put_byte(out, fourth, b']')
+    page.put_byte(b'[');
+    text::put_decimal(page, a);
+    page.put_byte(b',');
+    text::put_decimal(page, b);
+    page.put_byte(b']');
 }
 
 // An operator before its part.
-fn put_head(out: &mut [u8], at: usize, x: Prefix) -> usize
-    requires { at + length (head_text x) ≤ length out.old }
-    ensures { Put at (head_text x) out.old out.new result }
+fn put_head(page: &mut Cursor, x: Prefix)
+    requires { Room page.old (length (head_text x)) }
+    ensures { Puts (head_text x) page.old page.new }
 {
-    let next = text::put_byte(out, at, x.letter);
-    match x.window {
-        Some(window) => put_span(out, next, window.from, window.to),
-        None => next,
+    page.put_byte(x.letter);
+    if let Some(window) = x.window {
+        put_span(page, window.from, window.to);
     }
 }
 
 // Node n's text where a level k is wanted: the printer calls itself on the children, and the node number falls at each call.
-pub fn put_node(table: &[u8], n: usize, k: Level, out: &mut [u8], at: usize) -> usize
-    requires { Putting table.now n (grade_of k) at out.old }
-    ensures { Put at (node_text table.now n k) out.old out.new result }
+pub fn put_node(table: &[u8], n: usize, k: Level, page: &mut Cursor)
+    requires { Putting table.now n (grade_of k) page.old }
+    ensures { Puts (node_text table.now n k) page.old page.new }
 {
     match shape_at(table, n) {
-        Shape::Leaf(a) => put_atom(out, at, a),
+        Shape::Leaf(a) => put_atom(page, a),
         Shape::Prefixed(x) => {
-            let next = put_head(out, at, x);
-            put_node(table, x.child, Level::Single, out, next)
+            put_head(page, x);
+            put_node(table, x.child, Level::Single, page);
         }
         Shape::Paired(x) => {
             let wanted = bracketed(x.level, k);
-            let first = put_if(out, at, b'(', wanted);
-            let second = put_node(table, x.left, tighter(x.level), out, first);
-            let third = text::put_byte(out, second, x.sign);
-            let fourth = put_node(table, x.right, x.level, out, third);
-            put_if(out, fourth, b')', wanted)
+            put_if(page, b'(', wanted);
+            put_node(table, x.left, tighter(x.level), page);
+            page.put_byte(x.sign);
+            put_node(table, x.right, x.level, page);
+            put_if(page, b')', wanted);
         }
     }
 }

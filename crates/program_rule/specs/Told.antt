@@ -6,7 +6,7 @@ use Rattle.rules.specs.Demands.Answer.{refused, answered}
 use Rattle.rules.specs.Demands.Written.{wrote}
 use Rattle.answers.specs.declared.Refusal.{Refusal}
 use Rattle.answers.specs.Meaning.{number_of}
-use Rattle.text.specs.Put.{Put}
+use Rattle.cursor.specs.Put.{Put}
 use Rattle.program_input.specs.Lines.{line, after_line, FirstLine}
 use Rattle.program_input.specs.Scanning.{State, shaped}
 use Rattle.program_input.proofs.Exact.{first_line?}

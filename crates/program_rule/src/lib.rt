@@ -5,7 +5,7 @@ ghost use Rattle.std.specs.Prelude.{◌≡◌, ℕ, List, ◌≤◌, length};
 ghost use Rattle.rules.specs.Demands.{Answer};
 ghost use Rattle.rules.specs.Outcome.{returned, buffer};
 ghost use Rattle.answers.specs.Meaning.{number_of, answer_of};
-ghost use Rattle.text.specs.Put.{Put};
+ghost use Rattle.cursor.specs.Put.{Put};
 ghost use Rattle.program_input.specs.Scanning.{state};
 ghost use Rattle.program_rule.specs.Sizes.{node_room, table_room, refusal_room};
 ghost use Rattle.program_rule.specs.Output.{refused_text, bad_input};
@@ -14,8 +14,8 @@ ghost use Rattle.program_rule.specs.Shown.{shown};
 ghost use Rattle.program_rule.specs.Told.{printed_of, Told};
 
 use answers::Refusal;
+use cursor::Cursor;
 use program_input::Scan;
-use text::{put_bytes, put_decimal};
 
 // The bytes of a table, and of what is kept of line 2. Contracts call them `table_room` and `text_room`.
 pub const TABLE: usize = 1024;
@@ -28,9 +28,11 @@ pub fn put_refusal(out: &mut [u8], refusal: Refusal) -> usize
     requires { refusal_room ≤ length out.old }
     ensures { Put 0 (refused_text (number_of refusal)) out.old out.new result × (result ≤ refusal_room) }
 {
-    let a = put_bytes(out, 0, b"refused ");
-    let b = put_decimal(out, a, u32::from(refusal) as usize);
-    put_bytes(out, b, b"\n")
+    let mut page = Cursor { out, at: 0 };
+    page.put_bytes(b"refused ");
+    text::put_decimal(&mut page, u32::from(refusal) as usize);
+    page.put_byte(b'\n');
+    page.at
 }
 
 // `bad input`.
@@ -38,7 +40,9 @@ pub fn put_bad_input(out: &mut [u8]) -> usize
     requires { refusal_room ≤ length out.old }
     ensures { Put 0 bad_input out.old out.new result × (result ≤ refusal_room) }
 {
-    put_bytes(out, 0, b"bad input\n")
+    let mut page = Cursor { out, at: 0 };
+    page.put_bytes(b"bad input\n");
+    page.at
 }
 
 // Reads a rule for `t` slots into `table`: the check of `t`, and then the reader.

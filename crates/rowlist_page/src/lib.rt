@@ -4,7 +4,7 @@
 ghost use Rattle.std.specs.Prelude.{◌≡◌, ◌++◌, ◌+◌, ◌*◌, ◌≤◌, length};
 ghost use Rattle.std.proofs.lemmas.List.Edits.{sets};
 ghost use Rattle.rules.specs.Rows.{rows_in};
-ghost use Rattle.text.specs.Put.{Put};
+ghost use Rattle.cursor.specs.Put.{Put};
 ghost use Rattle.rowlist_text.specs.Sizes.{rows_room, listing_room};
 ghost use Rattle.rowlist_text.specs.RowText.{Whole, head_text, rows_text};
 ghost use Rattle.program_input.specs.Scanning.{state};
@@ -14,6 +14,7 @@ ghost use Rattle.program_rule.specs.Told.{text_work, Told};
 ghost use Rattle.rowlist_page.specs.Page.{listing_text, list_work, listing, page};
 
 use answers::Refusal;
+use cursor::Cursor;
 use program_input::Scan;
 use program_rule::Work;
 use rowlist_text::{LISTING, ROWS};
@@ -26,8 +27,10 @@ fn put_listing(rows: &[u8], count: usize, n: usize, t: usize, m: usize, out: &mu
     ensures put { Put 0 (head_text count ((m + n) * t) ++ rows_text 0 (rows_in count rows.now)) out.old out.new result }
     ensures upper_bound { result ≤ listing_room }
 {
-    let next = rowlist_text::put_head(out, count, (m + n) * t);
-    rowlist_text::put_rows(out, next, count, rows)
+    let mut page = Cursor { out, at: 0 };
+    rowlist_text::put_head(&mut page, count, (m + n) * t);
+    rowlist_text::put_rows(&mut page, count, rows);
+    page.at
 }
 
 // The listing of a table of `n` nodes, whose rows are written to `rows` first.

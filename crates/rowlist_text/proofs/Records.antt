@@ -10,7 +10,9 @@ use Rattle.std.proofs.Math.Seq.{take_all}
 use Rattle.rules.specs.Rows.{signed_in, terms_in, row_in, rows_in}
 use Rattle.text.specs.Decimal.{decimal}
 use Rattle.rowlist_text.specs.RowText.{sign_of, terms_text, row_text, rows_text, Whole}
-use Rattle.text.specs.Put.{Put, sets_append}
+use Rattle.cursor.specs.Put.{sets_append}
+use Rattle.cursor.specs.Puts.{Puts}
+use Rattle.cursor.specs.declared.Cursor.{Cursor}
 
 -- a list without its first n elements, cut to what is left of it
 pub tail-is : (n : ℕ) (l : List ℕ) → take (length l - n) (drop n l) ≡ drop n l
@@ -41,16 +43,18 @@ terms-cut (suc k) b =
       terms-cut k (drop 3 b),
     ) refl
 
-pub rest-next : {at k at₀ : ℕ} {xs ys l m xs₀ l₀ : List ℕ} → Rest at (xs ++ ys) l at₀ xs₀ l₀ → Put at xs l m k → Rest k ys m at₀ xs₀ l₀
-rest-next {at} {k} {at₀} {xs} {ys} {l} {m} r p = record {
+pub rest-next : {xs ys all : List ℕ} {a b c : Cursor} → Rest (xs ++ ys) a all c → Puts xs a b → Rest ys b all c
+rest-next {xs} {ys} {all} {a} {b} r p = record {
+  same = p.same ∙ r.same;
+  room = p.room ∙ r.room;
   content =
-      ap (λ (x : List ℕ). sets x k ys) p.content ∙ ap (λ (i : ℕ). sets (sets l at xs) i ys) p.ends
-      ∙ sym (sets_append l at xs ys) ∙ r.content;
-  ends = omega (arith, r.ends, p.ends, length-append xs ys);
+      ap (λ (x : List ℕ). sets x b.at ys) p.put.content ∙ ap (λ (i : ℕ). sets (sets a.out.now a.at xs) i ys) p.put.ends
+      ∙ sym (sets_append a.out.now a.at xs ys) ∙ r.content;
+  ends = omega (arith, r.ends, p.put.ends, length-append xs ys);
 }
 
-pub rest-done : {at at₀ : ℕ} {l xs₀ l₀ : List ℕ} → Rest at [] l at₀ xs₀ l₀ → Put at₀ xs₀ l₀ l at
-rest-done r = record { content = r.content; ends = omega (arith, r.ends) }
+pub rest-done : {all : List ℕ} {a c : Cursor} → Rest [] a all c → Puts all c a
+rest-done r = record { same = r.same; room = r.room; put = record { content = r.content; ends = omega (arith, r.ends) } }
 
 -- ---- rows, from row i on
 

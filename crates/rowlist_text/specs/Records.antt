@@ -1,8 +1,11 @@
 -- The text of row records, step by step as it is written.
 use Rattle.std.specs.Prelude.{◌≡◌, List, ℕ, ◌+◌, length}
 use Rattle.std.proofs.lemmas.List.Edits.{sets}
+use Rattle.cursor.specs.declared.Cursor.{Cursor}
 
--- what is still to be written, xs from `at` on, makes of l what is wanted: xs₀ from at₀ on in l₀
-pub record Rest (at : ℕ) (xs l : List ℕ) (at₀ : ℕ) (xs₀ l₀ : List ℕ) : Type 0 where
-  pub content : sets l at xs ≡ sets l₀ at₀ xs₀
-  pub ends : at + length xs ≡ at₀ + length xs₀
+-- what is still to be written, xs at the cursor, makes of the buffer what is wanted: all at the cursor of before
+pub record Rest (xs : List ℕ) (now : Cursor) (all : List ℕ) (before : Cursor) : Type 0 where
+  pub same : now.out.ghost_name ≡ before.out.ghost_name
+  pub room : length now.out.now ≡ length before.out.now
+  pub content : sets now.out.now now.at xs ≡ sets before.out.now before.at all
+  pub ends : now.at + length xs ≡ before.at + length all

@@ -3,13 +3,13 @@
 
 ghost use Rattle.std.specs.Prelude.{◌≡◌, ◌+◌, ◌*◌, ◌≤◌, ◌<◌, length};
 ghost use Rattle.lists.specs.Splice.{splice};
+ghost use Rattle.cursor.specs.Puts.{Puts, Room};
 ghost use Rattle.rules.specs.Quantities.{node_limit};
 ghost use Rattle.rules.specs.Rows.{rows_of, rows_bytes};
 ghost use Rattle.rules.specs.TableTest.{nodes_in};
 ghost use Rattle.rules.specs.Outcome.{returned, buffer, rows_outcome};
 ghost use Rattle.answers.specs.Meaning.{answer_of};
 ghost use Rattle.table.specs.Looping.{looping_to};
-ghost use Rattle.rows_family.specs.Put.{Wrote};
 ghost use Rattle.row.specs.Placed.{node_row_limit};
 ghost use Rattle.row.specs.Kinds.{Allowed};
 ghost use Rattle.row.specs.NodeRows.{node_count};
@@ -18,35 +18,34 @@ ghost use Rattle.rows.specs.Parts.{part_bytes, nodes_bytes, length_to, count_to}
 ghost use Rattle.rows.specs.Answers.{rows_answer};
 
 use answers::Refusal;
+use cursor::Cursor;
 use table::{Kind, Plan};
 
-// Writes the rows of node n from the place `at` on, its V's first, and returns the next place. `part` is the number of its
-// V's block: after the nodes, and after the V's of the nodes before it.
-fn write_node(plan: Plan, n: usize, part: usize, out: &mut [u8], at: usize) -> usize
+// Writes the rows of node n, its V's first. `part` is the number of its V's block: after the nodes, and after the V's of the
+// nodes before it.
+fn write_node(plan: Plan, n: usize, part: usize, out: &mut Cursor)
     requires low { n < plan.nodes }
     requires part_value { part ≡ plan.nodes + looping_to (nodes_in plan.table.now) n }
-    requires n_in_bounds { at + length (part_bytes plan.t plan.m plan.l (nodes_in plan.table.now) n) ≤ length out.old }
-    ensures { Wrote at (part_bytes plan.entry.t plan.entry.m plan.entry.l (nodes_in plan.entry.table.now) n) out.old out.new result }
+    requires n_in_bounds { Room out.old (length (part_bytes plan.t plan.m plan.l (nodes_in plan.table.now) n)) }
+    ensures { Puts (part_bytes plan.entry.t plan.entry.m plan.entry.l (nodes_in plan.entry.table.now) n) out.old out.new }
 {
     let Plan { t, m, l, .. } = plan;
     let node = plan.node(n);
     let v = row::first_variable(m + part, t);
     let own = row::own_block(node, t, m, l, n, v);
-    rows_node::write_node(out, at, t as u16, l as u16, own, v)
+    rows_node::write_node(out, t as u16, l as u16, own, v);
 }
 
-// Writes the rows of all nodes at the start of `out`, and returns the next place.
-fn write_nodes(plan: Plan, out: &mut [u8]) -> usize
-    requires { length_to plan.t plan.m plan.l (nodes_in plan.table.now) plan.nodes ≤ length out.old }
-    ensures { Wrote 0 (nodes_bytes plan.entry.t plan.entry.m plan.entry.l (nodes_in plan.entry.table.now) plan.entry.nodes) out.old out.new result }
+// Writes the rows of all nodes.
+fn write_nodes(plan: Plan, out: &mut Cursor)
+    requires { Room out.old (length_to plan.t plan.m plan.l (nodes_in plan.table.now) plan.nodes) }
+    ensures { Puts (nodes_bytes plan.entry.t plan.entry.m plan.entry.l (nodes_in plan.entry.table.now) plan.entry.nodes) out.old out.new }
 {
-    let mut next = 0;
     let mut looping = 0;
     for i in 0..plan.nodes {
-        next = write_node(plan, i, plan.nodes + looping, out, next);
+        write_node(plan, i, plan.nodes + looping, out);
         looping = table::one_more(looping, plan.loops(i));
     }
-    next
 }
 
 // How many rows there are, and how many bytes.
@@ -130,12 +129,10 @@ fn write_all(plan: Plan, out: &mut [u8])
     requires { length (rows_bytes (rows_of plan.t plan.m plan.l (nodes_in plan.table.now))) ≤ length out.old }
     ensures { out.new ≡ splice 0 (rows_bytes (rows_of plan.entry.t plan.entry.m plan.entry.l (nodes_in plan.entry.table.now))) out.old }
 {
-    let next = write_nodes(plan, out);
-    rows_record::put_row(
-        out,
-        next,
-        row::goal(row::slack(plan.t, plan.m, plan.nodes - 1, 1)),
-    );
+    let mut cursor = Cursor { out, at: 0 };
+    write_nodes(plan, &mut cursor);
+    let goal = row::goal(row::slack(plan.t, plan.m, plan.nodes - 1, 1));
+    rows_record::put_row(&mut cursor, goal);
 }
 
 // Writes the rows, where there is room.

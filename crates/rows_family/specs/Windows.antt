@@ -7,6 +7,8 @@ use native.Mathlib.Omega.{arith}
 use Rattle.std.proofs.Math.ListN.{length, length-append, length-map}
 use Rattle.lists.specs.Flat.{flat, flat-more, flat-same}
 use Rattle.lists.specs.Tabulate.{map-tabulate}
+use Rattle.cursor.specs.declared.Cursor.{Cursor}
+use Rattle.cursor.specs.Puts.{Puts}
 use Rattle.rules.specs.Rule.Window.{within, throughout}
 use Rattle.rules.specs.Rows.{Row, plus, minus, ge, signed_byte, term_bytes, terms_bytes, row_bytes, rows_bytes}
 use Rattle.rules.proofs.RowParts.{rows_bytes-append}
@@ -22,6 +24,10 @@ use Rattle.window.proofs.Slots.{length-variables}
 pub head-length : (count : ℕ) (right : ℤ) → length (head_of AtLeast count right) ≡ 5
 unfolding head_of
 head-length count right = refl
+
+-- where the cursor stands past a head
+pub head-ends : (count : ℕ) (right : ℤ) {a b : Cursor} → Puts (head_of AtLeast count right) a b → b.at ≡ a.at + 5
+head-ends count right p = omega (arith, p.put.ends, head-length count right)
 
 -- P is the node's variable, and v its part's
 abbrev above_row : (P v : ℕ) → Row
@@ -162,10 +168,10 @@ module _ (P : ℕ) (w : Looks) (p : ℕ) where
   pub within-total : length (rows_bytes (over_rows within P vs)) ≡ length (aboves P w p) + 5 + length (terms (pos 1) w p) + 3
   within-total =
       let head = head_of AtLeast (w.count + 1) (pos 0) in
-      let all = four-total 0 (aboves P w p) head (terms (pos 1) w p) (term_bytes (minus P)) (over_rows within P vs) within-bytes in
+      let all = four-total (aboves P w p) head (terms (pos 1) w p) (term_bytes (minus P)) (over_rows within P vs) within-bytes in
       omega (arith, all, head-length (w.count + 1) (pos 0))
 
   pub throughout_total : length (rows_bytes (over_rows throughout P vs)) ≡ length (belows P w p) + 5 + 3 + length (terms (negsuc 0) w p)
   throughout_total =
-      let all = four-total 0 (belows P w p) throughout_head (term_bytes (plus P)) (terms (negsuc 0) w p) (over_rows throughout P vs) throughout_bytes in
+      let all = four-total (belows P w p) throughout_head (term_bytes (plus P)) (terms (negsuc 0) w p) (over_rows throughout P vs) throughout_bytes in
       omega (arith, all, head-length (w.count + 1) (neg_ℤ (pos (w.count - 1))))

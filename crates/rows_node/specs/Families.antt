@@ -1,9 +1,11 @@
 -- The bytes of a family of rows, a line of document 01's table, at slots one after the other.
-use Rattle.std.specs.Prelude.{◌≡◌, refl, Bool, true, false, Option, Some, None, is_some, unwrap_or, cond, List, [], ◌++◌, ℕ, ◌+◌, ◌-◌, ◌≤◌, ◌<◌, ◌^◌, length}
+use Rattle.std.specs.Prelude.{◌≡◌, refl, Bool, true, false, Option, Some, None, is_some, unwrap_or, cond, List, [], ◌++◌, ℕ, ◌+◌, ◌-◌, ◌<◌, ◌^◌, length}
 use Rattle.std.specs.Fn.{Shared}
 use Rattle.std.proofs.Common.{sym, ap, ◌∙◌}
 use denote.Ref.{MutBor}
 use Rattle.lists.specs.Flat.{flat}
+use Rattle.cursor.specs.declared.Cursor.{Cursor}
+use Rattle.cursor.specs.Puts.{Puts, Room}
 use Rattle.rules.specs.Rule.{Window}
 use Rattle.rules.specs.Rule.Window.{within, throughout}
 use Rattle.rules.specs.Rows.{Row, rows_bytes, same_rows}
@@ -11,20 +13,19 @@ use Rattle.table.specs.declared.Kind.{Kind}
 use Rattle.table.specs.declared.Kind.TheVariants.{Atom, Not, And, Or, Implies, Eventually, Always, Until, Within, Throughout}
 use Rattle.row.specs.declared.Block.{Block}
 use Rattle.row.specs.NodeRows.{Kept, loops_of, next_of, kept_of, kept-is}
-use Rattle.rows_family.specs.Put.{Put}
 
 -- the rows at a slot by the variables there: the node's, its parts' and what follows
 abbrev pub Family : Type 0
 Family = (P p q P' : ℕ) → List Row
 
--- what is asked of a closure that puts a family: it may be called wherever there is room for the rows, and writes them
-pub record Puts {F : Type 0}
-    (g : Shared F (MutBor (List ℕ) × (ℕ × (ℕ × (ℕ × (ℕ × (ℕ × Unit {0})))))) (ℕ × (MutBor (List ℕ) × Unit {0}))) (put : F) (rows : Family) : Type 0 where
-  pub may : (out : MutBor (List ℕ)) (at P p q P' : ℕ) → at < 2 ^ 64 → (P < 2 ^ 16) × (p < 2 ^ 16) × (q < 2 ^ 16) × (P' < 2 ^ 16) →
-      at + length (rows_bytes (rows P p q P')) ≤ length out.now → g.pre put (out, (at, (P, (p, (q, (P', tt))))))
-  pub does : (out : MutBor (List ℕ)) (at P p q P' : ℕ) → at < 2 ^ 64 → (P < 2 ^ 16) × (p < 2 ^ 16) × (q < 2 ^ 16) × (P' < 2 ^ 16) →
-      at + length (rows_bytes (rows P p q P')) ≤ length out.now → (result : ℕ) (left : MutBor (List ℕ)) →
-      g.post put (out, (at, (P, (p, (q, (P', tt)))))) (result, (left, tt)) → Put at (rows P p q P') out.now left.now result
+-- what is asked of a closure that puts a family: it may be called wherever there is room for the rows, and puts them
+pub record PutsFamily {F R : Type 0}
+    (g : Shared F (MutBor Cursor × (ℕ × (ℕ × (ℕ × (ℕ × Unit {0}))))) (R × (MutBor Cursor × Unit {0}))) (put : F) (rows : Family) : Type 0 where
+  pub may : (out : MutBor Cursor) (P p q P' : ℕ) → (P < 2 ^ 16) × (p < 2 ^ 16) × (q < 2 ^ 16) × (P' < 2 ^ 16) →
+      Room out.now (length (rows_bytes (rows P p q P'))) → g.pre put (out, (P, (p, (q, (P', tt)))))
+  pub does : (out : MutBor Cursor) (P p q P' : ℕ) → (P < 2 ^ 16) × (p < 2 ^ 16) × (q < 2 ^ 16) × (P' < 2 ^ 16) →
+      Room out.now (length (rows_bytes (rows P p q P'))) → (result : R) (left : MutBor Cursor) →
+      g.post put (out, (P, (p, (q, (P', tt))))) (result, (left, tt)) → Puts (rows_bytes (rows P p q P')) out.now left.now
 
 module _ (rows : Family) (b : Block) where
   -- at slot s + 1, which the next slot follows, and at n slots

@@ -2,12 +2,13 @@
 #![tactic(auto)]
 
 ghost use Rattle.std.specs.Prelude.{◌≡◌, [], ◌∷◌, ◌++◌, ◌+◌, ◌*◌, ◌≤◌, ◌<◌, length};
-ghost use Rattle.lists.specs.Splice.{splice};
+ghost use Rattle.cursor.specs.Puts.{Puts, Room};
 ghost use Rattle.rules.specs.Rows.{relation_byte, signed_byte, term_bytes};
 ghost use Rattle.row.specs.Meaning.{relation_of, term_of};
 ghost use Rattle.endian.specs.Words.{little_endian, two_bytes};
 ghost use Rattle.rows_record.specs.Records.{term_limit, head_bytes, head_of, record_of};
 
+use cursor::Cursor;
 use row::{Relation, Row, Term, Terms};
 
 // The mark of a row record.
@@ -58,76 +59,68 @@ fn triple_word(a: Term, b: Term, c: Term) -> u64
     u64::from(a.variable) + (term_word(b) << 16) + (term_word(c) << 40)
 }
 
-// Writes a term from the place `at` on, and returns the next place.
-pub fn put_term(out: &mut [u8], at: usize, t: Term) -> usize
-    requires { at + 3 ≤ length out.old }
-    ensures { (result ≡ at + 3) × (out.new ≡ splice at (term_bytes (term_of t)) out.old) }
+// Puts a term.
+pub fn put_term(out: &mut Cursor, t: Term)
+    requires { Room out.old 3 }
+    ensures { Puts (term_bytes (term_of t)) out.old out.new }
 {
-    endian::put(out, at, term_bytes(t))
+    out.put(term_bytes(t));
 }
 
-// Writes the bytes of a record before its terms from the place `at` on, and returns the next place.
+// Puts the bytes of a record before its terms.
 #[tactic(auto, unfolding(crate::specs::Records::head_of))]
-pub fn put_head(out: &mut [u8], at: usize, relation: Relation, count: u8, right: i8) -> usize
-    requires { at + 5 ≤ length out.old }
-    ensures { (result ≡ at + 5) × (out.new ≡ splice at (head_of relation count right) out.old) }
+pub fn put_head(out: &mut Cursor, relation: Relation, count: u8, right: i8)
+    requires { Room out.old 5 }
+    ensures { Puts (head_of relation count right) out.old out.new }
 {
     let relation = relation_byte(relation);
     let right = signed_byte(right);
-    endian::put(out, at, [MARK[0], MARK[1], relation, count, right])
+    out.put([MARK[0], MARK[1], relation, count, right]);
 }
 
-// Writes the 8 bytes of a record of one term from the place `at` on, and returns the next place.
-fn put_single(out: &mut [u8], at: usize, relation: u8, right: u8, a: Term) -> usize
-    requires { at + 8 ≤ length out.old }
-    ensures { (result ≡ at + 8) × (out.new ≡ splice at (head_bytes relation 1 right ++ term_bytes (term_of a)) out.old) }
+// Puts the 8 bytes of a record of one term.
+fn put_single(out: &mut Cursor, relation: u8, right: u8, a: Term)
+    requires { Room out.old 8 }
+    ensures { Puts (head_bytes relation 1 right ++ term_bytes (term_of a)) out.old out.new }
 {
-    let next = endian::put(out, at, [MARK[0], MARK[1], relation, 1, right]);
-    put_term(out, next, a)
+    out.put([MARK[0], MARK[1], relation, 1, right]);
+    put_term(out, a);
 }
 
-// Writes the 11 bytes of a record of two terms from the place `at` on, both variables in one word, and returns the next
-// place.
-fn put_pair(out: &mut [u8], at: usize, relation: u8, right: u8, a: Term, b: Term) -> usize
-    requires { at + 11 ≤ length out.old }
-    ensures { (result ≡ at + 11) ×
-        (out.new ≡ splice at (head_bytes relation 2 right ++ (term_bytes (term_of a) ++ term_bytes (term_of b))) out.old) }
+// Puts the 11 bytes of a record of two terms, both variables in one word.
+fn put_pair(out: &mut Cursor, relation: u8, right: u8, a: Term, b: Term)
+    requires { Room out.old 11 }
+    ensures { Puts (head_bytes relation 2 right ++ (term_bytes (term_of a) ++ term_bytes (term_of b))) out.old out.new }
 {
-    let next = endian::put(out, at, [MARK[0], MARK[1], relation]);
-    endian::put_eight(out, next, pair_word(right, a, b))
+    let word = pair_word(right, a, b);
+    out.put([MARK[0], MARK[1], relation]);
+    out.put(word.to_le_bytes());
 }
 
-// Writes the 14 bytes of a record of three terms from the place `at` on, all variables in one word, and returns the next
-// place.
-fn put_triple(
-    out: &mut [u8],
-    at: usize,
-    relation: u8,
-    right: u8,
-    a: Term,
-    b: Term,
-    c: Term,
-) -> usize
-    requires { at + 14 ≤ length out.old }
-    ensures { (result ≡ at + 14) × (out.new ≡
-        splice at (head_bytes relation 3 right ++ (term_bytes (term_of a) ++ (term_bytes (term_of b) ++ term_bytes (term_of c)))) out.old) }
+// Puts the 14 bytes of a record of three terms, all variables in one word.
+fn put_triple(out: &mut Cursor, relation: u8, right: u8, a: Term, b: Term, c: Term)
+    requires { Room out.old 14 }
+    ensures { Puts (head_bytes relation 3 right ++ (term_bytes (term_of a) ++ (term_bytes (term_of b) ++ term_bytes (term_of c))))
+        out.old out.new }
 {
     let sign = signed_byte(a.coefficient);
-    let next = endian::put(out, at, [MARK[0], MARK[1], relation, 3, right, sign]);
-    endian::put_eight(out, next, triple_word(a, b, c))
+    let word = triple_word(a, b, c);
+    out.put([MARK[0], MARK[1], relation, 3, right, sign]);
+    out.put(word.to_le_bytes());
 }
 
-// Writes a row's record from the place `at` on, and returns the next place.
+// Puts a row's record. (In line, so that no row is made in memory.)
+#[inline(always)]
 #[tactic(auto, unfolding(crate::specs::Records::record_of))]
-pub fn put_row(out: &mut [u8], at: usize, row: Row) -> usize
-    requires { at + length (record_of row) ≤ length out.old }
-    ensures { (result ≡ at + length (record_of row)) × (out.new ≡ splice at (record_of row) out.old) }
+pub fn put_row(out: &mut Cursor, row: Row)
+    requires { Room out.old (length (record_of row)) }
+    ensures { Puts (record_of row) out.old out.new }
 {
     let relation = relation_byte(row.relation);
     let right = signed_byte(row.right);
     match row.terms {
-        Terms::Single(a) => put_single(out, at, relation, right, a),
-        Terms::Pair(a, b) => put_pair(out, at, relation, right, a, b),
-        Terms::Triple(a, b, c) => put_triple(out, at, relation, right, a, b, c),
+        Terms::Single(a) => put_single(out, relation, right, a),
+        Terms::Pair(a, b) => put_pair(out, relation, right, a, b),
+        Terms::Triple(a, b, c) => put_triple(out, relation, right, a, b, c),
     }
 }

@@ -1,4 +1,3 @@
 pub mod Decimal
 pub mod DecimalLaws
 pub mod Literals
-pub mod Put

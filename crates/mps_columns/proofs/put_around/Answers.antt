@@ -12,8 +12,8 @@ returns-then-s-eq0 c = (
 
 pub returns : goal.returns
 returns c =
-    let p = c.put_at-next.ensures in
-    let q = c.put_at-2.ensures in (
+    let p = c.put_at-2.ensures in
+    let q = c.put_at-3.ensures in (
       emitted_as (around_next c.args.v c.args.block c.args.t c.args.start c.args.s c.if-s-eq0.false) (emitted-also p.0 q.0),
       omega (arith, p.1, q.1),
     )

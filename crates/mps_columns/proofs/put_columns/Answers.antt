@@ -10,7 +10,7 @@ use Rattle.mps_columns.proofs.put_columns.Goals as goal
 pub returns-then-plan : goal.returns-then-plan
 returns-then-plan c =
     let p = c.args.plan in
-    let a = c.put_own_parts-next.ensures in
+    let a = c.put_own_parts.ensures in
     let b = c.put_kept_parts.ensures in
     let ns = nodes_in p.table.now in
     let long = p.counted ∙ sym (length-nodes_in p.m p.table.now) in
@@ -19,7 +19,7 @@ returns-then-plan c =
 pub returns-else-plan : goal.returns-else-plan
 returns-else-plan c =
     let p = c.args.plan in
-    let a = c.put_own_parts-next.ensures in
+    let a = c.put_own_parts.ensures in
     let ns = nodes_in p.table.now in
     let long = p.counted ∙ sym (length-nodes_in p.m p.table.now) in
     (all-parts p.t (column_lines (plan_rows p)) p.m p.l p.nodes ns long c.if-plan.false a.0, omega (arith, a.1))

@@ -8,8 +8,8 @@ use Rattle.mps_users.specs.Found.{Found}
 use Rattle.mps_users.specs.Finding.{found-kept}
 use Rattle.mps_columns.proofs.put_kept.Goals as goal
 
-pub invariant_of-put_part : goal.invariant_of-put_part
-invariant_of-put_part c =
+pub invariant_of-part : goal.invariant_of-part
+invariant_of-part c =
     let p = c.args.columns.now.plan in
     let n = c.args.n in
     let kept = c.requires.kept in

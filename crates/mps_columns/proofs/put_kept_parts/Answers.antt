@@ -11,10 +11,10 @@ use Rattle.mps_columns.proofs.put_kept_parts.Goals as goal
 use Rattle.mps_columns.proofs.put_kept_parts.Goals.{then-loops, else-loops}
 
 pub loop-n-init : goal.loop-n-init
-loop-n-init c = record { before = refl; few = omega arith; put = turns_none _ _ _; end = omega arith }
+loop-n-init c = record { before = refl; few = omega arith; put = turns_none _ _; end = omega arith }
 
-pub put_kept-next-requires-clause-kept : goal.put_kept-next-requires-clause-kept
-put_kept-next-requires-clause-kept c =
+pub put_kept-requires-clause-kept : goal.put_kept-requires-clause-kept
+put_kept-requires-clause-kept c =
     let p = c.args.columns.now.plan in
     (omega (arith, length-nodes_in p.m p.table.now), sym c.loops.ensures ∙ c.if-loops.true)
 
@@ -35,14 +35,14 @@ loop-n-preserved c =
       before = counted;
       few = elim c.if-loops.branch [ then-loops w ↦ omega arith | else-loops w ↦ omega arith ];
       put = elim c.if-loops.branch [
-        | then-loops w ↦ rw (w.out-is, w.next-is)
+        | then-loops w ↦ rw w.page-is
             (kept_turn (planned_part p) (p.m + p.nodes) ns n low v.before counted refl v.put
-            (kept-some (sym c.loops.ensures ∙ w.if-loops.true) w.put_kept-next.ensures.0))
-        | else-loops w ↦ rw (w.out-is, w.next-is)
+            (kept-some (sym c.loops.ensures ∙ w.if-loops.true) w.put_kept.ensures.0))
+        | else-loops w ↦ rw w.page-is
             (kept_turn (planned_part p) (p.m + p.nodes) ns n low v.before counted refl v.put
             (kept-none _ (sym c.loops.ensures ∙ w.if-loops.false)))
       ];
-      end = elim c.if-loops.branch [ then-loops w ↦ omega (arith, w.put_kept-next.ensures.1) | else-loops w ↦ omega arith ];
+      end = elim c.if-loops.branch [ then-loops w ↦ rw w.page-is (omega (arith, w.put_kept.ensures.1)) | else-loops w ↦ rw w.page-is (omega arith) ];
     }
 
 pub returns : goal.returns
@@ -50,4 +50,4 @@ returns c =
     let p = c.args.columns.now.plan in
     let ns = nodes_in p.table.now in
     let all : c.loop-n.n ≡ length ns = omega (arith, length-nodes_in p.m p.table.now) in
-    (turns_all _ _ _ (c.loop-n.invariant.before ∙ ap (looping_to ns) all ∙ looping-all ns) c.loop-n.invariant.put, omega (arith, p.ready.few-nodes))
+    (turns_all _ _ (c.loop-n.invariant.before ∙ ap (looping_to ns) all ∙ looping-all ns) c.loop-n.invariant.put, omega (arith, p.ready.few-nodes))

@@ -11,6 +11,6 @@ abbrev pub invariant-loop-n : goal.invariant-loop-n
 invariant-loop-n l = record {
   before : l.found ≡ looping_to (nodes_in l.columns.plan.table.now) l.n;
   few : l.found ≤ l.n;
-  put : Emitted l.at (flat (λ j. planned_part l.columns.plan (l.columns.plan.m + l.columns.plan.nodes + j)) l.found) l.initial.out l.out l.next;
-  end : l.next ≤ l.at + l.n * part_lines * line_limit;
+  put : Emitted (flat (λ j. planned_part l.columns.plan (l.columns.plan.m + l.columns.plan.nodes + j)) l.found) l.initial.page l.page;
+  end : l.page.at ≤ l.initial.page.at + l.n * part_lines * line_limit;
 }

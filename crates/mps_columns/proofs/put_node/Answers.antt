@@ -14,8 +14,8 @@ returns-in-Some c =
     let a = c.args in
     let kept = c.in-Some.kept in
     let line = entry_line a.variable.v in
-    let p = c.put_block-last.ensures in
-    let q = c.put_block-in-Some.ensures in
+    let p = c.put_block-in-Some.ensures in
+    let q = c.put_block-in-Some-2.ensures in
     let count : c.block_count-rows.result ≡ length (block_rows kept a.t a.l) =
     c.block_count-rows.ensures.0 ∙ ap (λ (x : _). block_count kept.kind x a.t a.l kept.from kept.to) c.is_some.ensures
     ∙ sym (length-block kept a.t a.l (omega arith)) in

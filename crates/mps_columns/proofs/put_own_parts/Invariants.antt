@@ -7,6 +7,6 @@ use Rattle.mps_columns.proofs.put_own_parts.Given as goal
 
 abbrev pub invariant-loop-x : goal.invariant-loop-x
 invariant-loop-x l = record {
-  put : Emitted l.at (flat (planned_part l.columns.plan) l.x) l.initial.out l.out l.next;
-  end : l.next ≤ l.at + l.x * part_lines * line_limit;
+  put : Emitted (flat (planned_part l.columns.plan) l.x) l.initial.page l.page;
+  end : l.page.at ≤ l.initial.page.at + l.x * part_lines * line_limit;
 }

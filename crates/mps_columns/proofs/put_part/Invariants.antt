@@ -8,6 +8,6 @@ use Rattle.mps_columns.proofs.put_part.Given as goal
 
 abbrev pub invariant-loop-s : goal.invariant-loop-s
 invariant-loop-s l = record {
-  put : Emitted l.at (flat (λ i. column_lines (plan_rows l.part.columns.now.plan) (l.part.x * l.part.columns.now.plan.t + i)) l.s) l.initial.out l.out l.next;
-  end : l.next ≤ l.at + l.s * table_lines * line_limit;
+  put : Emitted (flat (λ i. column_lines (plan_rows l.part.columns.now.plan) (l.part.x * l.part.columns.now.plan.t + i)) l.s) l.initial.page l.page;
+  end : l.page.at ≤ l.initial.page.at + l.s * table_lines * line_limit;
 }

@@ -6,11 +6,11 @@ use Rattle.mps_window.specs.Entries.{no_lines}
 use Rattle.mps_columns.specs.Windows.{Missed}
 use Rattle.mps_columns.proofs.put_seen.Goals as goal
 
-pub returns-then-misses : goal.returns-then-misses
+pub returns-else-not-misses : goal.returns-else-not-misses
 unfolding variables
-returns-then-misses c =
+returns-else-not-misses c =
     let o = c.args.over in
-    let m = subst (Missed o c.args.v) c.if-misses.true c.misses.ensures in (
-      emitted_as (no_lines c.args.i o.within o.own o.looks.count (variable_at o.looks o.left) c.args.v m.0 m.1) (emitted-none _ _),
+    let m = subst (Missed o c.args.v) c.if-not-misses.false c.misses.ensures in (
+      emitted_as (no_lines c.args.i o.within o.own o.looks.count (variable_at o.looks o.left) c.args.v m.0 m.1) (emitted-none _),
       omega arith,
     )

@@ -1,5 +1,6 @@
 -- `mps_columns::put_user` meets its contract. Assumes nothing.
-use Rattle.std.proofs.Common.{◌≡◌, ap₂, List, [], ℕ, ◌≤◌, length, arith}
+use Rattle.std.proofs.Common.{◌≡◌, ap₂, List, ℕ, ◌≤◌, length, arith}
+use Rattle.cursor.specs.declared.Cursor.{Cursor}
 use Rattle.rules.specs.Table.{Node}
 use Rattle.rules.specs.Rows.{Row}
 use Rattle.rules.specs.TableTest.{nodes_in}
@@ -15,11 +16,11 @@ use Rattle.mps_columns.specs.Walk.{own-whole, kept_whole}
 use Rattle.mps_columns.proofs.put_user.Goals as goal
 
 -- the lines of node n's blocks, where its first row has the number `start`
-user-lines : (T M L : ℕ) (ns : List Node) (n : ℕ) (line : ℕ → Row → List ℕ) {start v : ℕ} {bs : Blocks} → start ≡ length (rows_to T M L ns n)
+user-lines : (T M L : ℕ) (ns : List Node) (n : ℕ) (line : ℕ → Row → List ℕ) (a : Cursor) {start v : ℕ} {bs : Blocks} → start ≡ length (rows_to T M L ns n)
     → BlocksAt T M L ns n v bs → 1 ≤ T →
     each_row line start (blocks_rows T L bs) ≡ node_text T M L ns line n
 unfolding node_text
-user-lines T M L ns n line e b h = ap₂ (λ (i : ℕ) (rs : List Row). each_row line i rs) e (blocks-rows T M L ns line 0 [] b h)
+user-lines T M L ns n line a e b h = ap₂ (λ (i : ℕ) (rs : List Row). each_row line i rs) e (blocks-rows T M L ns line a b h)
 
 pub put_node-requires : goal.put_node-requires
 put_node-requires c =
@@ -41,6 +42,6 @@ returns c =
     let p = o.plan in
     let n = c.args.n in
     let q = c.put_node.ensures in
-    let lines = user-lines p.t p.m p.l (nodes_in p.table.now) n (entry_line c.args.variable.v) (o.laid.starts n c.requires.2) c.blocks_at-blocks.ensures
+    let lines = user-lines p.t p.m p.l (nodes_in p.table.now) n (entry_line c.args.variable.v) c.args.page.now (o.laid.starts n c.requires.2) c.blocks_at-blocks.ensures
     p.ready.slots-low in
     (emitted_as lines q.0, q.1)

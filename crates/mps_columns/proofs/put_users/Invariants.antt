@@ -7,6 +7,6 @@ use Rattle.mps_columns.proofs.put_users.Given as goal
 
 abbrev pub invariant-loop-user : goal.invariant-loop-user
 invariant-loop-user l = record {
-  put : Emitted l.at (flat (λ j. planned_user l.part.columns.now.plan l.variable.v (get_or l.part.users.now j 0)) l.user-index) l.initial.out l.out l.next;
-  end : l.next ≤ l.at + l.user-index * node_lines * line_limit;
+  put : Emitted (flat (λ j. planned_user l.part.columns.now.plan l.variable.v (get_or l.part.users.now j 0)) l.user-index) l.initial.page l.page;
+  end : l.page.at ≤ l.initial.page.at + l.user-index * node_lines * line_limit;
 }

@@ -8,7 +8,7 @@ use Rattle.mps_columns.proofs.put_windows.Given as goal
 
 abbrev pub invariant-loop-s : goal.invariant-loop-s
 invariant-loop-s l = record {
-  put : Listed (entry_line l.v) l.start (flat (block_on l.block l.t l.l) l.s) l.i l.at l.initial.out l.out l.next;
-  end : l.next ≤ l.at + l.s * slot_lines * line_limit;
+  put : Listed (entry_line l.v) l.start (flat (block_on l.block l.t l.l) l.s) l.i l.initial.page l.page;
+  end : l.page.at ≤ l.initial.page.at + l.s * slot_lines * line_limit;
   few : l.i ≤ l.start + l.s * slot_lines;
 }

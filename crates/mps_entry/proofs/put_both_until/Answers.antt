@@ -6,6 +6,6 @@ use Rattle.mps_entry.proofs.put_both_until.Goals as goal
 pub returns : goal.returns
 returns c =
     let r = c.put_two.ensures in
-    let q = c.put_double-third.ensures in
-    let p = c.put_unit-next.ensures in
+    let q = c.put_double.ensures in
+    let p = c.put_unit.ensures in
     (emitted-also p.0 (emitted-also q.0 r.0), omega (arith, p.1, q.1, r.1))

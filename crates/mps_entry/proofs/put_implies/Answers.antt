@@ -31,5 +31,4 @@ returns-then-v-q-2 c =
 pub returns : goal.returns
 returns c =
     let a = c.args in
-    let text = implies_none a.v a.i a.spot.own a.spot.left a.spot.right (λ e. omega arith) (λ e. omega arith) (λ e. omega arith) in
-    (emitted_as text (emitted-none _ _), omega arith)
+    (emitted_as (implies_none a.v a.i a.spot.own a.spot.left a.spot.right (λ e. omega arith) (λ e. omega arith) (λ e. omega arith)) (emitted-none _), omega arith)

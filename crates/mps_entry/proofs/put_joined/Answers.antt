@@ -31,4 +31,4 @@ returns-then-v-from-4 c =
 pub returns : goal.returns
 returns c =
     let a = c.args in
-    (emitted_as (join-none a.v a.i a.spot.own a.spot.left a.q a.up (λ e. omega arith) (λ e. omega arith) (λ e. omega arith)) (emitted-none _ _), omega arith)
+    (emitted_as (join-none a.v a.i a.spot.own a.spot.left a.q a.up (λ e. omega arith) (λ e. omega arith) (λ e. omega arith)) (emitted-none _), omega arith)

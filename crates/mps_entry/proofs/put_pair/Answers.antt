@@ -19,4 +19,4 @@ returns-then-v-from-2 c =
 pub returns : goal.returns
 returns c =
     let a = c.args in
-    (emitted_as (pair-none a.v a.i a.node a.p a.up (λ e. omega arith) (λ e. omega arith)) (emitted-none _ _), omega arith)
+    (emitted_as (pair-none a.v a.i a.node a.p a.up (λ e. omega arith) (λ e. omega arith)) (emitted-none _), omega arith)

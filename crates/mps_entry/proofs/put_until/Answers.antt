@@ -8,39 +8,33 @@ pub returns-then-v-from : goal.returns-then-v-from
 returns-then-v-from c =
     let a = c.args in
     let p = c.put_own_until.ensures in
-    let text = until-own a.v a.i a.spot.own a.spot.left a.spot.right a.next (omega arith) (λ e. omega arith) (λ e. omega arith) (λ e. omega arith) in
-    (emitted_as text p.0, omega (arith, p.1))
+    (emitted_as (until-own a.v a.i a.spot.own a.spot.left a.spot.right a.next (omega arith) (λ e. omega arith) (λ e. omega arith) (λ e. omega arith)) p.0, omega (arith, p.1))
 
 pub returns-then-v-from-2 : goal.returns-then-v-from-2
 returns-then-v-from-2 c =
     let a = c.args in
     let p = c.put_two.ensures in
-    let text = until-next a.v a.i a.spot.own a.spot.left a.spot.right a.next (λ e. omega arith) (λ e. omega arith) (λ e. omega arith) (omega arith) in
-    (emitted_as text p.0, omega (arith, p.1))
+    (emitted_as (until-next a.v a.i a.spot.own a.spot.left a.spot.right a.next (λ e. omega arith) (λ e. omega arith) (λ e. omega arith) (omega arith)) p.0, omega (arith, p.1))
 
 pub returns-then-v-q : goal.returns-then-v-q
 returns-then-v-q c =
     let a = c.args in
     let p = c.put_both_until.ensures in
-    let text = until-both a.v a.i a.spot.own a.spot.left a.spot.right a.next (λ e. omega arith) (omega arith) (omega arith) (λ e. omega arith) in
-    (emitted_as text p.0, omega (arith, p.1))
+    (emitted_as (until-both a.v a.i a.spot.own a.spot.left a.spot.right a.next (λ e. omega arith) (omega arith) (omega arith) (λ e. omega arith)) p.0, omega (arith, p.1))
 
 pub returns-then-v-from-3 : goal.returns-then-v-from-3
 returns-then-v-from-3 c =
     let a = c.args in
     let p = c.put_two-then-v-from-3.ensures in
-    let text = until-first a.v a.i a.spot.own a.spot.left a.spot.right a.next (λ e. omega arith) (omega arith) (λ e. omega arith) (λ e. omega arith) in
-    (emitted_as text p.0, omega (arith, p.1))
+    (emitted_as (until-first a.v a.i a.spot.own a.spot.left a.spot.right a.next (λ e. omega arith) (omega arith) (λ e. omega arith) (λ e. omega arith)) p.0, omega (arith, p.1))
 
 pub returns-then-v-q-2 : goal.returns-then-v-q-2
 returns-then-v-q-2 c =
     let a = c.args in
     let p = c.put_three.ensures in
-    let text = until-second a.v a.i a.spot.own a.spot.left a.spot.right a.next (λ e. omega arith) (λ e. omega arith) (omega arith) (λ e. omega arith) in
-    (emitted_as text p.0, omega (arith, p.1))
+    (emitted_as (until-second a.v a.i a.spot.own a.spot.left a.spot.right a.next (λ e. omega arith) (λ e. omega arith) (omega arith) (λ e. omega arith)) p.0, omega (arith, p.1))
 
 pub returns : goal.returns
 returns c =
     let a = c.args in
-    let text = until_none a.v a.i a.spot.own a.spot.left a.spot.right a.next (λ e. omega arith) (λ e. omega arith) (λ e. omega arith) (λ e. omega arith) in
-    (emitted_as text (emitted-none _ _), omega arith)
+    (emitted_as (until_none a.v a.i a.spot.own a.spot.left a.spot.right a.next (λ e. omega arith) (λ e. omega arith) (λ e. omega arith) (λ e. omega arith)) (emitted-none _), omega arith)

@@ -2,7 +2,7 @@
 use Rattle.std.proofs.Common.{◌≡◌, sym, ap, ◌∙◌, Bool, [], ◌∷◌, ◌++◌}
 use Rattle.text.specs.Decimal.{signed_text}
 use Rattle.mps_line.specs.Units.{one, one-text, minus-text}
-use Rattle.mps_line.specs.Fields.{put_as}
+use Rattle.cursor.specs.Puts.{said}
 use Rattle.mps_line.proofs.put_one.Goals as goal
 
 -- what is put, where the sign is known
@@ -10,7 +10,7 @@ text : {up known : Bool} → up ≡ known → signed_text (one known) ++ (10 ∷
 text e = ap (λ (b : Bool). signed_text (one b) ++ (10 ∷ [])) (sym e)
 
 pub returns-then-up : goal.returns-then-up
-returns-then-up c = put_as (sym one-text ∙ text c.if-up.true) c.put_bytes.ensures
+returns-then-up c = said (sym one-text ∙ text c.if-up.true) c.put.ensures
 
 pub returns-else-up : goal.returns-else-up
-returns-else-up c = put_as (sym minus-text ∙ text c.if-up.false) c.put_bytes-else-up.ensures
+returns-else-up c = said (sym minus-text ∙ text c.if-up.false) c.put-else-up.ensures

@@ -20,7 +20,7 @@ rows-few p n h = start_small p.t p.m p.l (nodes_in p.table.now) n p.ready.slots-
 pub loop-n-init : goal.loop-n-init
 loop-n-init c =
     let p = c.args.plan in
-    (omega arith, refl, no_nodes p.t p.m p.l (nodes_in p.table.now) (line_of c.args.text) c.args.at c.args.out.now)
+    (omega arith, refl, no_nodes p.t p.m p.l (nodes_in p.table.now) (line_of c.args.text) c.args.page.now)
 
 pub overflow_add-plan-in-loop-n : goal.overflow_add-plan-in-loop-n
 overflow_add-plan-in-loop-n c =
@@ -39,8 +39,8 @@ blocks_at-blocks-requires c =
     omega (arith, length-nodes_in p.m p.table.now, p.counted, c.loop-n.invariant.1) in
     (omega arith, c.first_variable-v.ensures.0 ∙ ap (λ (x : ℕ). x * p.t) e)
 
-pub put_node-next-requires : goal.put_node-next-requires
-put_node-next-requires c =
+pub put_node-requires : goal.put_node-requires
+put_node-requires c =
     let r = c.args.plan.ready in
     let b = c.blocks_at-blocks.ensures in (
       omega (arith, r.few-nodes),
@@ -68,15 +68,15 @@ loop-n-preserved c =
     let a = c.args.plan in
     let ns = nodes_in a.table.now in
     let b = c.blocks_at-blocks.ensures in
-    let p = c.put_node-next.ensures in
+    let p = c.put_node.ensures in
     let line = line_of c.args.text in
     let low = a.ready.slots-low in
     let more = looping-more ns l.n (omega (arith, length-nodes_in a.m a.table.now, a.counted)) in
-    let rows = ap (each_row line l.first) (blocks-rows a.t a.m a.l ns line c.args.at c.args.out.now b low) in
-    let long = c.node_count-first.ensures.0 ∙ sym (node-count a.t a.m a.l ns line c.args.at c.args.out.now b low) in (
+    let rows = ap (each_row line l.first) (blocks-rows a.t a.m a.l ns line c.args.page.now b low) in
+    let long = c.node_count-first.ensures.0 ∙ sym (node-count a.t a.m a.l ns line c.args.page.now b low) in (
       omega (arith, p.1),
       c.one_more-looping.ensures ∙ ap₂ (λ (x : Bool) (k : ℕ). cond x (k + 1) k) c.loops.ensures l.invariant.1 ∙ sym more,
-      one-node a.t a.m a.l ns line c.args.at c.args.out.now l.n l.invariant.2 (emitted_as rows p.0) (ap (λ (x : ℕ). l.first + x) long),
+      one-node a.t a.m a.l ns line c.args.page.now l.n l.invariant.2 (emitted_as rows p.0) (ap (λ (x : ℕ). l.first + x) long),
     )
 
 pub put_row-requires : goal.put_row-requires
@@ -91,6 +91,6 @@ returns c =
     let n : c.loop-n.n ≡ a.nodes = omega arith in
     let goal = c.goal-goal.ensures ∙ goal-is a.t a.m a.l ns a.nodes e c.slack.ensures in
     let p = c.put_row.ensures in (
-      all-nodes a.t a.m a.l ns (line_of c.args.text) c.args.at c.args.out.now e (rw n at c.loop-n.invariant.2) goal p.0,
+      all-nodes a.t a.m a.l ns (line_of c.args.text) c.args.page.now e (rw n at c.loop-n.invariant.2) goal p.0,
       omega (arith, p.1, a.ready.few-nodes),
     )

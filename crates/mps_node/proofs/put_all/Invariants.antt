@@ -8,5 +8,5 @@ use Rattle.mps_node.specs.Turns.{Listed}
 use Rattle.mps_node.proofs.put_all.Given as goal
 
 abbrev pub invariant-loop-n : goal.invariant-loop-n
-invariant-loop-n l = (l.next ≤ l.at + l.n * node_lines * line_limit) × (l.looping ≡ looping_to (nodes_in l.plan.table.now) l.n) ×
-    Listed (line_of l.text) 0 (rows_to l.plan.t l.plan.m l.plan.l (nodes_in l.plan.table.now) l.n) l.first l.at l.initial.out l.out l.next
+invariant-loop-n l = (l.page.at ≤ l.initial.page.at + l.n * node_lines * line_limit) × (l.looping ≡ looping_to (nodes_in l.plan.table.now) l.n) ×
+    Listed (line_of l.text) 0 (rows_to l.plan.t l.plan.m l.plan.l (nodes_in l.plan.table.now) l.n) l.first l.initial.page l.page

@@ -7,5 +7,5 @@ use Rattle.mps_node.specs.Turns.{Listed}
 use Rattle.mps_node.proofs.put_block.Given as goal
 
 abbrev pub invariant-loop-s : goal.invariant-loop-s
-invariant-loop-s l = (l.next ≤ l.at + l.s * slot_lines * line_limit) × (l.i ≤ l.first + l.s * slot_lines) ×
-    Listed (line_of l.text) l.first (flat (block_on l.block l.t l.l) l.s) l.i l.at l.initial.out l.out l.next
+invariant-loop-s l = (l.page.at ≤ l.initial.page.at + l.s * slot_lines * line_limit) × (l.i ≤ l.first + l.s * slot_lines) ×
+    Listed (line_of l.text) l.first (flat (block_on l.block l.t l.l) l.s) l.i l.initial.page l.page

@@ -17,8 +17,8 @@ returns-in-Some c =
     let l = c.args.l in
     let kept = c.in-Some.kept in
     let own = block_rows c.args.blocks.own t l in
-    let p = c.put_block-last.ensures in
-    let q = c.put_block-in-Some.ensures in
+    let p = c.put_block-in-Some.ensures in
+    let q = c.put_block-in-Some-2.ensures in
     let long : c.block_count-rows.result ≡ length (block_rows kept t l) =
     c.block_count-rows.ensures.0 ∙ ap (λ (x : Bool). block_count kept.kind x t l kept.from kept.to) c.is_some-loops.ensures
     ∙ sym (length-block kept t l (omega (arith, c.requires))) in

@@ -7,6 +7,6 @@ use Rattle.mps_page.proofs.put_columns.Goals as goal
 pub returns : goal.returns
 unfolding column_section
 returns c =
-    let p = c.put_text-first.ensures in
+    let p = c.put_text.ensures in
     let q = c.put_columns.ensures in
     (emitted-also p.0 q.0, omega (arith, p.1, q.1))

@@ -19,5 +19,5 @@ returns c =
     emitted_as
     (ap (λ (z : List ℕ). row_section rs ++ (column_section (variable_count p.t p.m p.l ns) rs ++ (right_section rs ++ z)))
     (ap₂ bound_section (c.from-atoms.ensures ∙ c.first_variable.ensures.0) (c.from-variables.ensures ∙ c.first_variable-2.ensures.0 ∙ count)))
-    (emitted-also c.put_rows-columns.ensures.0
-    (emitted-also c.put_columns-rights.ensures.0 (emitted-also c.put_rights-bounds.ensures.0 c.put_bounds.ensures.0)))
+    (emitted-also c.put_rows.ensures.0
+    (emitted-also c.put_columns.ensures.0 (emitted-also c.put_rights.ensures.0 c.put_bounds.ensures.0)))

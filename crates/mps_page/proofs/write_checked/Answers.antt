@@ -29,6 +29,6 @@ returns c =
     let h = long-enough p.t p.m p.l p.table.now (length c.args.out.now) room in
     record {
       r_value = rw h (ap answered e);
-      out_after = rw h (c.put_page.ensures.content from ∙ sets_splice 0 text c.args.out.now from ∙ splice-zero _ _);
+      out_after = rw h (c.write_page.ensures ∙ sets_splice 0 text c.args.out.now from ∙ splice-zero _ _);
       fact = omega (arith, short);
     }

@@ -9,7 +9,7 @@ use Rattle.mps_row.specs.Coefficients.{no_line, some-line}
 use Rattle.mps_row.proofs.put_unless_zero.Goals as goal
 
 pub returns-then-c-eq0 : goal.returns-then-c-eq0
-returns-then-c-eq0 c = (emitted_as (no_line (name_text c.args.name) c.args.i c.args.c (omega (arith, ints))) (emitted-none _ _), omega arith)
+returns-then-c-eq0 c = (emitted_as (no_line (name_text c.args.name) c.args.i c.args.c (omega (arith, ints))) (emitted-none _), omega arith)
 
 pub returns : goal.returns
 returns c =

@@ -7,6 +7,6 @@ use Rattle.mps_sections.proofs.put_bounds.Given as goal
 
 abbrev pub invariant-loop-v : goal.invariant-loop-v
 invariant-loop-v l = record {
-  put : Emitted l.initial.next (flat (bound_line l.atoms) l.v) l.initial.out l.out l.next;
-  end : l.next ≤ l.at + (1 + l.v) * line_limit;
+  put : Emitted (flat (bound_line l.atoms) l.v) l.initial.page l.page;
+  end : l.page.at ≤ l.initial.page.at + l.v * line_limit;
 }

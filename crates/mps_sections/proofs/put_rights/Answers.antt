@@ -7,6 +7,6 @@ use Rattle.mps_sections.proofs.put_rights.Goals as goal
 pub returns : goal.returns
 unfolding right_section
 returns c =
-    let a = c.put_text-first.ensures in
+    let a = c.put_text.ensures in
     let b = c.put_all.ensures in
     (emitted-also a.0 b.0, omega (arith, a.1, b.1))

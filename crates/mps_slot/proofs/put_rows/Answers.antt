@@ -9,10 +9,10 @@ use Rattle.mps_slot.proofs.put_rows.Goals as goal
 
 pub loop-j-init : goal.loop-j-init
 unfolding each_row
-loop-j-init c = (emitted-none _ _, omega arith)
+loop-j-init c = (emitted-none _, omega arith)
 
 pub loop-j-preserved : goal.loop-j-preserved
 loop-j-preserved c =
-    let p = c.put_row-next.ensures in
+    let p = c.put_row.ensures in
     let more = each_more (line_of c.args.text) c.args.i row_of c.args.rows.now c.loop-j.j _ c.loop-j-test.true in
     (emitted_as more (emitted-also c.loop-j.invariant.0 p.0), omega (arith, p.1))

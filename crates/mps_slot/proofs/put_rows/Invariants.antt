@@ -8,4 +8,4 @@ use Rattle.mps_slot.proofs.put_rows.Given as goal
 
 abbrev pub invariant-loop-j : goal.invariant-loop-j
 invariant-loop-j l =
-    Emitted l.at (each_row (line_of l.text) l.i (map row_of (take l.j l.rows))) l.initial.out l.out l.next × (l.next ≤ l.at + l.j * line_limit)
+    Emitted (each_row (line_of l.text) l.i (map row_of (take l.j l.rows))) l.initial.page l.page × (l.page.at ≤ l.initial.page.at + l.j * line_limit)

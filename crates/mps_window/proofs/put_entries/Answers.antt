@@ -19,7 +19,7 @@ unfolding variables
 returns-in-None c =
     let o = c.args.over in
     let f = variable_at o.looks o.left in
-    (emitted_as (no_lines c.args.i o.within o.own o.looks.count f c.args.v (λ e. omega arith) c.in-None.ensures) (emitted-none _ _), omega arith)
+    (emitted_as (no_lines c.args.i o.within o.own o.looks.count f c.args.v (λ e. omega arith) c.in-None.ensures) (emitted-none _), omega arith)
 
 pub returns-in-Some : goal.returns-in-Some
 unfolding variables

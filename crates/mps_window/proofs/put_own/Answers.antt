@@ -5,6 +5,6 @@ use Rattle.mps_window.proofs.put_own.Goals as goal
 
 pub returns : goal.returns
 returns c =
-    let p = c.put_units-last.ensures in
+    let p = c.put_units.ensures in
     let q = c.put_unit.ensures in
     (rw c.from-count.ensures at (emitted-also p.0 q.0), omega (arith, p.1, q.1, c.args.over.looks.few))

@@ -5,6 +5,6 @@ use Rattle.mps_window.proofs.put_part.Goals as goal
 
 pub returns : goal.returns
 returns c =
-    let p = c.put_unit-last.ensures in
-    let q = c.put_unit.ensures in
+    let p = c.put_unit.ensures in
+    let q = c.put_unit-2.ensures in
     (rw c.from.ensures at (emitted-also p.0 q.0), omega (arith, p.1, q.1))

@@ -12,9 +12,9 @@ pub returns-then-over : goal.returns-then-over
 returns-then-over c =
     let o = c.args.over in
     elim c.then-over.branch [
-      | then-over-via-then-over w ↦ (emitted_as (no_right c.args.i o.looks.count o.within w.if-over.true) (emitted-none _ _), omega arith)
+      | then-over-via-then-over w ↦ (emitted_as (no_right c.args.i o.looks.count o.within w.if-over.true) (emitted-none _), omega arith)
       | then-over-via-else-over+then-count-eq1 w ↦
-          (emitted_as (right-one c.args.i o.looks.count o.within w.if-count-eq1.true) (emitted-none _ _), omega arith)
+          (emitted_as (right-one c.args.i o.looks.count o.within w.if-count-eq1.true) (emitted-none _), omega arith)
     ]
 
 pub returns : goal.returns

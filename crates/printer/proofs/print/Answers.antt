@@ -1,6 +1,7 @@
 -- `printer::print` meets its contract: a law of the outcome for each return. Assumes nothing.
 use mathlib.Core.Path.{refl, sym, ◌∙◌}
 use native.Mathlib.Omega.{arith}
+use Rattle.std.proofs.Common.{rules}
 use Rattle.printer.proofs.Outcomes.{atoms-refused, table-refused, some-nodes, printable, long-refused, room-refused, putting, text-printed}
 use Rattle.printer.proofs.print.Goals as goal
 
@@ -43,11 +44,13 @@ put_node-requires c =
     let m = (sym c.within.ensures ∙ c.if-not-within.false) in
     let g = (sym c.good.ensures ∙ c.if-not-good.false) in
     putting c.args.m c.args.table.now c.args.out.now m g c.count-root.result c.count-root.ensures c.in-Some.rest c.in-Some.ensures
-    _ refl (omega (arith, c.if-out-length.false))
+    _ refl (omega (arith, c.if-out-length.false)) _ refl refl
 
 pub returns : goal.returns
 returns c =
     let m = (sym c.within.ensures ∙ c.if-not-within.false) in
     let g = (sym c.good.ensures ∙ c.if-not-good.false) in
+    let p =
     text-printed c.args.m c.args.table.now c.args.out.now m g c.count-root.result c.count-root.ensures c.in-Some.rest c.in-Some.ensures
-    _ refl (omega (arith, c.if-out-length.false)) c.put_node.ensures
+    _ refl (omega (arith, c.if-out-length.false)) c.put_node.ensures.put in
+    record { r_value = p.r_value; out_after = search (rules, p.out_after) }

@@ -1,7 +1,6 @@
 -- `printer_node::put_atom` meets its contract.
-use Rattle.text.specs.Put.{also}
+use Rattle.cursor.specs.Puts.{then}
 use Rattle.printer_node.proofs.put_atom.Goals as goal
 
 pub returns : goal.returns
-returns c =
-    also c.put_byte-next.ensures c.put_decimal.ensures
+returns c = then c.put_byte.ensures c.put_decimal.ensures

@@ -1,4 +1,4 @@
--- `rowlist_text::put_rows` meets its contract. The loop's invariant: the lines from row i on, written from `at` on, make the page that is wanted.
+-- `rowlist_text::put_rows` meets its contract. The loop's invariant: the lines from row i on, written at the cursor, make the page that is wanted.
 use Rattle.std.proofs.Common.{◌+◌, ◌*◌, get_or, arith, length-drop}
 use Rattle.rowlist_text.proofs.Records.{tail-is, rows_end, rows_turn, whole-next, rest-next, rest-done}
 use Rattle.rowlist_text.proofs.put_rows.Goals as goal
@@ -12,9 +12,9 @@ loop-i-preserved c =
     rw (c.from.ensures, tail-is n b)
     (record {
       records = omega (arith, length-drop n b, w.0);
-      room = omega (arith, length-drop n b, w.0, c.put_row-at.ensures.upper_bound);
+      room = omega (arith, length-drop n b, w.0, c.put_row.ensures.upper_bound);
       whole = w.1;
-      left = rest-next (rw (rows_turn l.i c.args.count b c.loop-i-test.true) at l.invariant.left) c.put_row-at.ensures.put;
+      left = rest-next (rw (rows_turn l.i c.args.count b c.loop-i-test.true) at l.invariant.left) c.put_row.ensures.put;
     })
 
 pub returns-clause-put : goal.returns-clause-put

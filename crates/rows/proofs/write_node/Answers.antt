@@ -1,8 +1,9 @@
 -- `rows::write_node` meets its contract.
-use Rattle.std.proofs.Common.{arith}
+use Rattle.std.proofs.Common.{sym, arith}
 use Rattle.rules.specs.TableTest.{nodes_in}
 use Rattle.table.specs.Looping.{looping-few}
-use Rattle.rows_family.specs.Put.{one-room, one-done}
+use Rattle.cursor.specs.Puts.{said}
+use Rattle.rows_family.specs.Put.{one-room}
 use Rattle.rows.specs.Parts.{own-allowed, part-is}
 use Rattle.rows.proofs.write_node.Goals as goal
 
@@ -23,7 +24,7 @@ write_node-requires c =
     y (omega arith) c.node-node.ensures (omega arith) c.first_variable-v.ensures.0 own.ensures.0 in
     record {
       le_l = (y.loop-low, y.loop-high, y.slots-high, own.ensures.1, may, c.first_variable-v.ensures.1);
-      own_in_bounds = one-room x.at is c.requires.n_in_bounds;
+      own_in_bounds = one-room x.out.now is c.requires.n_in_bounds;
     }
 
 pub returns : goal.returns
@@ -32,4 +33,4 @@ returns c =
     let own = c.own_block-own in
     let is = part-is x.plan.t x.plan.m x.plan.l x.plan.table.now x.n x.part c.first_variable-v.result c.node-node.result own.result
     x.plan.ready (omega arith) c.node-node.ensures (omega arith) c.first_variable-v.ensures.0 own.ensures.0 in
-    one-done x.at is _ c.write_node.ensures
+    said (sym is) c.write_node.ensures

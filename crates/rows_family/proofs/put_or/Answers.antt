@@ -1,8 +1,7 @@
 -- `rows_family::put_or` meets its contract.
-use Rattle.rows_family.specs.Put.{put_three}
+use Rattle.rows_family.specs.Put.{puts_none, row_first}
 use Rattle.rows_family.proofs.put_or.Goals as goal
 
 pub returns : goal.returns
 returns c =
-    put_three c.above.result c.above-2.result c.covered.result c.above.ensures c.above-2.ensures c.covered.ensures
-    c.put_row-second.ensures c.put_row-third.ensures c.put_row.ensures c.requires
+    row_first _ c.above.ensures c.put_row.ensures (row_first _ c.above-2.ensures c.put_row-2.ensures (row_first _ c.covered.ensures c.put_row-3.ensures (puts_none _)))

@@ -1,27 +1,18 @@
 -- `rows_family::put_range` meets its contract.
-use Rattle.std.proofs.Common.{arith}
-use Rattle.lists.specs.Filling.{filled_none, filled_room, filled_more, filled_all}
-use Rattle.rows_family.specs.Windows.{range}
+use Rattle.std.proofs.Common.{refl, rules, ◌∙◌}
 use Rattle.rows_family.proofs.put_range.Goals as goal
 
-pub put-next-requires : goal.put-next-requires
-unfolding range
-put-next-requires g c =
-    let filled = c.loop-i.invariant c.requires.puts.0 c.requires.puts.1 c.requires.puts.2 in
-    let room = filled_room filled c.args.n (omega arith) c.requires.puts.2 in
-    c.requires.puts.1.may _ _ _ (omega arith) (omega arith) room
-
-pub loop-i-init : goal.loop-i-init
-loop-i-init g c = λ bytes puts room. filled_none _ _ _
-
-pub loop-i-preserved : goal.loop-i-preserved
-unfolding range
-loop-i-preserved g c = λ bytes puts h.
-    let filled = c.loop-i.invariant bytes puts h in
-    let room = filled_room filled c.args.n (omega arith) h in
-    let does = puts.does _ _ _ (omega arith) (omega arith) room _ _ c.put-next.ensures in
-    filled_more filled c.args.n (omega arith) h _ _ does.1 does.0 (omega arith)
+pub put_run-requires-clause-puts : goal.put_run-requires-clause-puts
+put_run-requires-clause-puts g c =
+    let puts = c.requires.puts.1 in
+    (c.requires.puts.0, record { may = puts.may; does = puts.does }, c.requires.puts.2)
 
 pub returns : goal.returns
-unfolding range
-returns g c = λ bytes puts h. filled_all (c.loop-i.invariant bytes puts h) c.args.n (omega arith)
+returns g c = λ bytes puts h.
+    let run = c.put_run.ensures bytes (record { may = puts.may; does = puts.does }) h in
+    let same = run.same in
+    record {
+      same = search rules;
+      room = search rules ∙ run.room;
+      put = record { content = search rules ∙ run.put.content; ends = run.put.ends };
+    }

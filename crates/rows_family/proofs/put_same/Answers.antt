@@ -1,6 +1,6 @@
 -- `rows_family::put_same` meets its contract.
-use Rattle.rows_family.specs.Put.{put_one}
+use Rattle.rows_family.specs.Put.{puts_none, row_first}
 use Rattle.rows_family.proofs.put_same.Goals as goal
 
 pub returns : goal.returns
-returns c = put_one c.same.result c.same.ensures c.requires c.put_row.ensures
+returns c = row_first _ c.same.ensures c.put_row.ensures (puts_none _)

@@ -1,8 +1,8 @@
 -- `rows_family::put_until` meets its contract.
-use Rattle.rows_family.specs.Put.{put_all_four}
+use Rattle.rows_family.specs.Put.{puts_none, row_first}
 use Rattle.rows_family.proofs.put_until.Goals as goal
 
 pub returns : goal.returns
 returns c =
-    put_all_four c.above.result c.covered.result c.covered-2.result c.above.ensures c.covered.ensures c.covered-2.ensures
-    c.put_row-second.ensures c.put_row-third.ensures c.put_row-fourth.ensures c.forced.result c.forced.ensures c.requires c.put_row.ensures
+    row_first _ c.above.ensures c.put_row.ensures (row_first _ c.covered.ensures c.put_row-2.ensures
+    (row_first _ c.covered-2.ensures c.put_row-3.ensures (row_first _ c.forced.ensures c.put_row-4.ensures (puts_none _))))

@@ -1,6 +1,6 @@
 -- `text::put_decimal` meets its contract. The number falls at each call.
 use Rattle.std.proofs.Common.{arith}
-use Rattle.text.specs.Put.{also}
+use Rattle.cursor.specs.Puts.{then}
 use Rattle.text.proofs.DecimalLaws.{decimal-low, decimal-pair, decimal-pairs, length-low, length-pair, length_pairs}
 use Rattle.text.proofs.+put_decimal.Goals as goal
 
@@ -16,11 +16,11 @@ put_pair-requires t c = omega (arith, length-pair c.args.n (omega arith) (omega 
 pub returns-in-10-to-99 : goal.returns-in-10-to-99
 returns-in-10-to-99 t c = rw (decimal-pair c.args.n (omega arith) (omega arith)) c.put_pair.ensures
 
-pub put_decimal-next-requires : goal.put_decimal-next-requires
-put_decimal-next-requires t c = omega (arith, length_pairs c.args.n (omega arith))
+pub put_decimal-requires : goal.put_decimal-requires
+put_decimal-requires t c = omega (arith, length_pairs c.args.n (omega arith))
 
 pub put_pair-requires-in_default : goal.put_pair-requires-in_default
 put_pair-requires-in_default t c = omega (arith, length_pairs c.args.n (omega arith))
 
 pub returns-in_default : goal.returns-in_default
-returns-in_default t c = rw (decimal-pairs c.args.n (omega arith)) (also c.put_decimal-next.ensures c.put_pair-in_default.ensures)
+returns-in_default t c = rw (decimal-pairs c.args.n (omega arith)) (then c.put_decimal.ensures c.put_pair-in_default.ensures)
