@@ -56,6 +56,7 @@ fn write_slots<F: Fn(&mut Cursor, u16, u16, u16, u16)>(
 
 // The rows of a block of F, G or U at t slots. Where nothing follows the last slot, the node is there what the part with the
 // first variable `alone` is.
+#[inline(always)]
 fn write_block<F: Fn(&mut Cursor, u16, u16, u16, u16) + Copy>(
     out: &mut Cursor,
     t: u16,

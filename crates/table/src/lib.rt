@@ -242,7 +242,8 @@ pub fn within(n: usize, high: usize) -> bool
     1 <= n && n <= high
 }
 
-// The checks that all calls but read make first: refusals 1, 2, 13 and 7.
+// The checks that all calls but read make first: refusals 1, 2, 13 and 7. (In line, so that no plan is made in memory.)
+#[inline(always)]
 pub fn check(table: &[u8], t: usize, m: usize, l: usize) -> Result<Plan<'_>, Refusal>
     ensures { CheckedPlan t m l table.now result }
 {
