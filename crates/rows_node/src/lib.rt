@@ -167,6 +167,6 @@ pub fn write_node(out: &mut Cursor, t: u16, l: u16, own: Block, v: u16)
             own.right,
             |out, node, p, q, next| put_until(out, node, p, q, next),
         ),
-        Kind::Within | Kind::Throughout => write_windows(out, t, l, own),
+        Kind::Within | Kind::Throughout => write_windows(out, t, l, Block { ..own }),
     }
 }
