@@ -110,10 +110,9 @@ fn put_window(out: &mut Cursor, kind: Kind, node: u16, p: u16, looks: Looks)
     }
 }
 
-// The rows of a block of F[a,b] or G[a,b] at t slots that loop to slot l. (In one function with the loops of the other kinds
-// each of their slots would take longer.)
-#[inline(never)]
-fn write_windows(out: &mut Cursor, t: u16, l: u16, block: Block)
+// The rows of a block of F[a,b] or G[a,b] at t slots that loop to slot l.
+#[inline(always)]
+fn run_windows(out: &mut Cursor, t: u16, l: u16, block: Block)
     requires low { (1 ≤ l) × (l ≤ t) × (t ≤ 64) × Placed block }
     requires window { (has_window block.kind ≡ true) × (block.from ≤ block.to) × (block.to ≤ 63) }
     requires block_in_bounds { Room out.old (length (block_bytes block t l)) }
@@ -123,6 +122,23 @@ fn write_windows(out: &mut Cursor, t: u16, l: u16, block: Block)
         let looks = window::look(t, l, s, block.from, block.to);
         put_window(out, block.kind, block.own + s, block.left, looks);
     }
+}
+
+// The same, with a cursor of its own. (In one function with the loops of the other kinds each of their slots would take
+// longer.)
+#[inline(never)]
+fn write_windows(out: &mut Cursor, t: u16, l: u16, block: Block)
+    requires low { (1 ≤ l) × (l ≤ t) × (t ≤ 64) × Placed block }
+    requires window { (has_window block.kind ≡ true) × (block.from ≤ block.to) × (block.to ≤ 63) }
+    requires block_in_bounds { Room out.old (length (block_bytes block t l)) }
+    ensures { Puts (block_bytes block t l) out.old out.new }
+{
+    let mut cursor = Cursor {
+        out: &mut *out.out,
+        at: out.at,
+    };
+    run_windows(&mut cursor, t, l, block);
+    out.at = cursor.at;
 }
 
 // Writes the rows of a node at t slots that loop to slot l. `own` is its own block, and v the first variable of its V, whose
