@@ -280,10 +280,7 @@ pub fn loops_at(table: &[u8], n: usize) -> bool
     requires { n < record_count table.now }
     ensures { result ≡ Rows.loops (node_at (nodes_in table.now) n) }
 {
-    match Kind::try_from(table[8 * n + 2]) {
-        Ok(kind) => loops(kind),
-        Err(_) => false,
-    }
+    loops(node_at(table, n).kind)
 }
 
 // A count with one more, if there is one.
