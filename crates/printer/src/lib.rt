@@ -25,13 +25,14 @@ pub fn print(table: &[u8], m: usize, out: &mut [u8]) -> Result<usize, Refusal>
         return Err(Refusal::Table);
     }
     let root = table::count(table) - 1;
-    let Some(rest) = printer_node::spend(table, root, Level::Rule, LONGEST) else {
+    let rule = Level::Rule.grade();
+    let Some(rest) = printer_node::spend(table, root, rule, LONGEST) else {
         return Err(Refusal::LongText);
     };
     let length = LONGEST - rest;
     if out.len() < length {
         return Err(Refusal::Room);
     }
-    printer_node::put_node(table, root, Level::Rule, &mut Cursor { out, at: 0 });
+    printer_node::put_node(table, root, rule, &mut Cursor { out, at: 0 });
     Ok(length)
 }

@@ -1,5 +1,5 @@
 -- A node's text put behind a cursor, piece behind piece.
-use Rattle.std.specs.Prelude.{◌≡◌, Bool, true, false, List, [], ◌∷◌, ◌++◌, ℕ, ◌+◌, ◌≤◌, ◌<◌, ltb, length}
+use Rattle.std.specs.Prelude.{◌≡◌, Bool, true, false, List, [], ◌∷◌, ℕ, ◌+◌, ◌≤◌, ◌<◌, ltb, length}
 use Rattle.std.proofs.Common.{refl, sym, ap, arith, length-append}
 use Rattle.rules.specs.Table.{rule_at}
 use Rattle.rules.specs.TableTest.{nodes_in, record_count}
@@ -11,7 +11,7 @@ use Rattle.printer_text.specs.Shown.{shown}
 use Rattle.printer_node.specs.declared.Prefix.{Prefix}
 use Rattle.printer_node.specs.declared.Pair.{Pair}
 use Rattle.printer_node.specs.declared.Shape.TheVariants.{Leaf, Prefixed, Paired}
-use Rattle.printer_node.specs.Shapes.{grade_of, tighter, piece, head_text, Printable, Shaped}
+use Rattle.printer_node.specs.Shapes.{grade_of, tighter, piece, head_text, Printable, Shaped, paired_length}
 
 -- what putting node n's text asks
 pub record Putting (table : List ℕ) (n k : ℕ) (page : Cursor) : Type 0 where
@@ -80,15 +80,7 @@ module _ (table : List ℕ) (n k : ℕ) (c : Cursor) (p : Putting table n k c) w
     sign_text = x.sign ∷ []
 
     lengths : c.at + length opening + length left_text + 1 + length right_text + length closing ≤ length c.out.now
-    lengths =
-        omega (
-          arith,
-          p.room,
-          ap length (h.text k),
-          length-append opening (left_text ++ (sign_text ++ (right_text ++ closing))),
-          length-append left_text (sign_text ++ (right_text ++ closing)),
-          length-append right_text closing,
-        )
+    lengths = omega (arith, p.room, paired_length table n k h)
 
     pub open_room : Room c (length opening)
     open_room = omega (arith, lengths)

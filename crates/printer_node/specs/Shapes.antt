@@ -1,5 +1,5 @@
 -- What a node's text is made of, piece by piece, as the code takes it.
-use Rattle.std.specs.Prelude.{◌≡◌, refl, Bool, true, false, Option, Some, None, List, [], ◌∷◌, ◌++◌, ℕ, ◌+◌, ◌≤◌, ◌<◌, ltb, length}
+use Rattle.std.specs.Prelude.{◌≡◌, refl, Bool, true, false, Option, Some, None, List, [], ◌∷◌, ◌++◌, ℕ, ◌+◌, ◌-◌, ◌≤◌, ◌<◌, ltb, length, SomeIff}
 use Rattle.std.proofs.Common.{sym, ap, subst, ◌∙◌, append_assoc, append-nil, arith, length-append}
 use Rattle.rules.specs.Rule.{Rule}
 use Rattle.rules.specs.Table.{NodeGood, node_at, grow, rule_at}
@@ -15,6 +15,7 @@ use Rattle.printer_text.specs.Shown.{bracketed, span_text, shown}
 use Rattle.printer_node.specs.declared.Level.{Level}
 use Rattle.printer_node.specs.declared.Window.{Window}
 use Rattle.printer_node.specs.declared.Prefix.{Prefix}
+use Rattle.printer_node.specs.declared.Pair.{Pair}
 use Rattle.printer_node.specs.declared.Shape.{Shape}
 use Rattle.printer_node.specs.declared.Shape.TheVariants.{Leaf, Prefixed, Paired}
 
@@ -26,9 +27,9 @@ grade_of Level.And = 2
 grade_of Level.Until = 3
 grade_of Level.Single = 4
 
--- the text of node n where a level is wanted
-abbrev pub node_text : (table : List ℕ) (n : ℕ) → Level → List ℕ
-node_text table n k = shown (grade_of k) (rule_at (nodes_in table) n)
+-- the text of node n where a level of grade k is wanted
+abbrev pub node_text : (table : List ℕ) (n k : ℕ) → List ℕ
+node_text table n k = shown k (rule_at (nodes_in table) n)
 
 abbrev pub tighter : Level → Level
 tighter Level.Rule = Level.Or
@@ -36,6 +37,10 @@ tighter Level.Or = Level.And
 tighter Level.And = Level.Until
 tighter Level.Until = Level.Single
 tighter Level.Single = Level.Single
+
+-- equal levels have one grade
+pub same-grade : (l m : Level) → l ≡ m → grade_of l ≡ grade_of m
+same-grade l m e = rw e
 
 abbrev pub prefixed : (letter child : ℕ) → Option Window → Shape
 prefixed letter child window = Prefixed (record { letter = letter; window = window; child = child })
@@ -147,6 +152,36 @@ shaped table n nd p h r =
       text = λ k. ap (shown k) grown ∙ shape-text (rule_at ns) k nd.kind nd.left nd.right nd.from nd.to;
       good = shape-good M n p.few nd.kind nd.left nd.right nd.from nd.to (subst (NodeGood M n) (sym r.is) (p.nodes n h));
     }
+
+-- ---- an operator between two parts: how long its text is, and what is left of b bytes
+
+module _ (table : List ℕ) (n k : ℕ) {x : Pair} (h : Shaped table n (Paired x)) where
+  abbrev signs : ℕ
+  signs = length (piece (ltb (grade_of x.level) k) 40) + 1 + length (piece (ltb (grade_of x.level) k) 41)
+
+  abbrev left_text : List ℕ
+  left_text = node_text table x.left (grade_of (tighter x.level))
+
+  abbrev right_text : List ℕ
+  right_text = node_text table x.right (grade_of x.level)
+
+  pub paired_length : length (node_text table n k) ≡ signs + length left_text + length right_text
+  paired_length =
+      let o = piece (ltb (grade_of x.level) k) 40 in
+      let c = piece (ltb (grade_of x.level) k) 41 in
+      let s = x.sign ∷ [] in
+      omega (
+        arith,
+        ap length (h.text k),
+        length-append o (left_text ++ (s ++ (right_text ++ c))),
+        length-append left_text (s ++ (right_text ++ c)),
+        length-append right_text c,
+      )
+
+  pub paired_spent : (b s₁ s₂ : ℕ) (r : Option ℕ) → (signs ≤ b) × (s₁ ≡ b - signs) → (length left_text ≤ s₁) × (s₂ ≡ s₁ - length left_text) →
+      SomeIff r (length right_text ≤ s₂) (s₂ - length right_text) → SomeIff r (length (node_text table n k) ≤ b) (b - length (node_text table n k))
+  paired_spent b s₁ s₂ None e f g = λ fits. g (omega (arith, paired_length, e, f))
+  paired_spent b s₁ s₂ (Some r) e f g = (omega (arith, paired_length, e, f, g), omega (arith, paired_length, e, f, g))
 
 pub span-length : (a b : ℕ) → length (span_text a b) ≡ 3 + length (decimal a) + length (decimal b)
 span-length a b = omega (arith, length-append (decimal a) (44 ∷ (decimal b ++ (93 ∷ []))), length-append (decimal b) (93 ∷ []))

@@ -22,6 +22,15 @@ pub enum Level {
     Single,
 }
 
+impl Level {
+    // How tight it is: 0 for a Rule, up to 4 for a Single.
+    pub fn grade(self) -> usize
+        ensures { result ≡ grade_of self }
+    {
+        self as usize
+    }
+}
+
 // The two numbers of a window.
 #[derive(Clone, Copy, Debug, PartialEq, Eq)]
 pub struct Window {
@@ -135,35 +144,39 @@ fn head_length(x: Prefix) -> usize
     }
 }
 
-// Whether an operator of a level stands in brackets where a level k is wanted.
-fn bracketed(level: Level, k: Level) -> bool
-    ensures { result ≡ ltb (grade_of level) (grade_of k) }
+// Whether an operator of a level stands in brackets where a level of grade k is wanted.
+fn bracketed(level: Level, k: usize) -> bool
+    ensures { result ≡ ltb (grade_of level) k }
 {
-    level < k
+    level.grade() < k
 }
 
-// How many bytes an operator between two parts has, with the brackets that a level k wants around it.
-fn pair_length(level: Level, k: Level) -> usize
-    ensures { result ≡ length (piece (ltb (grade_of level) (grade_of k)) 40) + 1 + length (piece (ltb (grade_of level) (grade_of k)) 41) }
+// How many bytes an operator between two parts has, with the brackets that a level of grade k wants around it.
+fn pair_length(level: Level, k: usize) -> usize
+    ensures { result ≡ length (piece (ltb (grade_of level) k) 40) + 1 + length (piece (ltb (grade_of level) k) 41) }
 {
     if bracketed(level, k) { 3 } else { 1 }
 }
 
-// What is left of `room` bytes after node n's text, where it fits. No part is looked at once none is left, however long the text is.
-pub fn spend(table: &[u8], n: usize, k: Level, room: usize) -> Option<usize>
+// What is left of `room` bytes after node n's text where a level of grade k is wanted, if it fits. A k above 4 asks for what 4 asks.
+// No part is looked at once none is left, however long the text is.
+pub fn spend(table: &[u8], n: usize, k: usize, room: usize) -> Option<usize>
     requires { Printable table.now × (n < record_count table.now) }
     ensures { SomeIff result (length (node_text table.now n k) ≤ room) (room - length (node_text table.now n k)) }
 {
+    if room == 0 {
+        return None;
+    }
     match shape_at(table, n) {
         Shape::Leaf(a) => room.checked_sub(1 + digit_count(a)),
         Shape::Prefixed(x) => {
             let rest = room.checked_sub(head_length(x))?;
-            spend(table, x.child, Level::Single, rest)
+            spend(table, x.child, Level::Single.grade(), rest)
         }
         Shape::Paired(x) => {
             let rest = room.checked_sub(pair_length(x.level, k))?;
-            let rest = spend(table, x.left, tighter(x.level), rest)?;
-            spend(table, x.right, x.level, rest)
+            let rest = spend(table, x.left, tighter(x.level).grade(), rest)?;
+            spend(table, x.right, x.level.grade(), rest)
         }
     }
 }
@@ -209,23 +222,23 @@ fn put_head(page: &mut Cursor, x: Prefix)
     }
 }
 
-// Node n's text where a level k is wanted: the printer calls itself on the children, and the node number falls at each call.
-pub fn put_node(table: &[u8], n: usize, k: Level, page: &mut Cursor)
-    requires { Putting table.now n (grade_of k) page.old }
+// Node n's text where a level of grade k is wanted: the printer calls itself on the children, and the node number falls at each call.
+pub fn put_node(table: &[u8], n: usize, k: usize, page: &mut Cursor)
+    requires { Putting table.now n k page.old }
     ensures { Puts (node_text table.now n k) page.old page.new }
 {
     match shape_at(table, n) {
         Shape::Leaf(a) => put_atom(page, a),
         Shape::Prefixed(x) => {
             put_head(page, x);
-            put_node(table, x.child, Level::Single, page);
+            put_node(table, x.child, Level::Single.grade(), page);
         }
         Shape::Paired(x) => {
             let wanted = bracketed(x.level, k);
             put_if(page, b'(', wanted);
-            put_node(table, x.left, tighter(x.level), page);
+            put_node(table, x.left, tighter(x.level).grade(), page);
             page.put_byte(x.sign);
-            put_node(table, x.right, x.level, page);
+            put_node(table, x.right, x.level.grade(), page);
             put_if(page, b')', wanted);
         }
     }

@@ -30,27 +30,28 @@ pub returns-in_default : goal.returns-in_default
 returns-in_default c =
     let m = (sym c.within.ensures ∙ c.if-not-within.false) in
     let g = (sym c.good.ensures ∙ c.if-not-good.false) in
-    long-refused c.args.m c.args.table.now c.args.out.now m g c.count-root.result c.count-root.ensures c.in_default.ensures
+    long-refused c.args.m c.args.table.now c.args.out.now m g c.count-root.result c.count-root.ensures
+    (rw c.grade-rule.ensures at c.in_default.ensures)
 
 pub returns-then-out-length : goal.returns-then-out-length
 returns-then-out-length c =
     let m = (sym c.within.ensures ∙ c.if-not-within.false) in
     let g = (sym c.good.ensures ∙ c.if-not-good.false) in
     room-refused c.args.m c.args.table.now c.args.out.now m g c.count-root.result c.count-root.ensures c.in-Some.rest
-    c.in-Some.ensures _ refl c.if-out-length.true
+    (rw c.grade-rule.ensures at c.in-Some.ensures) _ refl c.if-out-length.true
 
 pub put_node-requires : goal.put_node-requires
 put_node-requires c =
     let m = (sym c.within.ensures ∙ c.if-not-within.false) in
     let g = (sym c.good.ensures ∙ c.if-not-good.false) in
-    putting c.args.m c.args.table.now c.args.out.now m g c.count-root.result c.count-root.ensures c.in-Some.rest c.in-Some.ensures
-    _ refl (omega (arith, c.if-out-length.false)) _ refl refl
+    rw c.grade-rule.ensures (putting c.args.m c.args.table.now c.args.out.now m g c.count-root.result c.count-root.ensures c.in-Some.rest
+    (rw c.grade-rule.ensures at c.in-Some.ensures) _ refl (omega (arith, c.if-out-length.false)) _ refl refl)
 
 pub returns : goal.returns
 returns c =
     let m = (sym c.within.ensures ∙ c.if-not-within.false) in
     let g = (sym c.good.ensures ∙ c.if-not-good.false) in
     let p =
-    text-printed c.args.m c.args.table.now c.args.out.now m g c.count-root.result c.count-root.ensures c.in-Some.rest c.in-Some.ensures
-    _ refl (omega (arith, c.if-out-length.false)) c.put_node.ensures.put in
+    text-printed c.args.m c.args.table.now c.args.out.now m g c.count-root.result c.count-root.ensures c.in-Some.rest
+    (rw c.grade-rule.ensures at c.in-Some.ensures) _ refl (omega (arith, c.if-out-length.false)) (rw c.grade-rule.ensures at c.put_node.ensures).put in
     record { r_value = p.r_value; out_after = search (rules, p.out_after) }
