@@ -1,7 +1,10 @@
 -- `printer::print` meets its contract: a law of the outcome for each return. Assumes nothing.
-use mathlib.Core.Path.{refl, sym, ◌∙◌}
+use mathlib.Core.Path.{refl, sym, subst, ◌∙◌}
+use Prim.Native.Nat.{◌-◌, ◌≤◌}
 use native.Mathlib.Omega.{arith}
+use lib.ListN.{length}
 use Rattle.std.proofs.Common.{rules}
+use Rattle.printer_node.specs.Shapes.{node_text}
 use Rattle.printer.proofs.Outcomes.{atoms-refused, table-refused, some-nodes, printable, long-refused, room-refused, putting, text-printed}
 use Rattle.printer.proofs.print.Goals as goal
 
@@ -31,7 +34,7 @@ returns-in_default c =
     let m = (sym c.within.ensures ∙ c.if-not-within.false) in
     let g = (sym c.good.ensures ∙ c.if-not-good.false) in
     long-refused c.args.m c.args.table.now c.args.out.now m g c.count-root.result c.count-root.ensures
-    (rw c.grade-rule.ensures at c.in_default.ensures)
+    (subst (λ k. length (node_text c.args.table.now (c.count-root.result - 1) k) ≤ 1024 → ⊥) c.grade-rule.ensures c.in_default.ensures)
 
 pub returns-then-out-length : goal.returns-then-out-length
 returns-then-out-length c =
