@@ -1,5 +1,5 @@
 -- The rows of a block, tested slot by slot.
-use Rattle.std.specs.Prelude.{◌≡◌, refl, Bool, true, false, List, ℕ, ◌+◌, ◌-◌, ◌*◌, ◌≤◌, ◌<◌, ℤ, Ok, Err}
+use Rattle.std.specs.Prelude.{◌≡◌, refl, Bool, true, false, List, ℕ, ◌+◌, ◌-◌, ◌*◌, ◌≤◌, ◌<◌, ℤ, Ok}
 use Rattle.std.proofs.Common.{sym, ◌∙◌, lt-ltb, le-ltb}
 use Rattle.std.proofs.Math.Path.{ap}
 use native.Mathlib.Omega.{arith}
@@ -14,9 +14,8 @@ use Rattle.judge_slot.specs.Windows.{window_of}
 use Rattle.row.specs.declared.Block.{Block}
 use Rattle.row.specs.Kinds.{over_rows, window_at, followed, following, followed-inner, followed-last}
 use Rattle.row.specs.NodeRows.{loops_of, next_of, block_on, block_rows}
-use Rattle.judge_slot.specs.declared.Broken.{Broken}
 use Rattle.judge_slot.specs.Counts as Counts
-use Rattle.judge_slot.specs.Searches.{Search, tested, reached, over, Tested, tested-start, tested-more, over-rest, stuck}
+use Rattle.judge_slot.specs.Searches.{Search, tested, reached, over, Tested, tested-start, tested-more, over-rest}
 
 -- k slots, after `count` rows
 abbrev pub Room : (count k : ℕ) → Type 0
@@ -82,10 +81,6 @@ module _ (b : Block) (T L : ℕ) (high : T ≤ 64) where
         is = r.is ∙ ap (λ (k : ℕ). tested e f (Ok count) (flat (block_on b T L) k)) n;
         few = omega (arith, r.few);
       }
-
--- a search that is over passes the rows of a slot
-pub over-tested : (e : ℕ) (f : Row → ℤ) (b : Broken) (rs : List Row) → Tested e f (Err b) rs (Err b)
-over-tested e f b rs = record { is = sym (stuck e f b rs); by_many = omega arith }
 
 -- ---- by kind
 

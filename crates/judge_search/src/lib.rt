@@ -60,7 +60,7 @@ fn followed<F: Fn(usize, u16, u16) -> Result<usize, Broken>>(
     let rows = all_slots(count, last, |rows, s| inner(rows, s, block.own + s + 1))?;
     match block.next {
         Some(next) => inner(rows, last, next),
-        None => test.test_same(rows, block.own + last, part + last),
+        None => test.test_same(Ok(rows), block.own + last, part + last),
     }
 }
 
@@ -78,7 +78,7 @@ fn test_window(
     ensures { Tested test.entry.test.e (shortfall test.entry.test.figures.now) (Ok rows) (block_on block t l s) result }
 {
     let looks = window::look(t, l, s, block.from, block.to);
-    test.test_window(rows, kind, block.own + s, block.left, looks)
+    test.test_window(Ok(rows), kind, block.own + s, block.left, looks)
 }
 
 // Tests the rows over a window at t slots that loop to slot l.
@@ -117,25 +117,29 @@ fn test_block(
         ..
     } = block;
     match block.kind {
-        Kind::Atom => all_slots(count, t, |rows, s| test.test_same(rows, own + s, left + s)),
-        Kind::Not => all_slots(count, t, |rows, s| test.test_not(rows, own + s, left + s)),
+        Kind::Atom => all_slots(count, t, |rows, s| {
+            test.test_same(Ok(rows), own + s, left + s)
+        }),
+        Kind::Not => all_slots(count, t, |rows, s| {
+            test.test_not(Ok(rows), own + s, left + s)
+        }),
         Kind::And => all_slots(count, t, |rows, s| {
-            test.test_and(rows, own + s, left + s, right + s)
+            test.test_and(Ok(rows), own + s, left + s, right + s)
         }),
         Kind::Or => all_slots(count, t, |rows, s| {
-            test.test_or(rows, own + s, left + s, right + s)
+            test.test_or(Ok(rows), own + s, left + s, right + s)
         }),
         Kind::Implies => all_slots(count, t, |rows, s| {
-            test.test_implies(rows, own + s, left + s, right + s)
+            test.test_implies(Ok(rows), own + s, left + s, right + s)
         }),
         Kind::Eventually => followed(test, count, t, block, left, |rows, s, next| {
-            test.test_or(rows, own + s, left + s, next)
+            test.test_or(Ok(rows), own + s, left + s, next)
         }),
         Kind::Always => followed(test, count, t, block, left, |rows, s, next| {
-            test.test_and(rows, own + s, left + s, next)
+            test.test_and(Ok(rows), own + s, left + s, next)
         }),
         Kind::Until => followed(test, count, t, block, right, |rows, s, next| {
-            test.test_until(rows, own + s, left + s, right + s, next)
+            test.test_until(Ok(rows), own + s, left + s, right + s, next)
         }),
         Kind::Within => test_windows(limited, count, t, l, WindowKind::Within, block),
         Kind::Throughout => test_windows(limited, count, t, l, WindowKind::Throughout, block),
@@ -207,5 +211,5 @@ pub fn test_all(plan: Plan, test: LimitedTest) -> Result<usize, Broken>
     let rows = test_nodes(plan, test)?;
     let goal = row::goal(row::slack(plan.t, plan.m, plan.nodes - 1, 1));
     test.test
-        .step(rows, judge_sums::shortfall(goal, test.test.figures))
+        .step(Ok(rows), judge_sums::shortfall(goal, test.test.figures))
 }

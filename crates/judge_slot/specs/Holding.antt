@@ -1,12 +1,12 @@
 -- Rows that all hold: the search goes on by their count.
-use Rattle.std.specs.Prelude.{◌≡◌, refl, Bool, true, false, not, List, [], ◌∷◌, ◌++◌, ℕ, zero, suc, ◌+◌, ◌≤◌, ◌<◌, ℤ, Ok, length}
+use Rattle.std.specs.Prelude.{◌≡◌, refl, Bool, true, false, not, List, [], ◌∷◌, ◌++◌, ℕ, zero, suc, ◌+◌, ◌≤◌, ◌<◌, ℤ, Ok, Err, length}
 use Rattle.std.proofs.Math.Path.{sym, ap, subst⁻¹}
 use Rattle.std.proofs.Common.{◌∙◌, subst, add-one, arith, length-append}
 use Rattle.lists.specs.Flat.{flat, flat-zero, flat-more}
 use Rattle.rules.specs.Rows.{Row}
 use Rattle.rules.specs.Verdicts.{is_short}
 use Rattle.judge_slot.specs.Counts.{at_slot}
-use Rattle.judge_slot.specs.Searches.{Search, tested, tested-none, tested-one, tested-append, Tested}
+use Rattle.judge_slot.specs.Searches.{Search, tested, tested-none, tested-one, tested-append, stuck, Tested}
 
 -- a test that fails
 pub never : {X : Type 0} → false ≡ true → X
@@ -15,6 +15,11 @@ never p = let z : ◌≡◌ {A = ℕ} 0 1 = cc in absurd (omega arith)
 pub fails : (b : Bool) → not b ≡ true → b ≡ false
 fails false p = refl
 fails true p = never p
+
+-- so many more rows hold, if none was broken
+abbrev pub passed : (n : ℕ) → Search → Search
+passed n (Ok i) = Ok (i + n)
+passed n (Err b) = Err b
 
 abbrev of_count : ℕ → Search
 of_count i = Ok i
@@ -50,6 +55,7 @@ module _ (e : ℕ) (f : Row → ℤ) where
   held-last h k r p t u = subst Held p (held-append (held-flat h k t) (held_one r u))
 
   -- the search passes them
-  pub held-tested : {rs : List Row} (n i : ℕ) → Held rs → length rs ≡ n → n ≤ at_slot → Tested e f (Ok i) rs (Ok (i + n))
-  held-tested {rs} n i h l b =
-      record { is = ap (λ (m : ℕ). of_count (i + m)) (sym l) ∙ sym (h.clear i); by_many = omega arith }
+  pub held-tested : {rs : List Row} (n : ℕ) (s : Search) {x : Search} → Held rs → length rs ≡ n → n ≤ at_slot → x ≡ passed n s → Tested e f s rs x
+  held-tested {rs} n (Ok i) h l b p =
+      record { is = p ∙ ap (λ (m : ℕ). of_count (i + m)) (sym l) ∙ sym (h.clear i); by_many = rw p (omega arith) }
+  held-tested {rs} n (Err b) h l k p = record { is = p ∙ sym (stuck e f b rs); by_many = rw p (omega arith) }

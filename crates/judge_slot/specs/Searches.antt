@@ -149,6 +149,10 @@ module _ (e : ℕ) (f : Row → ℤ) where
   stuck b [] = refl
   stuck b (r ∷ rs) = stuck b rs
 
+-- a search that is over passes the rows of a slot
+pub over-tested : (e : ℕ) (f : Row → ℤ) (b : Broken) (rs : List Row) → Tested e f (Err b) rs (Err b)
+over-tested e f b rs = record { is = sym (stuck e f b rs); by_many = omega arith }
+
 -- ---- a search that is over: it passes the rest
 
 abbrev pub over : Search → Bool

@@ -10,7 +10,7 @@ ghost use Rattle.judge_sums.specs.Laws.{short_of};
 ghost use Rattle.row.specs.Kinds.{over_rows};
 ghost use Rattle.window.specs.Slots.{variable_at, variables};
 ghost use Rattle.judge_slot.specs.Counts as Counts;
-ghost use Rattle.judge_slot.specs.Searches.{Step, Tested, Stepped};
+ghost use Rattle.judge_slot.specs.Searches.{Step, Tested, Stepped, reached};
 ghost use Rattle.judge_slot.specs.Windows.{window_of, slot_sum, last_right, LastShort};
 ghost use Rattle.judge_slot.specs.Spreads.{Limited, SpreadOf, Joined, extreme_of};
 ghost use Rattle.judge_slot.specs.Holding.{Held};
@@ -27,7 +27,7 @@ pub struct Broken {
 }
 
 // The figures that are tested, and the tolerance. Where a call has tested its rows, it answers how many rows were tested, its own
-// with them, and hold; `rows` is how many hold before.
+// with them, and hold; `state` is how many hold before, or the broken row that was found, which then is the answer.
 #[derive(Clone, Copy)]
 pub struct Test<'a> {
     pub figures: &'a [i32],
@@ -49,57 +49,66 @@ impl Test<'_> {
         i64::from(self.e) < shortfall
     }
 
-    // One more row, of this shortfall, is tested.
-    pub fn step(self, rows: usize, shortfall: i64) -> Result<usize, Broken>
-        requires { rows ≤ Counts.before_step }
-        ensures { Step self.entry.e shortfall (Ok rows) result }
+    // One more row, of this shortfall, is tested, if none was broken.
+    pub fn step(self, state: Result<usize, Broken>, shortfall: i64) -> Result<usize, Broken>
+        requires { reached state ≤ Counts.before_step }
+        ensures { Step self.entry.e shortfall state result }
     {
+        let row = state?;
         if self.is_short(shortfall) {
-            Err(Broken {
-                shortfall,
-                row: rows,
-            })
+            Err(Broken { shortfall, row })
         } else {
-            Ok(rows + 1)
+            Ok(row + 1)
         }
     }
 
     // Rows of these shortfalls are tested, one after the other.
-    fn steps<const N: usize>(self, rows: usize, shortfalls: [i64; N]) -> Result<usize, Broken>
-        requires { (rows ≤ Counts.before_slot) × (N ≤ Counts.at_slot) }
-        ensures { Stepped self.entry.e shortfalls.entry (Ok rows) result }
+    fn steps<const N: usize>(
+        self,
+        state: Result<usize, Broken>,
+        shortfalls: [i64; N],
+    ) -> Result<usize, Broken>
+        requires { (reached state ≤ Counts.before_slot) × (N ≤ Counts.at_slot) }
+        ensures { Stepped self.entry.e shortfalls.entry state result }
     {
+        let rows = state?;
         let mut done = rows;
         for shortfall in shortfalls {
-            done = self.step(done, shortfall)?;
+            done = self.step(Ok(done), shortfall)?;
         }
         Ok(done)
     }
 
     // P − p = 0
-    pub fn test_same(self, rows: usize, node: u16, p: u16) -> Result<usize, Broken>
-        requires { rows ≤ Counts.before_slot }
-        ensures { Tested self.entry.e (shortfall self.entry.figures.now) (Ok rows) (same_rows node p) result }
+    pub fn test_same(self, state: Result<usize, Broken>, node: u16, p: u16) -> Result<usize, Broken>
+        requires { reached state ≤ Counts.before_slot }
+        ensures { Tested self.entry.e (shortfall self.entry.figures.now) state (same_rows node p) result }
     {
         let x = self.figure(node);
         let y = self.figure(p);
-        self.steps(rows, [judge_sums::pair(1, x, -1, y).off(0)])
+        self.steps(state, [judge_sums::pair(1, x, -1, y).off(0)])
     }
 
     // P + p = 1
-    pub fn test_not(self, rows: usize, node: u16, p: u16) -> Result<usize, Broken>
-        requires { rows ≤ Counts.before_slot }
-        ensures { Tested self.entry.e (shortfall self.entry.figures.now) (Ok rows) (not_rows node p) result }
+    pub fn test_not(self, state: Result<usize, Broken>, node: u16, p: u16) -> Result<usize, Broken>
+        requires { reached state ≤ Counts.before_slot }
+        ensures { Tested self.entry.e (shortfall self.entry.figures.now) state (not_rows node p) result }
     {
         let x = self.figure(node);
         let y = self.figure(p);
-        self.steps(rows, [judge_sums::pair(1, x, 1, y).off(1)])
+        self.steps(state, [judge_sums::pair(1, x, 1, y).off(1)])
     }
 
     // p − P ≥ 0; q − P ≥ 0; P − p − q ≥ −1
-    pub fn test_and(self, rows: usize, node: u16, p: u16, q: u16) -> Result<usize, Broken>
-        requires { rows ≤ Counts.before_slot }
-        ensures { Tested self.entry.e (shortfall self.entry.figures.now) (Ok rows) (and_rows node p q) result }
+    pub fn test_and(
+        self,
+        state: Result<usize, Broken>,
+        node: u16,
+        p: u16,
+        q: u16,
+    ) -> Result<usize, Broken>
+        requires { reached state ≤ Counts.before_slot }
+        ensures { Tested self.entry.e (shortfall self.entry.figures.now) state (and_rows node p q) result }
     {
         let x = self.figure(node);
         let y = self.figure(p);
@@ -107,13 +116,19 @@ impl Test<'_> {
         let first = judge_sums::pair(1, y, -1, x).short(0);
         let second = judge_sums::pair(1, z, -1, x).short(0);
         let third = judge_sums::triple(1, x, -1, y, -1, z).short(-1);
-        self.steps(rows, [first, second, third])
+        self.steps(state, [first, second, third])
     }
 
     // P − p ≥ 0; P − q ≥ 0; p + q − P ≥ 0
-    pub fn test_or(self, rows: usize, node: u16, p: u16, q: u16) -> Result<usize, Broken>
-        requires { rows ≤ Counts.before_slot }
-        ensures { Tested self.entry.e (shortfall self.entry.figures.now) (Ok rows) (or_rows node p q) result }
+    pub fn test_or(
+        self,
+        state: Result<usize, Broken>,
+        node: u16,
+        p: u16,
+        q: u16,
+    ) -> Result<usize, Broken>
+        requires { reached state ≤ Counts.before_slot }
+        ensures { Tested self.entry.e (shortfall self.entry.figures.now) state (or_rows node p q) result }
     {
         let x = self.figure(node);
         let y = self.figure(p);
@@ -121,13 +136,19 @@ impl Test<'_> {
         let first = judge_sums::pair(1, x, -1, y).short(0);
         let second = judge_sums::pair(1, x, -1, z).short(0);
         let third = judge_sums::triple(1, y, 1, z, -1, x).short(0);
-        self.steps(rows, [first, second, third])
+        self.steps(state, [first, second, third])
     }
 
     // P + p ≥ 1; P − q ≥ 0; q − p − P ≥ −1
-    pub fn test_implies(self, rows: usize, node: u16, p: u16, q: u16) -> Result<usize, Broken>
-        requires { rows ≤ Counts.before_slot }
-        ensures { Tested self.entry.e (shortfall self.entry.figures.now) (Ok rows) (implies_rows node p q) result }
+    pub fn test_implies(
+        self,
+        state: Result<usize, Broken>,
+        node: u16,
+        p: u16,
+        q: u16,
+    ) -> Result<usize, Broken>
+        requires { reached state ≤ Counts.before_slot }
+        ensures { Tested self.entry.e (shortfall self.entry.figures.now) state (implies_rows node p q) result }
     {
         let x = self.figure(node);
         let y = self.figure(p);
@@ -135,20 +156,20 @@ impl Test<'_> {
         let first = judge_sums::pair(1, x, 1, y).short(1);
         let second = judge_sums::pair(1, x, -1, z).short(0);
         let third = judge_sums::triple(1, z, -1, y, -1, x).short(-1);
-        self.steps(rows, [first, second, third])
+        self.steps(state, [first, second, third])
     }
 
     // P − q ≥ 0; p + q − P ≥ 0; q + P' − P ≥ 0; P − p − P' ≥ −1
     pub fn test_until(
         self,
-        rows: usize,
+        state: Result<usize, Broken>,
         node: u16,
         p: u16,
         q: u16,
         next: u16,
     ) -> Result<usize, Broken>
-        requires { rows ≤ Counts.before_slot }
-        ensures { Tested self.entry.e (shortfall self.entry.figures.now) (Ok rows) (until_rows node p q next) result }
+        requires { reached state ≤ Counts.before_slot }
+        ensures { Tested self.entry.e (shortfall self.entry.figures.now) state (until_rows node p q next) result }
     {
         let x = self.figure(node);
         let y = self.figure(p);
@@ -158,7 +179,7 @@ impl Test<'_> {
         let second = judge_sums::triple(1, y, 1, z, -1, x).short(0);
         let third = judge_sums::triple(1, z, 1, w, -1, x).short(0);
         let fourth = judge_sums::triple(1, x, -1, y, -1, w).short(-1);
-        self.steps(rows, [first, second, third, fourth])
+        self.steps(state, [first, second, third, fourth])
     }
 
     // The rows over a window at a slot, row by row.
@@ -178,10 +199,10 @@ impl Test<'_> {
         let mut sum: i64 = 0;
         for i in 0..looks.count {
             let y = self.figure(p + window::nth(looks, i));
-            done = self.step(done, slot_short(kind, x, y))?;
+            done = self.step(Ok(done), slot_short(kind, x, y))?;
             sum = judge_sums::grown(sum, y);
         }
-        self.step(done, last_short(kind, sum, x, looks.count))
+        self.step(Ok(done), last_short(kind, sum, x, looks.count))
     }
 }
 
@@ -330,16 +351,17 @@ impl LimitedTest<'_> {
     // p(s) ≥ −(k − 1). p is the part's variable at the first slot of all.
     pub fn test_window(
         self,
-        rows: usize,
+        state: Result<usize, Broken>,
         kind: WindowKind,
         node: u16,
         p: u16,
         looks: Looks,
     ) -> Result<usize, Broken>
-        requires { Counts.Fit p 64 × (rows ≤ Counts.before_slot) }
-        ensures { Tested self.entry.test.e (shortfall self.entry.test.figures.now) (Ok rows)
+        requires { Counts.Fit p 64 × (reached state ≤ Counts.before_slot) }
+        ensures { Tested self.entry.test.e (shortfall self.entry.test.figures.now) state
             (over_rows (window_of kind) node (variables looks p)) result }
     {
+        let rows = state?;
         if self.window_holds(kind, node, p, looks) {
             Ok(rows + usize::from(looks.count) + 1)
         } else {

@@ -5,7 +5,8 @@ use Rattle.rules.specs.Rows.{Row}
 use Rattle.rules.specs.Judge.{shortfall}
 use Rattle.row.specs.Placed.{variable_limit}
 use Rattle.row.specs.NodeRows.{next_of, block_on}
-use Rattle.judge_search.specs.Slots.{block_last, over-tested}
+use Rattle.judge_slot.specs.Searches.{over-tested}
+use Rattle.judge_search.specs.Slots.{block_last}
 use Rattle.judge_search.proofs.followed.Goals as goal
 
 pub returns-in_err-rows : goal.returns-in_err-rows
