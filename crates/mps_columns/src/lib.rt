@@ -202,8 +202,13 @@ fn put_found(page: &mut Cursor, columns: &Columns, x: usize)
     ensures { Lines part_lines (planned_part columns.now.plan x) page.old page.new }
 {
     let mut users = [0; 128];
-    let users = mps_users::find_users(columns.plan, x, &mut users);
-    put_part(page, Part { columns, x, users });
+    let count = mps_users::find_users(columns.plan, x, &mut users);
+    let part = Part {
+        columns,
+        x,
+        users: &users[..count],
+    };
+    put_part(page, part);
 }
 
 // Those of node n's V, the part x.

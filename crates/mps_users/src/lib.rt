@@ -61,10 +61,10 @@ pub fn find_layout(plan: Plan, layout: &mut [Place; 128]) -> usize
     rows
 }
 
-// Writes the numbers of the nodes in whose rows part x stands, an atom's or a node's own, and returns them.
-pub fn find_users<'a>(plan: Plan, x: usize, users: &'a mut [u8; 128]) -> &'a [u8]
+// Writes the numbers of the nodes in whose rows part x stands, an atom's or a node's own, and returns how many they are.
+pub fn find_users(plan: Plan, x: usize, users: &mut [u8; 128]) -> usize
     requires { x < plan.m + plan.nodes }
-    ensures { Found plan.entry.m (nodes_in plan.entry.table.now) x result.now (length result.now) }
+    ensures { Found plan.entry.m (nodes_in plan.entry.table.now) x users.new result }
 {
     let mut count = 0;
     for i in 0..plan.nodes {
@@ -73,5 +73,5 @@ pub fn find_users<'a>(plan: Plan, x: usize, users: &'a mut [u8; 128]) -> &'a [u8
             count += 1;
         }
     }
-    &users[..count]
+    count
 }

@@ -312,6 +312,12 @@ no_span : (z : Spanned) → None ≡ cut z → z ≡ Spanned.fail
 no_span Spanned.fail e = refl
 no_span (Spanned.span i j k) e = cc
 
+-- a window ends within the text
+pub window-inside : (s : List ℕ) (at : ℕ) (w : Span) → Some w ≡ cut (span_at s at) → w.next ≤ length s
+window-inside s at w e =
+    let u = uncut w (span_at s at) e in
+    (span-ends s at u.from u.to w.next u.is).1
+
 -- a sign
 module _ (s : List ℕ) (at n : ℕ) (out : List ℕ) (b next : ℕ) (token-is : Some (Sign b next) ≡ capped (token_at s at)) where
   found : token_at s at ≡ Lexer.Token.sign b next

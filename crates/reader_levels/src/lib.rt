@@ -1,14 +1,15 @@
 // A rule's phrase and its records: five levels of the grammar that call each other in a cycle.
 #![tactic(auto)]
 
-ghost use Rattle.std.specs.Prelude.{◌≡◌, ◌+◌, ◌*◌, ◌-◌, max, ◌≤◌, length};
+ghost use Rattle.std.specs.Prelude.{◌≡◌, ◌+◌, ◌*◌, ◌-◌, max, ◌≤◌, length, IfSome};
 ghost use Rattle.rules.specs.Quantities.{text_limit};
-ghost use Rattle.rules.specs.Reading.Parser.{parsed, unary_of};
+ghost use Rattle.rules.specs.Reading.Parser.{parsed, unary_of, span_at};
 ghost use Rattle.table.specs.Nodes.{byte_of};
 ghost use Rattle.reader_levels.specs.Records.{window_flaw, entry};
 ghost use Rattle.reader_levels.specs.Steps.{rule_level, or_level, and_level, until_level, single_level, Ready, Wrote, Yields, Room};
 ghost use Rattle.reader_levels.specs.Steps.{WroteOver, WroteAbove, joined, applied, prefix_kind, opened, windowed, closed};
-ghost use Rattle.reader_levels.specs.Phrase.{phrase, view, views};
+ghost use Rattle.reader_levels.specs.Phrase.{phrase, view, views, timing, timed_view, spans};
+ghost use Rattle.reader_lexer.specs.Spans.{cut};
 
 use reader_lexer::Token;
 use table::Kind;
@@ -190,6 +191,68 @@ fn windowed(byte: u8) -> Kind
     }
 }
 
+// What the numbers of a window and the byte before it count in their code.
+const FIRST: u64 = 65536;
+
+const LAST: u64 = 16777216;
+
+const BYTE: u64 = 4294967296;
+
+// An operator with its window: its byte, the window's two numbers, and the position past the closing bracket. They are one
+// number too: `single` is called once more for each bracket and each sign, and has 48 bytes of stack with it.
+#[derive(Clone, Copy, Debug, PartialEq, Eq)]
+struct Timed {
+    code: u64,
+}
+
+impl Timed {
+    fn new(byte: u8, first: u8, last: u8, next: u16) -> Timed
+        ensures { timed_view result ≡ timing byte first last next }
+    {
+        Timed {
+            code: u64::from(next)
+                + FIRST * u64::from(first)
+                + LAST * u64::from(last)
+                + BYTE * u64::from(byte),
+        }
+    }
+
+    fn byte(self) -> u8
+        ensures { result ≡ (timed_view self).byte }
+    {
+        (self.code / BYTE % 256) as u8
+    }
+
+    fn first(self) -> u8
+        ensures { result ≡ (timed_view self).first }
+    {
+        (self.code / FIRST % 256) as u8
+    }
+
+    fn last(self) -> u8
+        ensures { result ≡ (timed_view self).last }
+    {
+        (self.code / LAST % 256) as u8
+    }
+
+    fn next(self) -> u16
+        ensures { result ≡ (timed_view self).next }
+    {
+        (self.code % FIRST) as u16
+    }
+}
+
+// The operator `byte` with the window from the position past its opening bracket.
+#[inline(never)]
+fn timed_at(text: &[u8], at: usize, byte: u8) -> Option<Timed>
+    requires { length text.now ≤ text_limit }
+    ensures spans { spans result ≡ cut (span_at text.now at) }
+    ensures byte { IfSome result (λ timed. (timed_view timed).byte ≡ byte) }
+{
+    let span = reader_lexer::span_at(text, at)?;
+    Some(Timed::new(byte, span.from, span.to, span.next as u16))
+}
+
 // The position past the opening bracket of a window behind F or G. There is none behind the sign of not.
 fn opening(text: &[u8], at: usize, byte: u8) -> Option<usize>
     ensures { result ≡ opened byte text.now at }
@@ -297,9 +360,10 @@ fn single(text: &&[u8], at: usize, n: u16, out: &mut [u8; 1024]) -> Option<Part>
                 let inner = single(text, next, n, out)?;
                 return Some(cap(out, kind, 0, 0, inner));
             };
-            let window = reader_lexer::span_at(*text, open)?;
-            let inner = single(text, window.next, n, out)?;
-            Some(cap(out, windowed(byte), window.from, window.to, inner))
+            let timed = timed_at(*text, open, byte)?;
+            let inner = single(text, usize::from(timed.next()), n, out)?;
+            let kind = windowed(timed.byte());
+            Some(cap(out, kind, timed.first(), timed.last(), inner))
         }
     }
 }

@@ -47,21 +47,25 @@ fn digits(text: &[u8], from: usize) -> Number
     ensures next { result.next ≡ from + digit_count (drop from text.now) }
     ensures value { result.value ≡ min 255 (value 0 (drop from text.now)) }
 {
-    let mut value: u8 = 0;
+    let mut value: usize = 0;
     for i in from..text.len() {
         let byte = text[i];
         if !byte.is_ascii_digit() {
-            return Number { value, next: i };
+            return Number {
+                value: value as u8,
+                next: i,
+            };
         }
-        value = (10 * u16::from(value) + u16::from(byte - b'0')).min(255) as u8;
+        value = (10 * value + usize::from(byte - b'0')).min(255);
     }
     Number {
-        value,
+        value: value as u8,
         next: from.max(text.len()),
     }
 }
 
 // The digits from `d` on, where they are a decimal number without leading zeros.
+#[inline(always)]
 fn numeral(text: &[u8], d: usize) -> Option<Number>
     ensures { result ≡ number_of (atom_at text.now d) }
 {
@@ -95,6 +99,7 @@ pub fn token_at(text: &[u8], at: usize) -> Option<Token>
 }
 
 // The number at `at`, past the spaces there.
+#[inline(always)]
 fn number_at(text: &[u8], at: usize) -> Option<Number>
     ensures { result ≡ number_of (number_at text.now at) }
 {
@@ -123,6 +128,7 @@ pub fn past(text: &[u8], at: usize, byte: u8) -> Option<usize>
 }
 
 // The number at `at`, and the position past the sign `byte` behind it.
+#[inline(always)]
 fn bound_at(text: &[u8], at: usize, byte: u8) -> Option<Number>
     requires { byte ≡ 97 → ⊥ }
     ensures { result ≡ bound_of text.now byte (number_at text.now at) }

@@ -292,7 +292,7 @@ pub fn one_more(count: usize, more: bool) -> usize
 }
 
 // How many of the nodes are.
-fn looping(table: &[u8]) -> usize
+pub fn looping(table: &[u8]) -> usize
     requires { record_count table.now ≤ 128 }
     ensures { (result ≡ Rows.looping (nodes_in table.now)) × (result ≤ record_count table.now) }
 {

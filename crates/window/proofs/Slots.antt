@@ -1,5 +1,5 @@
 -- The slots of a window as the calls hand them out, and the variables of a part at these slots.
-use Rattle.window.specs.Slots.{Looking, place_of, variable_at, variables}
+use Rattle.window.specs.Slots.{Few, Looking, place_of, variable_at, variables}
 use Rattle.std.specs.Prelude.{◌≡◌, refl, map, ℕ, zero, suc, ◌+◌, ◌-◌, ◌*◌, ◌/◌, ◌%◌, ◌≤◌, ◌<◌, min, length}
 use Rattle.std.proofs.Common.{sym, ap, ap₂, ◌∙◌, div-add-mod', mod-lt, arith, lt-ltb, le-ltb}
 use Rattle.std.proofs.Math.Decide.{dec_lt}
@@ -48,6 +48,10 @@ ranges-high first head skip i = go (dec_lt i head)
 
 pub place-high : (w : Looks) (i : ℕ) → place_of w i ≤ w.first + i + w.skip
 place-high w i = ranges-high w.first w.head w.skip i
+
+-- what the type says of its numbers
+pub few_of : (w : Looks) → Few w
+few_of w = record { some = w.some; few = w.few; places = w.places; head-some = w.head_some; ranges = w.ranges }
 
 pub looking : (T L t a b : ℕ) (w : Looks) → w.first + w.count + w.skip ≤ T →
     window_slots T L t a b ≡ tabulate w.count (in_ranges (w.first + 1) w.head w.skip) → Looking T L t a b w

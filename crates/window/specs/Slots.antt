@@ -32,9 +32,6 @@ pub record Few (w : Looks) : Type 0 where
   pub head-some : 1 ≤ w.head
   pub ranges : w.head + w.rest ≡ w.count
 
-pub few_of : (w : Looks) → Few w
-few_of w = record { some = w.some; few = w.few; places = w.places; head-some = w.head_some; ranges = w.ranges }
-
 -- what a call hands out for the window a, b from slot t
 pub record Looking (T L t a b : ℕ) (w : Looks) : Type 0 where
   pub is : (p : ℕ) → variables w p ≡ map (λ s. p + (s - 1)) (window_slots T L t a b)

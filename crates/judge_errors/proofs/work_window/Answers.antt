@@ -9,7 +9,7 @@ use Rattle.judge_errors.specs.Worked.{worked_none, step}
 use Rattle.judge_errors.specs.Window.{Running, running_rises, window-rise, sum-all}
 use borrow.Author.Rules.{rules}
 use Rattle.std.proofs.Common.{ap₂}
-use Rattle.window.specs.Slots.{few_of}
+use Rattle.window.proofs.Slots.{few_of}
 use Rattle.judge_errors.proofs.work_window.Goals as goal
 
 pub place-here-requires : goal.place-here-requires

@@ -3,7 +3,6 @@ use Rattle.std.proofs.Common.{◌≡◌, sym, ap, ◌∙◌, arith}
 use Rattle.rules.specs.TableTest.{nodes_in}
 use Rattle.rules.proofs.TableTest.{length-nodes_in}
 use Rattle.mps_users.specs.Users.{has_part, uses}
-use Rattle.mps_users.specs.Found.{found_part}
 use Rattle.mps_users.specs.Finding.{found_none, found-more, found-same, found_all, uses-part}
 use Rattle.mps_users.proofs.find_users.Goals as goal
 use Rattle.mps_users.proofs.find_users.Goals.{then-is_used, else-is_used}
@@ -27,4 +26,4 @@ loop-i-preserved c =
 pub returns : goal.returns
 returns c =
     let long = length-nodes_in c.args.plan.m c.args.plan.table.now in
-    found_part (found_all c.loop-i.invariant (omega arith) (omega arith))
+    found_all c.loop-i.invariant (omega arith) (omega arith)

@@ -163,33 +163,33 @@ single-returns-in_default t c =
     (single-prefix _ _ _ _ _ _ (rw c.in-Sign.is at c.in_ok-token.ensures) c.if-byte-eq40.false _ c.in_ok-kind-in-Sign.ensures
     c.in_default.ensures _ _ c.in_ok-inner-in-Sign-2.ensures _ c.cap.ensures.wrote)
 
-pub single-returns-in_err-window-in-Sign : goal.single-returns-in_err-window-in-Sign
-single-returns-in_err-window-in-Sign t c =
-    rw c.from_residual-in_err-window-in-Sign.ensures
+pub single-returns-in_err-timed-in-Sign : goal.single-returns-in_err-timed-in-Sign
+single-returns-in_err-timed-in-Sign t c =
+    rw c.from_residual-in_err-timed-in-Sign.ensures
     (window-fail _ _ _ _ _ _ (rw c.in-Sign.is at c.in_ok-token.ensures) c.if-byte-eq40.false _ c.in_ok-kind-in-Sign.ensures _ c.in-Some.ensures
-    c.in_err-window-in-Sign.ensures)
+    c.in_err-timed-in-Sign.ensures.spans)
 
 pub single-single-requires-in-Sign : goal.single-single-requires-in-Sign
 single-single-requires-in-Sign t c =
     let h =
     window-next _ _ _ c.args.out.now _ _ (rw c.in-Sign.is at c.in_ok-token.ensures) c.if-byte-eq40.false _ c.in_ok-kind-in-Sign.ensures _
-    c.in-Some.ensures _ c.in_ok-window-in-Sign.ensures c.requires in
-    (omega (arith, h.0, c.decreases), h.1)
+    c.in-Some.ensures _ c.in_ok-timed-in-Sign.ensures.spans c.requires in
+    rw (c.from.ensures, c.next.ensures) (omega (arith, h.0, c.decreases), h.1)
 
 pub single-returns-in_err-inner-in-Sign-3 : goal.single-returns-in_err-inner-in-Sign-3
 single-returns-in_err-inner-in-Sign-3 t c =
     rw c.from_residual-in_err-inner-in-Sign-3.ensures
     (window_half _ _ _ _ _ _ (rw c.in-Sign.is at c.in_ok-token.ensures) c.if-byte-eq40.false _ c.in_ok-kind-in-Sign.ensures _
-    c.in-Some.ensures _ c.in_ok-window-in-Sign.ensures _ c.in_err-inner-in-Sign-3.ensures)
+    c.in-Some.ensures _ c.in_ok-timed-in-Sign.ensures.spans _ (rw (c.from.ensures, c.next.ensures) at c.in_err-inner-in-Sign-3.ensures))
 
 pub single-cap-requires-in-Sign : goal.single-cap-requires-in-Sign
 single-cap-requires-in-Sign t c =
     window-room _ _ _ c.args.out.now _ _ (rw c.in-Sign.is at c.in_ok-token.ensures) c.if-byte-eq40.false _ c.in_ok-kind-in-Sign.ensures _
-    c.in-Some.ensures _ c.in_ok-window-in-Sign.ensures _ _ c.in_ok-inner-in-Sign-3.ensures c.requires
+    c.in-Some.ensures _ c.in_ok-timed-in-Sign.ensures.spans _ _ (rw (c.from.ensures, c.next.ensures) at c.in_ok-inner-in-Sign-3.ensures) c.requires
 
 pub single-returns-in_ok-inner-in-Sign-3 : goal.single-returns-in_ok-inner-in-Sign-3
 single-returns-in_ok-inner-in-Sign-3 t c =
-    rw c.cap-in-Sign.ensures.part
+    rw (c.cap-in-Sign.ensures.part, c.first.ensures, c.last.ensures)
     (single-window _ _ _ _ _ _ (rw c.in-Sign.is at c.in_ok-token.ensures) c.if-byte-eq40.false _ c.in_ok-kind-in-Sign.ensures _
-    c.in-Some.ensures _ c.in_ok-window-in-Sign.ensures _ _ c.in_ok-inner-in-Sign-3.ensures _
-    (rw c.windowed.ensures at c.cap-in-Sign.ensures.wrote))
+    c.in-Some.ensures _ c.in_ok-timed-in-Sign.ensures.spans _ _ (rw (c.from.ensures, c.next.ensures) at c.in_ok-inner-in-Sign-3.ensures) _
+    (rw (c.windowed-kind.ensures, c.byte.ensures, c.in_ok-timed-in-Sign.ensures.byte, c.first.ensures, c.last.ensures) at c.cap-in-Sign.ensures.wrote))
