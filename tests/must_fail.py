@@ -21,11 +21,13 @@ HEAD = """\
 
 Made by tests/must_fail.py. Each edit changes an operand (a name, a number, an expression, an answer; or adds or leaves
 out a row, a term, a factor or a sign) and keeps the shape, but for two of `reader` that answer another refusal on a
-condition, and for these: `judge_errors/same_part_counted_once`, `mps/rhs_of_minus_1_dropped` and
-`rules/terms_between_counted` have a condition more; in the code `cursor/bytes_put_over`, `judge_errors/no_stop` and
-`program_rule/past_line_2` have a call more, `sepia_answers/shortfall_where_passed` a field and
-`mpspage_page/refusal_of_atoms` a scan of its own, and `judge_search/v_rows_not_tested`, `judge_sums/off_with_sign`,
-`printer_node/left_counted_without_brackets` and `printer_node/left_without_brackets` have a call less. The prover must
+condition, and for these: `judge_errors/same_part_counted_once`, `mps/rhs_of_minus_1_dropped`,
+`printer_node/grade_above_4_without_brackets` and `rules/terms_between_counted` have a condition more; in the code
+`cursor/bytes_put_over`, `judge_errors/no_stop`, `judge_slot/broken_row_passed`, `judge_slot/broken_row_replaced` and
+`program_rule/past_line_2` have a call more, `sepia_answers/shortfall_where_passed` a field,
+`mpspage_page/atoms_as_slots` a scan and `mpspage_page/refusal_of_atoms` a reading of the rule of its own, and
+`judge_search/v_rows_not_tested`, `judge_sums/off_with_sign`, `printer_node/left_counted_without_brackets` and
+`printer_node/left_without_brackets` have a call less. The prover must
 refuse each because a fact no longer holds. The gate tries them all. There are edits for the promises of the calls and
 programs offered to others, for the definitions that must be believed, and for what the scope paper's "The wording of
 each promise" (c) and the requests name. Other crates need none: their callers' proofs would break. `test_known`
