@@ -103,8 +103,7 @@ fn judge_checked(plan: Plan, figures: &[i32], e: i32) -> Result<Verdict, Refusal
     judge_counted(plan, figures, e)
 }
 
-// The checks that all calls but read share. Out of line: in line, with the judge behind them, they leave it fewer registers, and
-// its shortest verdicts took a quarter longer.
+// The checks that all calls but read share. Out of line: with them in line the judge took up to a tenth longer.
 #[inline(never)]
 fn checked(table: &[u8], t: usize, m: usize, l: usize) -> Result<Plan<'_>, Refusal>
     ensures { CheckedPlan t m l table.now result }
