@@ -183,5 +183,10 @@ module _ (table : List ℕ) (n k : ℕ) {x : Pair} (h : Shaped table n (Paired x
   paired_spent b s₁ s₂ None e f g = λ fits. g (omega (arith, paired_length, e, f))
   paired_spent b s₁ s₂ (Some r) e f g = (omega (arith, paired_length, e, f, g), omega (arith, paired_length, e, f, g))
 
+-- what is left behind the whole, where that is what is left behind its rest
+pub left_behind : (b s x y : ℕ) (r : Option ℕ) → x + s ≡ y + b → SomeIff r (y ≤ s) (s - y) → SomeIff r (x ≤ b) (b - x)
+left_behind b s x y None e g = λ fits. g (omega (arith, e, fits))
+left_behind b s x y (Some r) e g = (omega (arith, e, g), omega (arith, e, g))
+
 pub span-length : (a b : ℕ) → length (span_text a b) ≡ 3 + length (decimal a) + length (decimal b)
 span-length a b = omega (arith, length-append (decimal a) (44 ∷ (decimal b ++ (93 ∷ []))), length-append (decimal b) (93 ∷ []))

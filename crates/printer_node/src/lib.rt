@@ -164,21 +164,25 @@ pub fn spend(table: &[u8], n: usize, k: usize, room: usize) -> Option<usize>
     requires { Printable table.now × (n < record_count table.now) }
     ensures { SomeIff result (length (node_text table.now n k) ≤ room) (room - length (node_text table.now n k)) }
 {
-    if room == 0 {
-        return None;
-    }
-    match shape_at(table, n) {
-        Shape::Leaf(a) => room.checked_sub(1 + digit_count(a)),
-        Shape::Prefixed(x) => {
-            let rest = room.checked_sub(head_length(x))?;
-            spend(table, x.child, Level::Single.grade(), rest)
+    let mut at = n;
+    let mut grade = k;
+    let mut free = room;
+    while 0 < free {
+        match shape_at(table, at) {
+            Shape::Leaf(a) => return free.checked_sub(1 + digit_count(a)),
+            Shape::Prefixed(x) => {
+                free = free.checked_sub(head_length(x))?;
+                at = x.child;
+                grade = Level::Single.grade();
+            }
+            Shape::Paired(x) => {
+                let rest = free.checked_sub(pair_length(x.level, grade))?;
+                let rest = spend(table, x.left, tighter(x.level).grade(), rest)?;
+                return spend(table, x.right, x.level.grade(), rest);
+            }
         }
-        Shape::Paired(x) => {
-            let rest = room.checked_sub(pair_length(x.level, k))?;
-            let rest = spend(table, x.left, tighter(x.level).grade(), rest)?;
-            spend(table, x.right, x.level.grade(), rest)
-        }
     }
+    None
 }
 
 // A byte, if it is wanted.
@@ -199,27 +203,54 @@ fn put_atom(page: &mut Cursor, a: usize)
     text::put_decimal(page, a);
 }
 
+// A number below 100. (In line, as `text::put_decimal` is not: the cursor's place then stays in a register.)
+#[inline(always)]
+fn put_number(page: &mut Cursor, n: usize)
+    requires { (n < 100) × Room page.old (length (decimal n)) }
+    ensures { Puts (decimal n) page.old page.new }
+{
+    if n < 10 {
+        page.put_byte(b'0' + n as u8);
+    } else {
+        page.put([b'0' + (n / 10) as u8, b'0' + (n % 10) as u8]);
+    }
+}
+
 // A window [a,b].
 fn put_span(page: &mut Cursor, a: usize, b: usize)
-    requires { Room page.old (length (span_text a b)) }
+    requires { (a < 100) × (b < 100) × Room page.old (length (span_text a b)) }
     ensures { Puts (span_text a b) page.old page.new }
 {
     page.put_byte(b'[');
-    text::put_decimal(page, a);
+    put_number(page, a);
     page.put_byte(b',');
-    text::put_decimal(page, b);
+    put_number(page, b);
     page.put_byte(b']');
 }
 
 // An operator before its part.
+#[inline(always)]
 fn put_head(page: &mut Cursor, x: Prefix)
-    requires { Room page.old (length (head_text x)) }
+    requires { HeadLow x × Room page.old (length (head_text x)) }
     ensures { Puts (head_text x) page.old page.new }
 {
     page.put_byte(x.letter);
     if let Some(window) = x.window {
         put_span(page, window.from, window.to);
     }
+}
+
+// The same, with a cursor of its own: it stays in registers over the bytes.
+fn put_prefix(page: &mut Cursor, x: Prefix)
+    requires { HeadLow x × Room page.old (length (head_text x)) }
+    ensures { Puts (head_text x) page.old page.new }
+{
+    let mut head = Cursor {
+        out: &mut *page.out,
+        at: page.at,
+    };
+    put_head(&mut head, x);
+    page.at = head.at;
 }
 
 // Node n's text where a level of grade k is wanted: the printer calls itself on the children, and the node number falls at each call.
@@ -230,7 +261,7 @@ pub fn put_node(table: &[u8], n: usize, k: usize, page: &mut Cursor)
     match shape_at(table, n) {
         Shape::Leaf(a) => put_atom(page, a),
         Shape::Prefixed(x) => {
-            put_head(page, x);
+            put_prefix(page, x);
             put_node(table, x.child, Level::Single.grade(), page);
         }
         Shape::Paired(x) => {

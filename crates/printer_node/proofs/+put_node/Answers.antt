@@ -24,7 +24,7 @@ put_node-requires-in-Paired-2 t c =
 
 pub returns-in-Prefixed : goal.returns-in-Prefixed
 returns-in-Prefixed t c =
-    prefixed_put c.args.table.now c.args.n c.args.k c.args.page.now c.requires c.in-Prefixed.ensures c.put_head.ensures
+    prefixed_put c.args.table.now c.args.n c.args.k c.args.page.now c.requires c.in-Prefixed.ensures c.put_prefix.ensures
     (rw c.grade.ensures at c.put_node.ensures)
 
 pub returns-in-Paired : goal.returns-in-Paired

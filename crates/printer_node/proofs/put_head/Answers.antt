@@ -7,7 +7,8 @@ use Rattle.printer_node.proofs.put_head.Goals as goal
 pub put_span-requires : goal.put_span-requires
 put_span-requires c =
     let e = ap (λ w. length (window_text w)) c.in-Some.is in
-    omega (arith, span-length)
+    let low = rw c.in-Some.is at c.requires.0 in
+    (omega (arith, low), omega (arith, low), omega (arith, span-length))
 
 pub returns-in-Some : goal.returns-in-Some
 returns-in-Some c = rw c.in-Some.is (then c.put_byte.ensures c.put_span.ensures)
