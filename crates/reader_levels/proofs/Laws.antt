@@ -95,6 +95,10 @@ room-of s l from n out out₁ p short few g =
       low = omega (arith, g.count, g.tallest, height-less g.rule);
     }
 
+-- where a part goes on, and after how many nodes
+pub same-place : (p q : Phrase) → p ≡ q → (p.next ≡ q.next) × (p.nodes ≡ q.nodes)
+same-place p q e = (ap (λ (x : Phrase). x.next) e, ap (λ (x : Phrase). x.nodes) e)
+
 -- ---- the cases of a level of an operator
 
 pair_as : (o : Binary) (s : List ℕ) (at : ℕ) (x : Parsed) → parsed (tighter o) s at ≡ x → parsed (of o) s at ≡ pair o s x (parsed (of o) s)
@@ -325,6 +329,9 @@ module _ (s : List ℕ) (at n : ℕ) (out : List ℕ) (b next : ℕ) (token-is :
 
   begun : (y : Start) → start_of b ≡ y → parsed single s at ≡ begin s next y (parsed single s) (parsed (of implies) s)
   begun y e = single_as s at (Lexer.Token.sign b next) found ∙ ap (λ (z : Start). begin s next z (parsed single s) (parsed (of implies) s)) e
+
+  pub sign-inside : next ≤ length s
+  sign-inside = omega (arith, ends_as s at (Lexer.Token.sign b next) found)
 
   -- the call behind the sign
   pub sign-next : Ready s at n → ((measure single s next < measure single s at) × (measure (of implies) s next < measure single s at)) × Ready s next n

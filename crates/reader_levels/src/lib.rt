@@ -1,15 +1,14 @@
 // A rule's phrase and its records: five levels of the grammar that call each other in a cycle.
 #![tactic(auto)]
 
-ghost use Rattle.std.specs.Prelude.{◌≡◌, ◌+◌, ◌*◌, ◌-◌, max, ◌≤◌, length, IfSome};
+ghost use Rattle.std.specs.Prelude.{◌≡◌, ◌||◌, ◌+◌, ◌*◌, ◌-◌, max, ◌≤◌, length};
 ghost use Rattle.rules.specs.Quantities.{text_limit};
-ghost use Rattle.rules.specs.Reading.Parser.{parsed, unary_of, span_at};
+ghost use Rattle.rules.specs.Reading.Parser.{parsed, unary_of};
 ghost use Rattle.table.specs.Nodes.{byte_of};
 ghost use Rattle.reader_levels.specs.Records.{window_flaw, entry};
 ghost use Rattle.reader_levels.specs.Steps.{rule_level, or_level, and_level, until_level, single_level, Ready, Wrote, Yields, Room};
 ghost use Rattle.reader_levels.specs.Steps.{WroteOver, WroteAbove, joined, applied, prefix_kind, opened, windowed, closed};
-ghost use Rattle.reader_levels.specs.Phrase.{phrase, view, views, timing, timed_view, spans};
-ghost use Rattle.reader_lexer.specs.Spans.{cut};
+ghost use Rattle.reader_levels.specs.Phrase.{phrase, view, views};
 
 use reader_lexer::Token;
 use table::Kind;
@@ -70,6 +69,29 @@ impl Part {
         ensures { result ≡ (view self).height }
     {
         (self.code / HEIGHT % 65536) as u16
+    }
+
+    // The same part, where its next token begins at `next`.
+    fn moved(self, next: u16) -> Part
+        ensures { view result ≡ phrase next (view self).nodes (view self).top (view self).flaw (view self).height }
+    {
+        Part {
+            code: self.code / NODES * NODES + u64::from(next),
+        }
+    }
+
+    // The part under one node more, with a flaw where `flaw` says so. Its position and its highest atom number stay where they are in the code.
+    fn under(self, flaw: bool) -> Part
+        requires { Room (view self) }
+        ensures { view result ≡ phrase (view self).next ((view self).nodes + 1) (view self).top ((view self).flaw || flaw) ((view self).height + 1) }
+    {
+        let over = self.code + NODES + HEIGHT;
+        let code = if flaw && !self.flaw() {
+            over % FLAW + FLAW
+        } else {
+            over
+        };
+        Part { code }
     }
 }
 
@@ -154,18 +176,16 @@ fn cap(out: &mut [u8; 1024], kind: Kind, from: u8, to: u8, inner: Part) -> Part
     ensures part { view result ≡ applied from to (view inner) }
     ensures wrote { WroteAbove out.old (byte_of kind) from to (view inner) out.new }
 {
-    let height = inner.height() + 1;
     let node = Entry {
         kind,
         left: inner.nodes() - 1,
         right: 0,
         from,
         to,
-        height,
+        height: inner.height() + 1,
     };
     put(out, inner.nodes(), node);
-    let flaw = inner.flaw() || outside(from, to);
-    Part::new(inner.next(), inner.nodes() + 1, inner.top(), flaw, height)
+    inner.under(outside(from, to))
 }
 
 // The kind of an operator of one side.
@@ -191,68 +211,6 @@ fn windowed(byte: u8) -> Kind
     }
 }
 
-// What the numbers of a window and the byte before it count in their code.
-const FIRST: u64 = 65536;
-
-const LAST: u64 = 16777216;
-
-const BYTE: u64 = 4294967296;
-
-// An operator with its window: its byte, the window's two numbers, and the position past the closing bracket. They are one
-// number too: `single` is called once more for each bracket and each sign, and has 48 bytes of stack with it.
-#[derive(Clone, Copy, Debug, PartialEq, Eq)]
-struct Timed {
-    code: u64,
-}
-
-impl Timed {
-    fn new(byte: u8, first: u8, last: u8, next: u16) -> Timed
-        ensures { timed_view result ≡ timing byte first last next }
-    {
-        Timed {
-            code: u64::from(next)
-                + FIRST * u64::from(first)
-                + LAST * u64::from(last)
-                + BYTE * u64::from(byte),
-        }
-    }
-
-    fn byte(self) -> u8
-        ensures { result ≡ (timed_view self).byte }
-    {
-        (self.code / BYTE % 256) as u8
-    }
-
-    fn first(self) -> u8
-        ensures { result ≡ (timed_view self).first }
-    {
-        (self.code / FIRST % 256) as u8
-    }
-
-    fn last(self) -> u8
-        ensures { result ≡ (timed_view self).last }
-    {
-        (self.code / LAST % 256) as u8
-    }
-
-    fn next(self) -> u16
-        ensures { result ≡ (timed_view self).next }
-    {
-        (self.code % FIRST) as u16
-    }
-}
-
-// The operator `byte` with the window from the position past its opening bracket.
-#[inline(never)]
-fn timed_at(text: &[u8], at: usize, byte: u8) -> Option<Timed>
-    requires { length text.now ≤ text_limit }
-    ensures spans { spans result ≡ cut (span_at text.now at) }
-    ensures byte { IfSome result (λ timed. (timed_view timed).byte ≡ byte) }
-{
-    let span = reader_lexer::span_at(text, at)?;
-    Some(Timed::new(byte, span.from, span.to, span.next as u16))
-}
-
 // The position past the opening bracket of a window behind F or G. There is none behind the sign of not.
 fn opening(text: &[u8], at: usize, byte: u8) -> Option<usize>
     ensures { result ≡ opened byte text.now at }
@@ -271,69 +229,65 @@ fn close(text: &[u8], inner: Part) -> Option<Part>
 {
     let past = reader_lexer::sign_at(text, usize::from(inner.next()), b')')?;
     let next = reader_lexer::skip(text, past) as u16;
-    Some(Part::new(
-        next,
-        inner.nodes(),
-        inner.top(),
-        inner.flaw(),
-        inner.height(),
-    ))
+    Some(inner.moved(next))
 }
 
-// Rule: Or, or Or > Rule. The levels are five functions, one for each level of the grammar, as the paper asks, and pass the text on by a
-// reference to the slice: each then has it in a register.
+// Rule: Or, or Or > Rule. The levels are five functions, one for each level of the grammar, as the paper asks. They pass the text on by a
+// reference to the slice, and go on from a part, of which they take the position and the nodes so far: each has both in a register.
 #[cycle(and_or_rule_single_until)]
-fn rule(text: &&[u8], at: usize, n: u16, out: &mut [u8; 1024]) -> Option<Part>
-    requires { Ready text.now.now at n }
-    ensures { Yields text.now.now (parsed rule_level text.now.now at) n out.old out.new (views result) }
+fn rule(text: &&[u8], from: Part, out: &mut [u8; 1024]) -> Option<Part>
+    requires { Ready text.now.now (view from).next (view from).nodes }
+    ensures { Yields text.now.now (parsed rule_level text.now.now (view from).next) (view from).nodes out.old out.new (views result) }
 {
-    let left = or(text, at, n, out)?;
+    let left = or(text, from, out)?;
     let Some(after) = reader_lexer::sign_at(*text, usize::from(left.next()), b'>') else {
         return Some(left);
     };
-    let right = rule(text, after, left.nodes(), out)?;
+    let right = rule(text, left.moved(after as u16), out)?;
     Some(join(out, Kind::Implies, left, right))
 }
 
 // Or: And, or And | Or.
 #[cycle(and_or_rule_single_until)]
-fn or(text: &&[u8], at: usize, n: u16, out: &mut [u8; 1024]) -> Option<Part>
-    requires { Ready text.now.now at n }
-    ensures { Yields text.now.now (parsed or_level text.now.now at) n out.old out.new (views result) }
+fn or(text: &&[u8], from: Part, out: &mut [u8; 1024]) -> Option<Part>
+    requires { Ready text.now.now (view from).next (view from).nodes }
+    ensures { Yields text.now.now (parsed or_level text.now.now (view from).next) (view from).nodes out.old out.new (views result) }
 {
-    let left = and(text, at, n, out)?;
+    let left = and(text, from, out)?;
     let Some(after) = reader_lexer::sign_at(*text, usize::from(left.next()), b'|') else {
         return Some(left);
     };
-    let right = or(text, after, left.nodes(), out)?;
+    let right = or(text, left.moved(after as u16), out)?;
     Some(join(out, Kind::Or, left, right))
 }
 
 // And: Until, or Until & And.
 #[cycle(and_or_rule_single_until)]
-fn and(text: &&[u8], at: usize, n: u16, out: &mut [u8; 1024]) -> Option<Part>
-    requires { Ready text.now.now at n }
-    ensures { Yields text.now.now (parsed and_level text.now.now at) n out.old out.new (views result) }
+fn and(text: &&[u8], from: Part, out: &mut [u8; 1024]) -> Option<Part>
+    requires { Ready text.now.now (view from).next (view from).nodes }
+    ensures { Yields text.now.now (parsed and_level text.now.now (view from).next) (view from).nodes out.old out.new (views result) }
 {
-    let left = until(text, at, n, out)?;
+    let left = until(text, from, out)?;
     let Some(after) = reader_lexer::sign_at(*text, usize::from(left.next()), b'&') else {
         return Some(left);
     };
-    let right = and(text, after, left.nodes(), out)?;
+    let right = and(text, left.moved(after as u16), out)?;
     Some(join(out, Kind::And, left, right))
 }
 
 // Until: Single, or Single U Until.
 #[cycle(and_or_rule_single_until)]
-fn until(text: &&[u8], at: usize, n: u16, out: &mut [u8; 1024]) -> Option<Part>
-    requires { Ready text.now.now at n }
-    ensures { Yields text.now.now (parsed until_level text.now.now at) n out.old out.new (views result) }
+fn until(text: &&[u8], from: Part, out: &mut [u8; 1024]) -> Option<Part>
+    requires { Ready text.now.now (view from).next (view from).nodes }
+    ensures { Yields text.now.now (parsed until_level text.now.now (view from).next) (view from).nodes out.old out.new (views result) }
 {
+    let at = usize::from(from.next());
+    let n = from.nodes();
     let left = single(text, at, n, out)?;
     let Some(after) = reader_lexer::sign_at(*text, usize::from(left.next()), b'U') else {
         return Some(left);
     };
-    let right = until(text, after, left.nodes(), out)?;
+    let right = until(text, left.moved(after as u16), out)?;
     Some(join(out, Kind::Until, left, right))
 }
 
@@ -352,7 +306,7 @@ fn single(text: &&[u8], at: usize, n: u16, out: &mut [u8; 1024]) -> Option<Part>
         }
         Token::Sign { byte, next } => {
             if byte == b'(' {
-                let inner = rule(text, next, n, out)?;
+                let inner = rule(text, Part::new(next as u16, n, 0, false, 0), out)?;
                 return close(*text, inner);
             }
             let kind = prefix_kind(byte)?;
@@ -360,10 +314,9 @@ fn single(text: &&[u8], at: usize, n: u16, out: &mut [u8; 1024]) -> Option<Part>
                 let inner = single(text, next, n, out)?;
                 return Some(cap(out, kind, 0, 0, inner));
             };
-            let timed = timed_at(*text, open, byte)?;
-            let inner = single(text, usize::from(timed.next()), n, out)?;
-            let kind = windowed(timed.byte());
-            Some(cap(out, kind, timed.first(), timed.last(), inner))
+            let window = reader_lexer::span_at(*text, open)?;
+            let inner = single(text, window.next, n, out)?;
+            Some(cap(out, windowed(byte), window.from, window.to, inner))
         }
     }
 }
@@ -373,5 +326,5 @@ pub fn whole(text: &[u8], out: &mut [u8; 1024]) -> Option<Part>
     requires { length text.now ≤ text_limit }
     ensures { Yields text.now (parsed rule_level text.now 0) 0 out.old out.new (views result) }
 {
-    rule(&text, 0, 0, out)
+    rule(&text, Part::new(0, 0, 0, false, 0), out)
 }

@@ -11,13 +11,13 @@ use Rattle.std.specs.Prelude.{◌&&◌, leb, Some, None}
 use Rattle.std.specs.Char.{is_ascii_digit}
 use Rattle.std.specs.Option.{option_map}
 use Rattle.rules.specs.Reading.Lexer
-use Rattle.rules.specs.Reading.Lexer.{digits, value, is_digit, is_numeral, Numeric, atom_at, past_sign}
-use Rattle.rules.proofs.Reading.Lexer.{numeral-is, numeral-empty, numeral-zero}
+use Rattle.rules.specs.Reading.Lexer.{start, digits, value, is_digit, is_numeral, Numeric, atom_at, past_sign, sign_at}
+use Rattle.rules.proofs.Reading.Lexer.{spaces_stop, numeral-is, numeral-empty, numeral-zero}
 use Rattle.reader_lexer.specs.declared.Number.{Number}
 use Rattle.reader_lexer.specs.declared.Token.{Token}
 use Rattle.reader_lexer.specs.declared.Token.TheVariants.{Atom}
 use Rattle.reader_lexer.specs.Capped.{capped, number_of}
-use Rattle.reader_lexer.specs.Signs.{sign_from}
+use Rattle.reader_lexer.specs.Signs.{sign_from, sign-skipped}
 
 -- ---- 255 stands for all numbers from there on, and stays so
 
@@ -95,3 +95,9 @@ module _ (s : List ℕ) (p byte : ℕ) where
   pub byte-none : length s ≤ p → sign_from s p byte ≡ 0
   unfolding sign_from
   byte-none h = rw (le-ltb p (length s) h) refl
+
+  -- a sign at p itself is the token there
+  pub sign-here : (byte ≡ 97 → ⊥) → (byte ≡ 32 → ⊥) → p < length s → get_or s p 0 ≡ byte → sign_at s p byte ≡ p + 1
+  sign-here ne nb h e =
+      let here : start s p ≡ p = omega (arith, spaces_stop s p h (λ f. nb (sym e ∙ f))) in
+      sym (sign-skipped s p byte) ∙ ap (λ (q : ℕ). sign_from s q byte) here ∙ byte-found ne h e

@@ -1,10 +1,11 @@
 -- The lexer's tokens hold an atom's number up to 255: more than any atom that M allows, and it fits a byte.
-use Rattle.std.specs.Prelude.{◌≡◌, refl, ℕ, min, Option, Some, None}
+use Rattle.std.specs.Prelude.{◌≡◌, refl, List, ℕ, ◌+◌, min, get_or, Option, Some, None}
 use Rattle.std.proofs.Common.{ap}
 use Rattle.rules.specs.Reading.Lexer
 use Rattle.reader_lexer.specs.declared.Token.{Token}
 use Rattle.reader_lexer.specs.declared.Token.TheVariants.{Sign, Atom}
 use Rattle.reader_lexer.specs.declared.Number.{Number}
+use Rattle.reader_lexer.specs.declared.First.{First}
 
 abbrev pub capped : Lexer.Token → Option Token
 capped Lexer.Token.none = None
@@ -16,6 +17,10 @@ abbrev pub number_of : Lexer.Token → Option Number
 number_of Lexer.Token.none = None
 number_of (Lexer.Token.sign b next) = None
 number_of (Lexer.Token.atom a next) = Some (record { value = min 255 a; next = next })
+
+-- the byte at a position, and the position past it
+abbrev pub first_at : List ℕ → (p : ℕ) → First
+first_at s p = record { byte = get_or s p 0; next = p + 1 }
 
 -- ---- the token, by the lexer's
 

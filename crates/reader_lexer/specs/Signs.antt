@@ -1,5 +1,5 @@
 -- The sign where a token begins, and the end of spaces.
-use Rattle.std.specs.Prelude.{◌≡◌, refl, Bool, true, false, cond, List, [], ◌∷◌, ℕ, zero, suc, ◌≤◌, ◌<◌, length, drop, eqb, Option, Some, None}
+use Rattle.std.specs.Prelude.{◌≡◌, refl, Bool, true, false, cond, List, [], ◌∷◌, ℕ, zero, suc, max, ◌≤◌, ◌<◌, length, drop, eqb, Option, Some, None}
 use Rattle.std.proofs.Common.{arith, length-drop}
 use Rattle.rules.specs.Reading.Lexer.{spaces, start, token_from, token_at, past_sign, sign_at}
 
@@ -36,3 +36,6 @@ spaces_le (c ∷ s) = spaces-step (eqb c 32) (spaces s) (length s) (spaces_le s)
 
 pub start_le : (s : List ℕ) (at : ℕ) → at ≤ length s → start s at ≤ length s
 start_le s at h = omega (arith, spaces_le (drop at s), length-drop at s)
+
+pub start_max : (s : List ℕ) (at : ℕ) → start s at ≤ max at (length s)
+start_max s at = omega (arith, spaces_le (drop at s), length-drop at s)

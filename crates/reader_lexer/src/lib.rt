@@ -1,10 +1,10 @@
 // The tokens of a rule text, and its windows.
 #![tactic(auto)]
 
-ghost use Rattle.std.specs.Prelude.{◌≡◌, ◌+◌, min, ◌≤◌, length, drop, IfSome};
+ghost use Rattle.std.specs.Prelude.{◌≡◌, ◌+◌, min, ◌≤◌, ◌<◌, length, drop, IfSome, SomeIff};
 ghost use Rattle.rules.specs.Reading.Lexer.{start, digits as digit_count, value, atom_at, token_at, number_at, sign_at};
 ghost use Rattle.rules.specs.Reading.Parser.{span_at};
-ghost use Rattle.reader_lexer.specs.Capped.{capped, number_of};
+ghost use Rattle.reader_lexer.specs.Capped.{capped, number_of, first_at};
 ghost use Rattle.reader_lexer.specs.Signs.{sign_from, position_of};
 ghost use Rattle.reader_lexer.specs.Spans.{bound_of, cut};
 
@@ -30,16 +30,43 @@ pub struct Number {
     pub next: usize,
 }
 
+// A byte that is no space, and the position past it.
+#[derive(Clone, Copy)]
+struct First {
+    byte: u8,
+    next: usize,
+}
+
+// The first byte from `at` on that is no space. (Most often it is that at `at`, so the loop comes second.)
+#[inline(always)]
+fn lead(text: &[u8], at: usize) -> Option<First>
+    ensures { SomeIff result (start text.now at < length text.now) (first_at text.now (start text.now at)) }
+{
+    if at < text.len() && text[at] != b' ' {
+        return Some(First {
+            byte: text[at],
+            next: at + 1,
+        });
+    }
+    for i in at..text.len() {
+        if text[i] != b' ' {
+            return Some(First {
+                byte: text[i],
+                next: i + 1,
+            });
+        }
+    }
+    None
+}
+
 // The first position from `at` on that holds no space.
 pub fn skip(text: &[u8], at: usize) -> usize
     ensures { result ≡ start text.now at }
 {
-    for i in at..text.len() {
-        if text[i] != b' ' {
-            return i;
-        }
+    match lead(text, at) {
+        Some(first) => first.next - 1,
+        None => at.max(text.len()),
     }
-    at.max(text.len())
 }
 
 // The digits from `from` on: their number and where they end.
@@ -83,15 +110,14 @@ fn numeral(text: &[u8], d: usize) -> Option<Number>
 pub fn token_at(text: &[u8], at: usize) -> Option<Token>
     ensures { result ≡ capped (token_at text.now at) }
 {
-    let p = skip(text, at);
-    if text.len() <= p {
-        return None;
+    let first = lead(text, at)?;
+    if first.byte != b'a' {
+        return Some(Token::Sign {
+            byte: first.byte,
+            next: first.next,
+        });
     }
-    let byte = text[p];
-    if byte != b'a' {
-        return Some(Token::Sign { byte, next: p + 1 });
-    }
-    let atom = numeral(text, p + 1)?;
+    let atom = numeral(text, first.next)?;
     Some(Token::Atom {
         number: atom.value,
         next: atom.next,
@@ -119,11 +145,16 @@ pub fn sign_at(text: &[u8], at: usize, byte: u8) -> Option<usize>
     }
 }
 
-// The position past the sign `byte`, where that is the token at `at`, past the spaces there.
+// The position past the sign `byte`, where that is the token at `at`, past the spaces there. (In line: a call would need the stack
+// that `reader_levels::single` saves.)
+#[inline(always)]
 pub fn past(text: &[u8], at: usize, byte: u8) -> Option<usize>
     requires { byte ≡ 97 → ⊥ }
     ensures { result ≡ position_of (sign_at text.now at byte) }
 {
+    if byte != b' ' && at < text.len() && text[at] == byte {
+        return Some(at + 1);
+    }
     sign_at(text, skip(text, at), byte)
 }
 
