@@ -10,7 +10,7 @@
  * Overlap    a buffer that is written must overlap nothing else that is passed. What is only read may overlap.
  * Threads    the calls keep no state and allocate nothing, so any number of them may run at once, each with buffers to write of its own; what
  *            is only read may be shared.
- * Stack      sepia_read takes up to 248 KB, some 240 bytes for each bracket that is open; without brackets up to 51 KB. sepia_judge takes up to
+ * Stack      sepia_read takes up to 182 KB, some 176 bytes for each bracket that is open; without brackets up to 51 KB. sepia_judge takes up to
  *            71 KB where figures pass (5 KB with at most 256 nodes times slots), and otherwise up to 5 KB. The other calls take less than
  *            4 KB. (Measured on a painted stack, with the largest tables and with texts of brackets and signs alone.)
  * Bytes      tables, rows and pages are bytes, the same on every machine; in a row a variable's number stands with its low byte first. Runs,
