@@ -11,8 +11,9 @@
  * Threads    the calls keep no state and allocate nothing, so any number of them may run at once, each with buffers to write of its own; what
  *            is only read may be shared.
  * Stack      sepia_read takes up to 182 KB, some 176 bytes for each bracket that is open; without brackets up to 51 KB. sepia_judge takes up to
- *            71 KB where figures pass (5 KB with at most 256 nodes times slots), and otherwise up to 5 KB. The other calls take less than
- *            4 KB. (Measured on a painted stack, with the largest tables and with texts of brackets and signs alone.)
+ *            71 KB where figures pass (5 KB with at most 256 nodes times slots), and otherwise up to 5 KB. sepia_print takes up to 9 KB, some
+ *            64 bytes for each operator between two parts that is open. The other calls take less than 4 KB. (Measured on a painted stack, with
+ *            the largest tables and with texts of brackets and signs alone.)
  * Bytes      tables, rows and pages are bytes, the same on every machine; in a row a variable's number stands with its low byte first. Runs,
  *            words and figures are numbers of the machine.
  * Machine    the library is compiled for x86-64 Linux, and can be linked into a shared object.
