@@ -11,7 +11,7 @@ use Rattle.printer_text.specs.Shown.{shown}
 use Rattle.printer_node.specs.declared.Prefix.{Prefix}
 use Rattle.printer_node.specs.declared.Pair.{Pair}
 use Rattle.printer_node.specs.declared.Shape.TheVariants.{Leaf, Prefixed, Paired}
-use Rattle.printer_node.specs.Shapes.{grade_of, tighter, piece, head_text, Printable, Shaped, paired_length}
+use Rattle.printer_node.specs.Shapes.{grade_of, tighter, piece, head_text, Printable, Shaped, left_text, right_text, paired_length}
 
 -- what putting node n's text asks
 pub record Putting (table : List ℕ) (n k : ℕ) (page : Cursor) : Type 0 where
@@ -70,16 +70,10 @@ module _ (table : List ℕ) (n k : ℕ) (c : Cursor) (p : Putting table n k c) w
     abbrev closing : List ℕ
     closing = piece (ltb (grade_of x.level) k) 41
 
-    abbrev left_text : List ℕ
-    left_text = text_at (grade_of (tighter x.level)) x.left
-
-    abbrev right_text : List ℕ
-    right_text = text_at (grade_of x.level) x.right
-
     abbrev sign_text : List ℕ
     sign_text = x.sign ∷ []
 
-    lengths : c.at + length opening + length left_text + 1 + length right_text + length closing ≤ length c.out.now
+    lengths : c.at + length opening + length (left_text table n k h) + 1 + length (right_text table n k h) + length closing ≤ length c.out.now
     lengths = omega (arith, p.room, paired_length table n k h)
 
     pub open_room : Room c (length opening)
@@ -93,7 +87,7 @@ module _ (table : List ℕ) (n k : ℕ) (c : Cursor) (p : Putting table n k c) w
         room = omega (arith, lengths, x₁.room, x₁.put.ends);
       }
 
-      module _ {c₂ : Cursor} (x₂ : Puts left_text c₁ c₂) where
+      module _ {c₂ : Cursor} (x₂ : Puts (left_text table n k h) c₁ c₂) where
         pub sign-room : Room c₂ 1
         sign-room = omega (arith, lengths, x₁.room, x₂.room, x₁.put.ends, x₂.put.ends)
 
@@ -105,7 +99,7 @@ module _ (table : List ℕ) (n k : ℕ) (c : Cursor) (p : Putting table n k c) w
             room = omega (arith, lengths, x₁.room, x₂.room, x₃.room, x₁.put.ends, x₂.put.ends, x₃.put.ends);
           }
 
-          module _ {c₄ : Cursor} (x₄ : Puts right_text c₃ c₄) where
+          module _ {c₄ : Cursor} (x₄ : Puts (right_text table n k h) c₃ c₄) where
             pub close-room : Room c₄ (length closing)
             close-room =
                 omega (arith, lengths, x₁.room, x₂.room, x₃.room, x₄.room, x₁.put.ends, x₂.put.ends, x₃.put.ends, x₄.put.ends)

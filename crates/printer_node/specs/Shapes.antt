@@ -159,10 +159,10 @@ module _ (table : List ℕ) (n k : ℕ) {x : Pair} (h : Shaped table n (Paired x
   abbrev signs : ℕ
   signs = length (piece (ltb (grade_of x.level) k) 40) + 1 + length (piece (ltb (grade_of x.level) k) 41)
 
-  abbrev left_text : List ℕ
+  abbrev pub left_text : List ℕ
   left_text = node_text table x.left (grade_of (tighter x.level))
 
-  abbrev right_text : List ℕ
+  abbrev pub right_text : List ℕ
   right_text = node_text table x.right (grade_of x.level)
 
   pub paired_length : length (node_text table n k) ≡ signs + length left_text + length right_text
@@ -183,7 +183,7 @@ module _ (table : List ℕ) (n k : ℕ) {x : Pair} (h : Shaped table n (Paired x
   paired_spent b s₁ s₂ None e f g = λ fits. g (omega (arith, paired_length, e, f))
   paired_spent b s₁ s₂ (Some r) e f g = (omega (arith, paired_length, e, f, g), omega (arith, paired_length, e, f, g))
 
--- what is left behind the whole, where that is what is left behind its rest
+-- what is left of s bytes behind y is what is left of b bytes behind x, where x is as much above y as b is above s
 pub left_behind : (b s x y : ℕ) (r : Option ℕ) → x + s ≡ y + b → SomeIff r (y ≤ s) (s - y) → SomeIff r (x ≤ b) (b - x)
 left_behind b s x y None e g = λ fits. g (omega (arith, e, fits))
 left_behind b s x y (Some r) e g = (omega (arith, e, g), omega (arith, e, g))

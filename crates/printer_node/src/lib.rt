@@ -160,6 +160,7 @@ fn pair_length(level: Level, k: usize) -> usize
 
 // What is left of `room` bytes after node n's text where a level of grade k is wanted, if it fits. A k above 4 asks for what 4 asks.
 // No part is looked at once none is left, however long the text is.
+// (A chain of operators before a part is gone down in a loop: the compiler makes no jump of a last call whose answer is an option.)
 pub fn spend(table: &[u8], n: usize, k: usize, room: usize) -> Option<usize>
     requires { Printable table.now × (n < record_count table.now) }
     ensures { SomeIff result (length (node_text table.now n k) ≤ room) (room - length (node_text table.now n k)) }

@@ -316,12 +316,6 @@ no_span : (z : Spanned) → None ≡ cut z → z ≡ Spanned.fail
 no_span Spanned.fail e = refl
 no_span (Spanned.span i j k) e = cc
 
--- a window ends within the text
-pub window-inside : (s : List ℕ) (at : ℕ) (w : Span) → Some w ≡ cut (span_at s at) → w.next ≤ length s
-window-inside s at w e =
-    let u = uncut w (span_at s at) e in
-    (span-ends s at u.from u.to w.next u.is).1
-
 -- a sign
 module _ (s : List ℕ) (at n : ℕ) (out : List ℕ) (b next : ℕ) (token-is : Some (Sign b next) ≡ capped (token_at s at)) where
   found : token_at s at ≡ Lexer.Token.sign b next
@@ -330,6 +324,7 @@ module _ (s : List ℕ) (at n : ℕ) (out : List ℕ) (b next : ℕ) (token-is :
   begun : (y : Start) → start_of b ≡ y → parsed single s at ≡ begin s next y (parsed single s) (parsed (of implies) s)
   begun y e = single_as s at (Lexer.Token.sign b next) found ∙ ap (λ (z : Start). begin s next z (parsed single s) (parsed (of implies) s)) e
 
+  -- it ends within the text
   pub sign-inside : next ≤ length s
   sign-inside = omega (arith, ends_as s at (Lexer.Token.sign b next) found)
 

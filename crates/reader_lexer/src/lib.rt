@@ -145,8 +145,8 @@ pub fn sign_at(text: &[u8], at: usize, byte: u8) -> Option<usize>
     }
 }
 
-// The position past the sign `byte`, where that is the token at `at`, past the spaces there. (In line: a call would need the stack
-// that `reader_levels::single` saves.)
+// The position past the sign `byte`, where that is the token at `at`, past the spaces there. (In line: with a call of this
+// `reader_levels::single` takes 80 bytes of stack at each bracket and sign, and not 48.)
 #[inline(always)]
 pub fn past(text: &[u8], at: usize, byte: u8) -> Option<usize>
     requires { byte ≡ 97 → ⊥ }
